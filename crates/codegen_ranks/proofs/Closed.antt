@@ -18,7 +18,7 @@ use Rattle.code_names_law.specs.Called.{Finds}
 use Rattle.code_names_law.proofs.Finding.{called_both, called_one, text_finds}
 use Rattle.code_names_law.proofs.Owners.{setting_at, text_stands}
 use Rattle.codegen_ranks.proofs.Tests.{or_false}
-use Rattle.codegen_ranks.specs.Touches.{is_entry_of, touches}
+use Rattle.codegen_ranks.specs.Touches.{is_entry_of, comes_to_one, touches}
 use Rattle.codegen_ranks.proofs.Lists.{none_called}
 use Rattle.codegen_ranks.proofs.Owners.{Near, Known, named_near, near_entry, entry_owner, named_found}
 
@@ -71,7 +71,7 @@ module _ (g : Program) (form : IsWellFormed g) (names : NamesApart g) where
 
   -- so a text that is closed touches no monitor but its own
   pub closed_touches : (j n : ℕ) (t : Text) → IsText g t → is_closed t.owner t.routine ≡ true → touches n g j t ≡ is_entry_of j t.owner
-  unfolding touches
+  unfolding comes_to_one
   closed_touches j zero t is closed = refl
   closed_touches j (suc n) t is closed =
       ap (λ b. is_entry_of j t.owner || b)

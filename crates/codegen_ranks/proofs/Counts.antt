@@ -1,9 +1,10 @@
 -- Ranks: by the same deadlines, the same processes rank higher.
-use Rattle.std.specs.Prelude.{◌≡◌, ◌+◌, ◌≤◌, ◌&&◌, ◌||◌, ℕ, zero, suc, Bool, true, false, cond, List, [], ◌∷◌, Option, Some, None, length, map, nat_eq, nat_lt, slice_get, unwrap_or, option_map}
-use Rattle.std.proofs.Common.{refl, sym, ap, subst, ◌∙◌, arith}
+use Rattle.std.specs.Prelude.{◌≡◌, ◌+◌, ◌≤◌, ℕ, zero, suc, Bool, true, false, List, [], ◌∷◌, Option, Some, None, length, map, slice_get, unwrap_or, option_map}
+use Rattle.std.proofs.Common.{refl, sym, ap, ◌∙◌, arith}
 use Rattle.std.proofs.lemmas.List.{length-map}
 use Rattle.syntax_tree.specs.Plain.{Process, Program}
 use Rattle.sched_response.specs.Counts.{count_below}
+use Rattle.sched_ranks.proofs.RankedLemmas.{count, above, higher_counts}
 use Rattle.source_semantics.specs.Names.{processes, deadline_of}
 use Rattle.source_semantics.specs.Ranks.{deadlines, higher, rank}
 use Rattle.machine_isa.specs.declared.instr.Instr.{Instr}
@@ -12,25 +13,6 @@ use Rattle.valid_image.specs.Times.{deadline_at, outranks, rank_of, deadline_of 
 use Rattle.code_spec.specs.Compiled.{EmitsProcesses, IsCodeOf}
 use Rattle.codegen_ranks.proofs.Whole.{as_many_processes}
 use Rattle.codegen_ranks.specs.Ranks.{RanksAreOfTheMeaning}
-
-abbrev count : Bool → ℕ
-count b = cond b 1 0
-
-count_front : (p : ℕ → Bool) (n : ℕ) → count_below p (suc n) ≡ count (p 0) + count_below (λ j. p (suc j)) n
-count_front p zero = omega arith
-count_front p (suc n) = omega (arith, count_front p n)
-
-abbrev above : (f x deadline k : ℕ) → Bool
-above f x deadline k = nat_lt f deadline || (nat_eq f deadline && nat_lt x k)
-
-higher_counts : (k deadline b : ℕ) (ds : List ℕ) (p : ℕ → Bool) → ((j f : ℕ) → slice_get ds j ≡ Some f → above f (b + j) deadline k ≡ p j) → higher k deadline b ds ≡ count_below p (length ds)
-higher_counts k deadline b [] p same = refl
-higher_counts k deadline b (f ∷ ds) p same =
-    let z : b + 0 ≡ b = omega arith in
-    let first : count (above f b deadline k) ≡ count (p 0) = ap (λ (x : Bool). count x) (subst (λ (n : ℕ). above f n deadline k ≡ p 0) z (same 0 f refl)) in
-    let rest : higher k deadline (suc b) ds ≡ count_below (λ j. p (suc j)) (length ds) =
-    higher_counts k deadline (suc b) ds (λ j. p (suc j)) (λ j x at. (let y : b + suc j ≡ suc b + j = omega arith in subst (λ (n : ℕ). above x n deadline k ≡ p (suc j)) y (same (suc j) x at))) in
-    omega (arith, first, rest, count_front p (length ds))
 
 -- no more than there are
 higher_most : (k deadline b : ℕ) (ds : List ℕ) → higher k deadline b ds ≤ length ds

@@ -9,7 +9,8 @@ use Rattle.code_spec.specs.Layout.{Shape, single, array, Area, in_frame, in_proc
 use Rattle.code_spec.specs.Numbering.{Text, Called, called_text, expr_calls, exprs_calls, row_calls, ref_calls, number_of, routine_in}
 use Rattle.code_spec.specs.Code.{load, load_name, load_shape, load_element, store, store_shape, store_spot, store_element, constant_named, op_instr, range_code, range_of_spot, call_code, code_of, row_code, args_code, index_code, store_code, put_code, ref_name}
 use Rattle.code_measures.specs.Sound.{SoundExpr, SoundRow, SoundArgs, SoundIndex}
-use Rattle.codegen_ranks.specs.Calls.{passes_some, some_called, by_number}
+use Rattle.sched_program.specs.Tasks.{passes_some, some_called}
+use Rattle.codegen_ranks.specs.Calls.{by_number}
 use Rattle.codegen_ranks.proofs.Tests.{or_last, or_both, called_both, passes, some_in, in_both, in_parts, in_front}
 
 module _ (test : ℕ → Bool) where

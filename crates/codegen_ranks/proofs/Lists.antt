@@ -3,10 +3,10 @@ use Rattle.std.specs.Prelude.{◌≡◌, ◌++◌, ◌||◌, ℕ, Bool, false, L
 use Rattle.std.proofs.Common.{refl, sym, ap, ◌∙◌}
 use Rattle.base.proofs.Members.{at_front, behind}
 use Rattle.source_semantics.specs.Ranks.{includes}
-use Rattle.valid_image.specs.Tables.{longer_stay, longest_of, some_of}
+use Rattle.valid_image.specs.Tables.{longer_stay}
 use Rattle.valid_image.specs.Times.{is_some}
 use Rattle.code_spec.specs.Numbering.{Text, Called}
-use Rattle.codegen_ranks.specs.Calls.{passes_some, some_called}
+use Rattle.sched_program.specs.Tasks.{passes_some, some_called}
 use Rattle.codegen_ranks.proofs.Tests.{or_three, or_both}
 
 -- ---- calls
@@ -38,10 +38,6 @@ pub longer_some : (a b : Option ℕ) → is_some (longer_stay a b) ≡ is_some a
 longer_some None b = refl
 longer_some (Some a) None = refl
 longer_some (Some a) (Some b) = refl
-
-pub longest_some : (stay : ℕ → Option ℕ) (rs : List ℕ) → is_some (longest_of stay rs) ≡ some_of (λ r. is_some (stay r)) rs
-longest_some stay [] = refl
-longest_some stay (r ∷ rs) = longer_some (stay r) (longest_of stay rs) ∙ ap (λ b. is_some (stay r) || b) (longest_some stay rs)
 
 -- ---- monitors
 

@@ -13,7 +13,8 @@ use Rattle.code_spec.specs.Code.{code_of, range_code}
 use Rattle.code_spec.specs.Compiled.{routine_scope, process_scope, enter_code, EmitsRoutine, EmitsHandler, EmitsProcess}
 use Rattle.code_measures.specs.Sound.{SoundAnswers, SoundRoutine, SoundHandler, SoundProcess}
 use Rattle.code_measures.proofs.Parts.{Answered, return_of, last_code, ends_apart}
-use Rattle.codegen_ranks.specs.Calls.{some_called, by_number, process_calls}
+use Rattle.sched_program.specs.Tasks.{some_called, process_calls}
+use Rattle.codegen_ranks.specs.Calls.{by_number}
 use Rattle.codegen_ranks.proofs.Tests.{or_false, some_in}
 use Rattle.codegen_ranks.proofs.Exprs.{range_calls, expr_same}
 use Rattle.codegen_ranks.proofs.Spans.{Spans, as_well, nothing, join, line_spans, one_spans}

@@ -10,7 +10,8 @@ use Rattle.code_spec.specs.Numbering.{Text, Called, calls_routine, calls_entry, 
 use Rattle.code_spec.specs.Code.{code_of, args_code, call_code, index_code, store_code, put_code}
 use Rattle.code_spec.specs.Emits.{inner, turns_of, condition_of, monitor_of, Emits, EmitsAll}
 use Rattle.code_measures.specs.Sound.{Sound, SoundAll}
-use Rattle.codegen_ranks.specs.Calls.{some_called, by_number}
+use Rattle.sched_program.specs.Tasks.{some_called}
+use Rattle.codegen_ranks.specs.Calls.{by_number}
 use Rattle.codegen_ranks.proofs.Tests.{or_false, called_both, in_parts, in_front}
 use Rattle.codegen_ranks.proofs.Exprs.{store_calls, put_calls, call_same, expr_same, args_same, index_same}
 use Rattle.codegen_ranks.proofs.Spans.{Spans, as_well, nothing, join, has_spans, line_spans, one_spans}

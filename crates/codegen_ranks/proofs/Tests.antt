@@ -5,7 +5,7 @@ use Rattle.machine_isa.specs.declared.instr.Instr.{Instr}
 use Rattle.valid_image.specs.Pieces.{called_by}
 use Rattle.valid_image.specs.Tables.{some_of}
 use Rattle.code_spec.specs.Numbering.{Text, Called}
-use Rattle.codegen_ranks.specs.Calls.{passes_some, some_called}
+use Rattle.sched_program.specs.Tasks.{passes_some, some_called}
 
 -- ---- either of two
 

@@ -12,9 +12,9 @@ use Rattle.wellformed.specs.WellFormed.{IsWellFormed}
 use Rattle.code_names_law.specs.Ruled.{NamesApart}
 use Rattle.code_measures.specs.Declared.{IsBelow}
 use Rattle.code_names_law.proofs.SoundLemmas.{well_formed_programs_are_sound}
-use Rattle.codegen_ranks.specs.Calls.{some_called}
+use Rattle.sched_program.specs.Tasks.{some_called}
 use Rattle.codegen_ranks.proofs.Tests.{or_false, or_both, called_both}
-use Rattle.codegen_ranks.specs.Touches.{is_entry_of, touches, process_touches, TextsUseWhatTheyTouch}
+use Rattle.codegen_ranks.specs.Touches.{is_entry_of, comes_to_one, touches, process_touches, TextsUseWhatTheyTouch}
 use Rattle.codegen_ranks.proofs.Lists.{includes_both}
 use Rattle.codegen_ranks.proofs.Owners.{Known, named_near, near_entry, near_known, named_found}
 use Rattle.codegen_ranks.proofs.Closed.{function_touches, entry_touches}
@@ -23,7 +23,7 @@ use Rattle.codegen_ranks.proofs.Uses.{Agrees, uses_all_same}
 module _ (g : Program) (form : IsWellFormed g) (names : NamesApart g) (k : ℕ) (p : Process) (at : slice_get (processes g) k ≡ Some p) (j : ℕ) where
   -- a procedure: no entry, and without a result
   procedure_touches : (n : ℕ) (t : Text) → is_entry_of j t.owner ≡ false → t.routine.answers ≡ None → touches (suc n) g j t ≡ some_called (touches n g j) (called_text g t.owner) (stmts_calls t.routine.body)
-  unfolding touches
+  unfolding comes_to_one
   procedure_touches n t plain silent =
       or_both plain
       (called_both (touches n g j) (called_text g t.owner) (stmts_calls t.routine.body) (answers_calls t.routine.answers)
@@ -31,7 +31,7 @@ module _ (g : Program) (form : IsWellFormed g) (names : NamesApart g) (k : ℕ) 
       ∙ or_false (some_called (touches n g j) (called_text g t.owner) (stmts_calls t.routine.body))))
 
   agrees : (n r : ℕ) (o : Owner) → Known k o → Agrees g (λ y. IsBelow g r y) j (reached g p n) (touches n g j) o
-  unfolding reached touches
+  unfolding reached comes_to_one
   agrees zero r o known = record {
     functions = λ f t a means may answers. function_touches g form names j 0 o f t a means answers;
     procedures = λ f t means may silent. sym (near_entry j o t (named_near g o f t means));

@@ -8,7 +8,7 @@ use Rattle.code_spec.specs.Layout.{Owner, Scope}
 use Rattle.code_spec.specs.Numbering.{Text, Called, calls_entry, called_text, expr_calls, exprs_calls, row_calls, ref_calls, stmt_calls, stmts_calls, routine_in, entry_in}
 use Rattle.code_spec.specs.Emits.{inner}
 use Rattle.code_measures.specs.Sound.{SoundExpr, SoundRow, SoundArgs, SoundIndex, Sound, SoundAll}
-use Rattle.codegen_ranks.specs.Calls.{passes_some, some_called}
+use Rattle.sched_program.specs.Tasks.{passes_some, some_called}
 use Rattle.codegen_ranks.proofs.Tests.{or_false, or_both, called_both}
 use Rattle.codegen_ranks.proofs.Lists.{includes_both}
 

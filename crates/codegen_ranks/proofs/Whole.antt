@@ -14,7 +14,8 @@ use Rattle.code_spec.specs.Layout.{by_process}
 use Rattle.code_spec.specs.Numbering.{Text, called_text, routine_calls, numbered}
 use Rattle.code_spec.specs.Compiled.{EmitsRoutine, EmitsRoutines, EmitsProcess, EmitsProcesses, IsCodeOf}
 use Rattle.code_measures.specs.Declared.{IsBelow, IsSound}
-use Rattle.codegen_ranks.specs.Calls.{some_called, by_number, process_calls, RoutinesCallTheirTexts, ProcessesCallTheirTexts}
+use Rattle.sched_program.specs.Tasks.{some_called, process_calls}
+use Rattle.codegen_ranks.specs.Calls.{by_number, RoutinesCallTheirTexts, ProcessesCallTheirTexts}
 use Rattle.codegen_ranks.proofs.Tests.{or_false, or_three, or_both, some_both, passes}
 use Rattle.codegen_ranks.proofs.Spans.{some_at, Spans, in_order}
 use Rattle.codegen_ranks.proofs.Routines.{routine_span, process_span}

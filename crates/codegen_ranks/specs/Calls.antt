@@ -1,33 +1,19 @@
 -- What the code of a program calls is what its text calls, told by tests on routines.
-use Rattle.std.specs.Prelude.{◌≡◌, ◌||◌, ◌++◌, ℕ, Bool, false, List, [], ◌∷◌, Option, Some, None, slice_get}
+use Rattle.std.specs.Prelude.{◌≡◌, ℕ, Bool, Some, slice_get}
 use Rattle.syntax_tree.specs.Plain.{Process, Program}
 use Rattle.source_semantics.specs.Names.{processes}
-use Rattle.source_semantics.specs.Ranks.{handler_body}
 use Rattle.machine_semantics.specs.Image as image
 use Rattle.valid_image.specs.Pieces.{called, piece_number}
 use Rattle.valid_image.specs.Tables.{some_of}
 use Rattle.code_spec.specs.Layout.{by_process}
-use Rattle.code_spec.specs.Numbering.{Text, Called, called_text, stmts_calls, routine_calls, numbered, number_of}
+use Rattle.code_spec.specs.Numbering.{Text, called_text, routine_calls, numbered, number_of}
 use Rattle.code_spec.specs.Compiled.{IsCodeOf}
 use Rattle.code_measures.specs.Declared.{IsSound}
-
--- the text that a call names, if any, passes the test
-abbrev pub passes_some : (Text → Bool) → Option Text → Bool
-passes_some test None = false
-passes_some test (Some t) = test t
-
--- one of the texts that the calls name passes it
-abbrev pub some_called : (Text → Bool) → (Called → Option Text) → List Called → Bool
-some_called test means [] = false
-some_called test means (c ∷ cs) = passes_some test (means c) || some_called test means cs
+use Rattle.sched_program.specs.Tasks.{some_called, process_calls}
 
 -- the text's number passes
 abbrev pub by_number : Program → (ℕ → Bool) → Text → Bool
 by_number g test t = test (number_of g t)
-
--- what the body and the handler of a process call
-abbrev pub process_calls : Process → List Called
-process_calls p = stmts_calls p.body ++ stmts_calls (handler_body p.handler)
 
 -- The law: the piece of a routine calls one that passes a test just where its text does.
 abbrev pub RoutinesCallTheirTexts : Type 0

@@ -10,7 +10,7 @@ use Rattle.code_spec.specs.Numbering.{Text, called_text, routine_calls}
 use Rattle.code_spec.specs.Compiled.{IsCodeOf}
 use Rattle.wellformed.specs.WellFormed.{IsWellFormed}
 use Rattle.code_names_law.specs.Ruled.{NamesApart}
-use Rattle.codegen_ranks.specs.Calls.{some_called, process_calls}
+use Rattle.sched_program.specs.Tasks.{some_called, process_calls}
 
 -- whose text it is: an entry of the monitor
 abbrev pub is_entry_of : (monitor : ℕ) → Owner → Bool
@@ -18,15 +18,22 @@ is_entry_of j by_program = false
 is_entry_of j (by_process k) = false
 is_entry_of j (by_monitor m) = nat_eq m j
 
--- a text is an entry of the monitor, or comes to one by calls that are nested at most so deep
-unfoldable pub touches : (depth : ℕ) → Program → (monitor : ℕ) → Text → Bool
-touches zero g j t = is_entry_of j t.owner
-touches (suc n) g j t = is_entry_of j t.owner || some_called (touches n g j) (called_text g t.owner) (routine_calls t.routine)
+-- a text passes the test, or comes to one that does by calls that are nested at most so deep
+unfoldable pub comes_to_one : (depth : ℕ) → Program → (Text → Bool) → Text → Bool
+comes_to_one zero g test t = test t
+comes_to_one (suc n) g test t = test t || some_called (comes_to_one n g test) (called_text g t.owner) (routine_calls t.routine)
 
--- the body or the handler of process k comes to an entry of the monitor; calls are nested at most
--- as deep as there are routines
+-- the body or the handler of process k comes to one; calls are nested at most as deep as there are
+-- routines
+abbrev pub process_comes_to_one : Program → (Text → Bool) → (k : ℕ) → Process → Bool
+process_comes_to_one g test k p = some_called (comes_to_one (routine_count g) g test) (called_text g (by_process k)) (process_calls p)
+
+-- the test is to be an entry of the monitor
+abbrev pub touches : (depth : ℕ) → Program → (monitor : ℕ) → Text → Bool
+touches n g j = comes_to_one n g (λ t. is_entry_of j t.owner)
+
 abbrev pub process_touches : Program → (monitor k : ℕ) → Process → Bool
-process_touches g j k p = some_called (touches (routine_count g) g j) (called_text g (by_process k)) (process_calls p)
+process_touches g j k p = process_comes_to_one g (λ t. is_entry_of j t.owner) k p
 
 -- The law: the code of a process reaches an entry of a monitor just where its text comes to one.
 abbrev pub CodeEntersWhatTextsTouch : Type 0

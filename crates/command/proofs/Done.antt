@@ -4,7 +4,7 @@ use Rattle.std.specs.Prelude.{IsSomeAnd}
 use Rattle.std.specs.Bool.{OnTrue}
 use Rattle.outside.specs.Outside.{Outside, Appends}
 use Rattle.syntax_tree.specs.declared.place.Place.{Place}
-use Rattle.syntax_tree.specs.Placed.{Prog, plain}
+use Rattle.syntax_tree.specs.Placed.{Prog}
 use Rattle.syntax_tree.specs.Bare.{bare}
 use Rattle.syntax.specs.declared.token.Token.{Token}
 use Rattle.syntax.specs.Tokens.{tokens}
@@ -20,7 +20,7 @@ use Rattle.script.specs.declared.script.ScriptLine.{ScriptLine}
 use Rattle.vm_law.specs.ScriptSuits.{ScriptsForImagesReadSuit, script_with}
 use Rattle.sched_table.specs.Report.{report_text}
 use Rattle.sched_table.specs.Json.{report_json}
-use Rattle.built_image.specs.Built.{IsBuilt, IsTimely}
+use Rattle.built_tasks_law.specs.Judged.{BoundsAreOfTheText, BuiltIsInTime}
 use Rattle.command_words.specs.Calls.{Call, over_of, go, check, compile, json, slack, print, run, migrate, asm, dis, watch, replay, edf}
 use Rattle.command_due.specs.Source.{IsWritten, IsTimelyText, Style, report_of}
 use Rattle.command_due.specs.Script.{run_of}
@@ -55,12 +55,23 @@ image_is o p same = ap (λ (x : Outcome). x.image) same
 
 -- ---- programs that are accepted
 
-timely : (g : Prog Place) (over : ℕ) (n : NamedImage) → IsBuilt (plain g) over n → IsTimely (plain g) over
-timely g over n built = record { image = n.image; shaped = built.shaped; each = λ k p at. (p.bound, (built.bounds k p at).solves) }
+-- the laws of what is built
+pub record Building : Type 0 where
+  pub faithful : BuiltImagesAreFaithful
+  pub in_time : BuiltIsInTime
+  pub bounds : BoundsAreOfTheText
 
-accepted : BuiltImagesAreFaithful → (over : ℕ) (held : Option (List ℕ)) (text : List ℕ) (n : NamedImage) → held ≡ Some text → (t : IsTimelyText over text n) → IsAccepted over held t.tree n
-accepted law over held text n is t =
-    record { text = text; is_held = is; written = t.written; timely = timely t.tree over n t.built; built = t.built; faithful = law text t.tree over n t.written t.built }
+accepted : Building → (over : ℕ) (held : Option (List ℕ)) (text : List ℕ) (n : NamedImage) → held ≡ Some text → (t : IsTimelyText over text n) → IsAccepted over held t.tree n
+accepted laws over held text n is t =
+    record {
+      text = text;
+      is_held = is;
+      written = t.written;
+      in_time = (laws.in_time t.tree over n t.written.program.checked t.written.fits t.built).is;
+      built = t.built;
+      bounds = laws.bounds t.tree over n t.written.program.checked t.written.fits t.built;
+      faithful = laws.faithful text t.tree over n t.written t.built;
+    }
 
 -- what is stored of it holds it
 held_by : BuiltImagesAreHeld → (over : ℕ) (text : List ℕ) (n : NamedImage) → over ≤ 1000 → IsTimelyText over text n → IsHeld n
@@ -112,7 +123,7 @@ stored_bytes o bytes name held held' is kept = subst (λ (x : Option (List ℕ))
 put_is : (before now : Outside) (o : Outcome) (text : List ℕ) → o.text ≡ text → Appends before.out.taken now.out.taken o.text → Appends before.out.taken now.out.taken text
 put_is before now o text same put = subst (λ (x : List ℕ). Appends before.out.taken now.out.taken x) same put
 
-module _ (laws : Printing) (faithful : BuiltImagesAreFaithful) (before now : Outside) (o : Outcome) (zero : o.status ≡ 0) (put : Appends before.out.taken now.out.taken o.text) where
+module _ (laws : Printing) (building : Building) (before now : Outside) (o : Outcome) (zero : o.status ≡ 0) (put : Appends before.out.taken now.out.taken o.text) where
   printed_whole : (program : List ℕ) (text : List ℕ) → before.files.held program ≡ Some text → IsPrintDue text o → HasPrinted program before now
   printed_whole program text is (print_faulty number place fault same) = absurd (let two = status_of o _ same in omega (arith, two, zero))
   printed_whole program text is (printed tree w same) =
@@ -123,7 +134,7 @@ module _ (laws : Printing) (faithful : BuiltImagesAreFaithful) (before now : Out
   reported show over program text is (report_timely n t same) = record {
     tree = t.tree;
     built = n;
-    accepted = accepted faithful over (before.files.held program) text n is t;
+    accepted = accepted building over (before.files.held program) text n is t;
     put = put_is before now o (report_of show n) (text_of o _ same) put;
   }
 
@@ -132,7 +143,7 @@ module _ (laws : Printing) (faithful : BuiltImagesAreFaithful) (before now : Out
   spared over program text is (slack_told n lines t told_is same) = record {
     tree = t.tree;
     built = n;
-    accepted = accepted faithful over (before.files.held program) text n is t;
+    accepted = accepted building over (before.files.held program) text n is t;
     lines = lines;
     told = told_is;
     put = put_is before now o lines (text_of o _ same) put;
@@ -144,7 +155,7 @@ module _ (laws : Printing) (faithful : BuiltImagesAreFaithful) (before now : Out
   compiled_whole law over low program image text is kept (compiled n t same) = record {
     tree = t.tree;
     built = n;
-    accepted = accepted faithful over (before.files.held program) text n is t;
+    accepted = accepted building over (before.files.held program) text n is t;
     is_stored = stored_bytes o.image (stored n) image before.files.held now.files.held (image_is o _ same) kept;
     holds = held_by law over text n low t;
     put = put_is before now o (report_of report_text n) (text_of o _ same) put;
@@ -160,7 +171,7 @@ module _ (laws : Printing) (faithful : BuiltImagesAreFaithful) (before now : Out
     done = record {
       tree = t.tree;
       built = n;
-      accepted = accepted faithful over (before.files.held program) text n is t;
+      accepted = accepted building over (before.files.held program) text n is t;
       text = other;
       script_held = that;
       lines = lines;
@@ -294,35 +305,35 @@ of_held : (Due : List ℕ → Outcome → Type 0) (A : Type 0) (held : Option (L
 of_held Due A None o by due = absurd due
 of_held Due A (Some text) o by due = by text refl due
 
-module _ (laws : Printing) (faithful : BuiltImagesAreFaithful) (held : ImagesToldAreHeld) (again : ImagesReadAreHeldAgain) (stores : BuiltImagesAreHeld) (limits : ImagesReadHaveLimits) (safe : EveryValidImageIsSafeAndInTime) (suit : ScriptsForImagesReadSuit) (word : FeasibleTextsKeepTheirWord) (before now : Outside) (o : Outcome)
+module _ (laws : Printing) (building : Building) (held : ImagesToldAreHeld) (again : ImagesReadAreHeldAgain) (stores : BuiltImagesAreHeld) (limits : ImagesReadHaveLimits) (safe : EveryValidImageIsSafeAndInTime) (suit : ScriptsForImagesReadSuit) (word : FeasibleTextsKeepTheirWord) (before now : Outside) (o : Outcome)
     (zero : o.status ≡ 0) (put : Appends before.out.taken now.out.taken o.text) where
   done : (call : Call) → over_of call ≤ 1000 → IsDue call before.files.held o → Stores o.image (target_of call) before.files.held now.files.held → HasDone call before now
-  done (go program image script over) low due kept = gone laws faithful before now o zero put stores over low program image script kept due
+  done (go program image script over) low due kept = gone laws building before now o zero put stores over low program image script kept due
   done (check program over) low due kept =
-      of_held (IsReportDue report_text over) (HasReported report_text over program before now) (before.files.held program) o (λ text is d. reported laws faithful before now o zero put report_text over program text is d) due
+      of_held (IsReportDue report_text over) (HasReported report_text over program before now) (before.files.held program) o (λ text is d. reported laws building before now o zero put report_text over program text is d) due
   done (compile program image over) low due kept =
-      of_held (IsCompileDue over) (HasCompiled over program image before now) (before.files.held program) o (λ text is d. compiled_whole laws faithful before now o zero put stores over low program image text is kept d) due
+      of_held (IsCompileDue over) (HasCompiled over program image before now) (before.files.held program) o (λ text is d. compiled_whole laws building before now o zero put stores over low program image text is kept d) due
   done (json program over) low due kept =
-      of_held (IsReportDue report_json over) (HasReported report_json over program before now) (before.files.held program) o (λ text is d. reported laws faithful before now o zero put report_json over program text is d) due
+      of_held (IsReportDue report_json over) (HasReported report_json over program before now) (before.files.held program) o (λ text is d. reported laws building before now o zero put report_json over program text is d) due
   done (slack program over) low due kept =
-      of_held (IsSlackDue over) (HasSpared over program before now) (before.files.held program) o (λ text is d. spared laws faithful before now o zero put over program text is d) due
+      of_held (IsSlackDue over) (HasSpared over program before now) (before.files.held program) o (λ text is d. spared laws building before now o zero put over program text is d) due
   done (print program) low due kept =
-      of_held IsPrintDue (HasPrinted program before now) (before.files.held program) o (λ text is d. printed_whole laws faithful before now o zero put program text is d) due
-  done (run image script) low due kept = run_whole laws faithful before now o zero put limits safe suit image script due
+      of_held IsPrintDue (HasPrinted program before now) (before.files.held program) o (λ text is d. printed_whole laws building before now o zero put program text is d) due
+  done (run image script) low due kept = run_whole laws building before now o zero put limits safe suit image script due
   done (migrate image target) low due kept =
-      of_held IsMigrateDue (HasMigrated image target before now) (before.files.held image) o (λ bytes is d. migrated_whole laws faithful before now o zero put again image target bytes is kept d) due
+      of_held IsMigrateDue (HasMigrated image target before now) (before.files.held image) o (λ bytes is d. migrated_whole laws building before now o zero put again image target bytes is kept d) due
   done (asm text image) low due kept =
-      of_held IsAsmDue (HasAssembled text image before now) (before.files.held text) o (λ lines is d. asm_whole laws faithful before now o zero put limits safe suit held text image lines is kept d) due
+      of_held IsAsmDue (HasAssembled text image before now) (before.files.held text) o (λ lines is d. asm_whole laws building before now o zero put limits safe suit held text image lines is kept d) due
   done (dis image text) low due kept =
-      of_held IsDisDue (HasDisassembled image text before now) (before.files.held image) o (λ bytes is d. dis_whole laws faithful before now o zero put image text bytes is kept d) due
-  done (watch image script stop) low due kept = watch_whole laws faithful before now o zero put stop image script due
-  done (replay program script log) low due kept = replay_whole laws faithful before now o zero put program script log due
-  done (edf program script) low due kept = edf_whole laws faithful before now o zero put word program script due
+      of_held IsDisDue (HasDisassembled image text before now) (before.files.held image) o (λ bytes is d. dis_whole laws building before now o zero put image text bytes is kept d) due
+  done (watch image script stop) low due kept = watch_whole laws building before now o zero put stop image script due
+  done (replay program script log) low due kept = replay_whole laws building before now o zero put program script log due
+  done (edf program script) low due kept = edf_whole laws building before now o zero put word program script due
 
-pub has_done : Printing → BuiltImagesAreFaithful → ImagesToldAreHeld → ImagesReadAreHeldAgain → BuiltImagesAreHeld → ImagesReadHaveLimits → EveryValidImageIsSafeAndInTime → ScriptsForImagesReadSuit → FeasibleTextsKeepTheirWord → (tells : Bool) (call : Call) (before now : Outside) (status : ℕ) → over_of call ≤ 1000
+pub has_done : Printing → Building → ImagesToldAreHeld → ImagesReadAreHeldAgain → BuiltImagesAreHeld → ImagesReadHaveLimits → EveryValidImageIsSafeAndInTime → ScriptsForImagesReadSuit → FeasibleTextsKeepTheirWord → (tells : Bool) (call : Call) (before now : Outside) (status : ℕ) → over_of call ≤ 1000
     → Went tells call before now status → OnTrue tells (status ≡ 0 → HasDone call before now)
-has_done laws faithful held again stores limits safe suit word true call before now status low w = λ zero.
+has_done laws building held again stores limits safe suit word true call before now status low w = λ zero.
     let whole : IsWhole call before now status =
     w.whole ((λ six. absurd (omega (arith, zero, six))), (λ seven. absurd (omega (arith, zero, seven))), (λ eight. absurd (omega (arith, zero, eight)))) in
-    done laws faithful held again stores limits safe suit word before now whole.outcome (sym whole.is ∙ zero) whole.put call low whole.due whole.stored
-has_done laws faithful held again stores limits safe suit word false call before now status low w = tt
+    done laws building held again stores limits safe suit word before now whole.outcome (sym whole.is ∙ zero) whole.put call low whole.due whole.stored
+has_done laws building held again stores limits safe suit word false call before now status low w = tt

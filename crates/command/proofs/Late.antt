@@ -1,4 +1,4 @@
--- Status 3 comes exactly where a recurrence has no solution.
+-- Status 3 comes exactly where a recurrence of the text has no solution.
 use Rattle.std.proofs.Common.{◌≡◌, ◌<◌, ◌∙◌, ℕ, List, Option, Some, None, Bool, true, false, refl, sym, subst, arith}
 use Rattle.std.specs.Prelude.{◌↔◌, IsSomeAnd}
 use Rattle.std.specs.Bool.{OnTrue}
@@ -9,7 +9,7 @@ use Rattle.image.specs.Named.{NamedImage}
 use Rattle.sched_table.specs.Report.{report_text}
 use Rattle.sched_table.specs.Json.{report_json}
 use Rattle.built_image.specs.Built.{IsBuilt}
-use Rattle.built_image_law.specs.Once.{TimelyOrLate}
+use Rattle.built_tasks_law.specs.Judged.{LateIsNotInTime, BuiltIsInTime}
 use Rattle.command_words.specs.Calls.{Call, go, check, compile, json, slack, print, run, migrate, asm, dis, watch, replay, edf}
 use Rattle.command_due.specs.Source.{IsWritten, IsTextFault, IsTimelyText, Style}
 use Rattle.command_due.specs.CommandsDue.{Outcome, IsRefused, faulty, late, IsReportDue, report_refused, report_timely, IsPrintDue, print_faulty, printed, IsCompileDue, compile_refused, compiled, IsGoDue, go_refused, go_bad_script, went, IsImageRefused, misread, invalid, IsRunDue, run_refused, run_bad_script, ran, IsMigrateDue, migrate_refused, migrated}
@@ -33,30 +33,30 @@ use Rattle.command.proofs.Done.{status_of}
 
 -- ---- a refusal with 3 is one for time
 
-refused_late : (show : Style) (over : ℕ) (text : List ℕ) (o : Outcome) → IsRefused show over text o → o.status ≡ 3 → IsUnsolved over (Some text)
-refused_late show over text o (faulty number place fault same) three = absurd (let two = status_of o _ same in omega (arith, two, three))
-refused_late show over text o (late report l same) three = record { text = text; is_held = refl; tree = l.tree; written = l.written; late = l.late }
+refused_late : LateIsNotInTime → (show : Style) (over : ℕ) (text : List ℕ) (o : Outcome) → IsRefused show over text o → o.status ≡ 3 → IsUnsolved over (Some text)
+refused_late law show over text o (faulty number place fault same) three = absurd (let two = status_of o _ same in omega (arith, two, three))
+refused_late law show over text o (late report l same) three = record { text = text; is_held = refl; tree = l.tree; written = l.written; late = law l.tree over l.written.program.checked l.written.fits l.late }
 
-report_late : (show : Style) (over : ℕ) (text : List ℕ) (o : Outcome) → IsReportDue show over text o → o.status ≡ 3 → IsUnsolved over (Some text)
-report_late show over text o (report_refused r) three = refused_late show over text o r three
-report_late show over text o (report_timely n t same) three = absurd (let zero = status_of o _ same in omega (arith, zero, three))
+report_late : LateIsNotInTime → (show : Style) (over : ℕ) (text : List ℕ) (o : Outcome) → IsReportDue show over text o → o.status ≡ 3 → IsUnsolved over (Some text)
+report_late law show over text o (report_refused r) three = refused_late law show over text o r three
+report_late law show over text o (report_timely n t same) three = absurd (let zero = status_of o _ same in omega (arith, zero, three))
 
-slack_late : (over : ℕ) (text : List ℕ) (o : Outcome) → IsSlackDue over text o → o.status ≡ 3 → IsUnsolved over (Some text)
-slack_late over text o (slack_refused r) three = refused_late report_text over text o r three
-slack_late over text o (slack_told n lines t told_is same) three = absurd (let zero = status_of o _ same in omega (arith, zero, three))
+slack_late : LateIsNotInTime → (over : ℕ) (text : List ℕ) (o : Outcome) → IsSlackDue over text o → o.status ≡ 3 → IsUnsolved over (Some text)
+slack_late law over text o (slack_refused r) three = refused_late law report_text over text o r three
+slack_late law over text o (slack_told n lines t told_is same) three = absurd (let zero = status_of o _ same in omega (arith, zero, three))
 
-compile_late : (over : ℕ) (text : List ℕ) (o : Outcome) → IsCompileDue over text o → o.status ≡ 3 → IsUnsolved over (Some text)
-compile_late over text o (compile_refused r) three = refused_late report_text over text o r three
-compile_late over text o (compiled n t same) three = absurd (let zero = status_of o _ same in omega (arith, zero, three))
+compile_late : LateIsNotInTime → (over : ℕ) (text : List ℕ) (o : Outcome) → IsCompileDue over text o → o.status ≡ 3 → IsUnsolved over (Some text)
+compile_late law over text o (compile_refused r) three = refused_late law report_text over text o r three
+compile_late law over text o (compiled n t same) three = absurd (let zero = status_of o _ same in omega (arith, zero, three))
 
 print_late : (text : List ℕ) (o : Outcome) → IsPrintDue text o → o.status ≡ 3 → ⊥
 print_late text o (print_faulty number place fault same) three = let two = status_of o _ same in absurd (omega (arith, two, three))
 print_late text o (printed tree w same) three = let zero = status_of o _ same in absurd (omega (arith, zero, three))
 
-go_late : (over : ℕ) (program script : Option (List ℕ)) (o : Outcome) → IsGoDue over program script o → o.status ≡ 3 → IsUnsolved over program
-go_late over program script o (go_refused text is r) three = subst (IsUnsolved over) (sym is) (refused_late report_text over text o r three)
-go_late over program script o (go_bad_script text other n fault is t that f same) three = absurd (let five = status_of o _ same in omega (arith, five, three))
-go_late over program script o (went text other n lines end is t that s same) three = absurd (let zero = status_of o _ same in omega (arith, zero, three))
+go_late : LateIsNotInTime → (over : ℕ) (program script : Option (List ℕ)) (o : Outcome) → IsGoDue over program script o → o.status ≡ 3 → IsUnsolved over program
+go_late law over program script o (go_refused text is r) three = subst (IsUnsolved over) (sym is) (refused_late law report_text over text o r three)
+go_late law over program script o (go_bad_script text other n fault is t that f same) three = absurd (let five = status_of o _ same in omega (arith, five, three))
+go_late law over program script o (went text other n lines end is t that s same) three = absurd (let zero = status_of o _ same in omega (arith, zero, three))
 
 image_late : (bytes : List ℕ) (o : Outcome) → IsImageRefused bytes o → o.status ≡ 3 → ⊥
 image_late bytes o (misread number offset fault same) three = let four = status_of o _ same in absurd (omega (arith, four, three))
@@ -112,24 +112,24 @@ edf_late program script o (edf_unfit text n answer is judged unfit same) three =
 edf_late program script o (edf_bad_script text other n points fault is feasible that wrong same) three = let five = status_of o _ same in absurd (omega (arith, five, three))
 edf_late program script o (edf_ran text other n points lines end is feasible that s same) three = let zero = status_of o _ same in absurd (omega (arith, zero, three))
 
-due_late : (call : Call) (b : Outside) (o : Outcome) → IsDue call b.files.held o → o.status ≡ 3 → IsRefusedForTime call b
-due_late (go program image script over) b o due three = go_late over (b.files.held program) (b.files.held script) o due three
-due_late (check program over) b o due three = held_late over (IsReportDue report_text over) (b.files.held program) o (λ text d. report_late report_text over text o d three) due
-due_late (compile program image over) b o due three = held_late over (IsCompileDue over) (b.files.held program) o (λ text d. compile_late over text o d three) due
-due_late (json program over) b o due three = held_late over (IsReportDue report_json over) (b.files.held program) o (λ text d. report_late report_json over text o d three) due
-due_late (slack program over) b o due three = held_late over (IsSlackDue over) (b.files.held program) o (λ text d. slack_late over text o d three) due
-due_late (print program) b o due three = held_never IsPrintDue (b.files.held program) o (λ text d. print_late text o d three) due
-due_late (run image script) b o due three = run_late (b.files.held image) (b.files.held script) o due three
-due_late (migrate image target) b o due three = held_never IsMigrateDue (b.files.held image) o (λ bytes d. migrate_late bytes o d three) due
-due_late (asm text image) b o due three = held_never IsAsmDue (b.files.held text) o (λ lines d. asm_late lines o d three) due
-due_late (dis image text) b o due three = held_never IsDisDue (b.files.held image) o (λ bytes d. dis_late bytes o d three) due
-due_late (watch image script stop) b o due three = watch_late stop (b.files.held image) (b.files.held script) o due three
-due_late (replay program script log) b o due three = replay_late (b.files.held program) (b.files.held script) (b.files.held log) o due three
-due_late (edf program script) b o due three = edf_late (b.files.held program) (b.files.held script) o due three
+due_late : LateIsNotInTime → (call : Call) (b : Outside) (o : Outcome) → IsDue call b.files.held o → o.status ≡ 3 → IsRefusedForTime call b
+due_late law (go program image script over) b o due three = go_late law over (b.files.held program) (b.files.held script) o due three
+due_late law (check program over) b o due three = held_late over (IsReportDue report_text over) (b.files.held program) o (λ text d. report_late law report_text over text o d three) due
+due_late law (compile program image over) b o due three = held_late over (IsCompileDue over) (b.files.held program) o (λ text d. compile_late law over text o d three) due
+due_late law (json program over) b o due three = held_late over (IsReportDue report_json over) (b.files.held program) o (λ text d. report_late law report_json over text o d three) due
+due_late law (slack program over) b o due three = held_late over (IsSlackDue over) (b.files.held program) o (λ text d. slack_late law over text o d three) due
+due_late law (print program) b o due three = held_never IsPrintDue (b.files.held program) o (λ text d. print_late text o d three) due
+due_late law (run image script) b o due three = run_late (b.files.held image) (b.files.held script) o due three
+due_late law (migrate image target) b o due three = held_never IsMigrateDue (b.files.held image) o (λ bytes d. migrate_late bytes o d three) due
+due_late law (asm text image) b o due three = held_never IsAsmDue (b.files.held text) o (λ lines d. asm_late lines o d three) due
+due_late law (dis image text) b o due three = held_never IsDisDue (b.files.held image) o (λ bytes d. dis_late bytes o d three) due
+due_late law (watch image script stop) b o due three = watch_late stop (b.files.held image) (b.files.held script) o due three
+due_late law (replay program script log) b o due three = replay_late (b.files.held program) (b.files.held script) (b.files.held log) o due three
+due_late law (edf program script) b o due three = edf_late (b.files.held program) (b.files.held script) o due three
 
 -- ---- a program that is late is refused with 3
 
-module _ (faults : WrittenOrFaulty) (one : WrittenOnce) (apart : TimelyOrLate) (over : ℕ) where
+module _ (faults : WrittenOrFaulty) (one : WrittenOnce) (apart : BuiltIsInTime) (over : ℕ) where
   module _ (text : List ℕ) (u : IsUnsolved over (Some text)) where
     written : IsWritten text u.tree
     written = let same : u.text ≡ text = cc in subst (λ (t : List ℕ). IsWritten t u.tree) same u.written
@@ -140,7 +140,7 @@ module _ (faults : WrittenOrFaulty) (one : WrittenOnce) (apart : TimelyOrLate) (
     not_timely : (n : NamedImage) → IsTimelyText over text n → ⊥
     not_timely n t =
         let same : t.tree ≡ u.tree = one text t.tree u.tree t.written written in
-        apart (plain u.tree) over n (subst (λ (g : Prog Place). IsBuilt (plain g) over n) same t.built) u.late
+        (apart u.tree over n written.program.checked written.fits (subst (λ (g : Prog Place). IsBuilt (plain g) over n) same t.built)).never u.late
 
     refused_three : (show : Style) (o : Outcome) → IsRefused show over text o → o.status ≡ 3
     refused_three show o (faulty number place fault same) = absurd (no_fault number place fault)
@@ -191,7 +191,7 @@ module _ (faults : WrittenOrFaulty) (one : WrittenOnce) (answers : AnswersOfText
   edf_three None script o u due = absurd u
   edf_three (Some text) script o (n, answer, judged, unfit) due = edf_three_of text n answer judged unfit script o due
 
-module _ (faults : WrittenOrFaulty) (one : WrittenOnce) (apart : TimelyOrLate) (answers : AnswersOfTextsAreOne) where
+module _ (faults : WrittenOrFaulty) (one : WrittenOnce) (apart : BuiltIsInTime) (law : LateIsNotInTime) (answers : AnswersOfTextsAreOne) where
   due_three : (call : Call) (b : Outside) (o : Outcome) → IsRefusedForTime call b → IsDue call b.files.held o → o.status ≡ 3
   due_three (go program image script over) b o u due = go_three faults one apart over (b.files.held program) (b.files.held script) o u due
   due_three (check program over) b o u due = held_three faults one apart over (IsReportDue report_text over) (b.files.held program) o (λ text v d. report_three faults one apart over text v report_text o d) u due
@@ -209,7 +209,7 @@ module _ (faults : WrittenOrFaulty) (one : WrittenOnce) (apart : TimelyOrLate) (
 
   refused : (call : Call) (before now : Outside) (status : ℕ) → IsWhole call before now status → (status ≡ 3) ↔ IsRefusedForTime call before
   refused call before now status w =
-      ((λ three. due_late call before w.outcome w.due (sym w.is ∙ three)), (λ u. w.is ∙ due_three call before w.outcome u w.due))
+      ((λ three. due_late law call before w.outcome w.due (sym w.is ∙ three)), (λ u. w.is ∙ due_three call before w.outcome u w.due))
 
   pub refused_for_time : (tells : Bool) (call : Call) (before now : Outside) (status : ℕ) → Went tells call before now status
       → OnTrue tells (status < 6 → (status ≡ 3) ↔ IsRefusedForTime call before)

@@ -15,8 +15,10 @@ ghost use Rattle.command.specs.Targets.{IsNoTarget};
 
 use crate::carry::carry_out;
 use asm_law::text_and_image::images_told_are_held;
-use built_image_law::one_image::timely_or_late;
 use built_stored_law::stored_programs::built_images_are_held;
+use built_tasks_law::judged_by_text::{
+    bounds_are_of_the_text, built_is_in_time, late_is_not_in_time,
+};
 use command_answers::Status;
 use command_due_law::one_answer::{
     asm_is_one, compile_is_one, dis_is_one, go_is_one, migrate_is_one, print_is_one,
@@ -97,19 +99,20 @@ pub fn rte<F: Files, O: Sink>(alloc: Global, words: &[String], files: &mut F, ou
         (number_of result ≡ 0) ⊎ (number_of result ≡ 7) }
     // With a status but 7 the sink's count of faults is what it was.
     ensures quiet { number_of result ≢ 7 → (O.state out.new).faults ≡ (O.state out.old).faults }
-    // Status 0: of `go`, the text is that of a timely program and the script one, what is stored is
-    // the image of the program, what was put is its report and the log of that image over the
-    // script; and over every script for its names, the events of that image are a run of the
-    // program, never stuck, within its sizes, and each activation whose bound is not past the
-    // script's end in time. Of the other commands what `HasDone` has of each.
+    // Status 0: of `go`, the text is that of a program that is in time by its text, with these
+    // bounds, and the script one, what is stored is the image of the program and holds it, what was
+    // put is its report and the log of that image over the script; and over every script for its
+    // names, the events of that image are a run of the program, never stuck, within its sizes, and
+    // each activation whose bound is not past the script's end in time. Of the other commands what
+    // `HasDone` has of each.
     ensures done { (call : Call) → IsCommand words.now call →
         OnTrue F.tells (number_of result ≡ 0 → HasDone call
         (outside (F.state files.old) (O.state out.old))
         (outside (F.state files.new) (O.state out.new))) }
     // Below 6, status 3 of `go`, `check`, `compile`, `json` and `slack` comes exactly where the
-    // recurrence of some process of the program has no solution within its deadline; of `edf`
-    // exactly where the program has no wait and the test does not say that its demand is met; of
-    // the others never.
+    // recurrence of some process of the program, by its text, has no solution within its deadline;
+    // of `edf` exactly where the program has no wait and the test does not say that its demand is
+    // met; of the others never.
     ensures late { (call : Call) → IsCommand words.now call → OnTrue F.tells (number_of result < 6 →
         (number_of result ≡ 3) ↔ IsRefusedForTime call
         (outside (F.state files.old) (O.state out.old))) }
@@ -136,7 +139,9 @@ pub fn rte<F: Files, O: Sink>(alloc: Global, words: &[String], files: &mut F, ou
     answers_of_texts_are_one();
     written_or_faulty();
     written_once();
-    timely_or_late();
+    built_is_in_time();
+    late_is_not_in_time();
+    bounds_are_of_the_text();
     reads_back();
     tokens_are_spelled();
     carry_out(alloc, words, files, out)

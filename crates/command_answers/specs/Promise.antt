@@ -201,8 +201,8 @@ abbrev pub IsUnmet : Option (List ℕ) → Type 0
 IsUnmet held = IsSomeAnd held (λ text. (n : NamedImage) × (answer : Judgement) × IsJudgedText text n answer × IsUnfit answer)
 
 -- among statuses below 6, the call answers 3 exactly where the recurrence of some process of the
--- program has no solution within its deadline, and of `edf` where its program has no wait and its
--- demand is not met; a call that asks no program for its time never does
+-- program, by its text, has no solution within its deadline, and of `edf` where its program has no
+-- wait and its demand is not met; a call that asks no program for its time never does
 abbrev pub IsRefusedForTime : Call → Outside → Type 0
 IsRefusedForTime (go program image script over) before = IsUnsolved over (before.files.held program)
 IsRefusedForTime (check program over) before = IsUnsolved over (before.files.held program)

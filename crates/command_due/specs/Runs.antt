@@ -1,10 +1,10 @@
 -- What holds of every run of an image that is stored, and what status 0 and status 3 say of texts.
-use Rattle.std.specs.Prelude.{◌≡◌, ◌++◌, ℕ, List, Option, Some}
+use Rattle.std.specs.Prelude.{◌≡◌, ◌++◌, ℕ, List, Option, Some, slice_get}
 use Rattle.syntax_tree.specs.declared.place.Place.{Place}
 use Rattle.syntax_tree.specs.Placed.{Prog, plain}
 use Rattle.syntax_tree.specs.Plain as plain_of
 use Rattle.source_semantics.specs.Source.{IsSourceRun}
-use Rattle.machine_semantics.specs.Image.{Image}
+use Rattle.machine_semantics.specs.Image.{Image, Process}
 use Rattle.machine_semantics.specs.Run.{events}
 use Rattle.sched_timing.specs.Timed.{IsInTime}
 use Rattle.valid_image.specs.Valid.{IsValid}
@@ -14,7 +14,8 @@ use Rattle.image.specs.Named.{NamedImage}
 use Rattle.sched_table.specs.Report.{report_text}
 use Rattle.script.specs.declared.script.ScriptLine.{ScriptLine}
 use Rattle.script.specs.Scripts.{IsScript}
-use Rattle.built_image.specs.Built.{IsBuilt, IsTimely, IsLate}
+use Rattle.built_image.specs.Built.{IsBuilt}
+use Rattle.sched_program.specs.Tasks as of_text
 use Rattle.command_due.specs.Source.{IsWritten, report_of}
 use Rattle.command_due.specs.Script.{said, run_of}
 use Rattle.command_due.specs.CommandsDue.{stored, log}
@@ -43,22 +44,27 @@ BuiltImagesAreFaithful = (text : List ℕ) (g : Prog Place) (over : ℕ) (n : Na
 
 -- ---- what a call has read, stored and put
 
--- accepted: the text is that of a program which is timely
+-- each bound that the image declares is that of the text: the least solution of the recurrence
+abbrev pub HasBoundsOf : plain_of.Program → (over : ℕ) → Image → Type 0
+HasBoundsOf g over m = (k : ℕ) (p : Process) → slice_get m.processes k ≡ Some p → of_text.IsBoundOf g over k p.bound
+
+-- accepted: the text is that of a program which is in time, by its text alone, and this is its image
 pub record IsAccepted (over : ℕ) (held : Option (List ℕ)) (g : Prog Place) (n : NamedImage) : Type 0 where
   pub text : List ℕ
   pub is_held : held ≡ Some text
   pub written : IsWritten text g
-  pub timely : IsTimely (plain g) over
+  pub in_time : of_text.IsInTime (plain g) over
   pub built : IsBuilt (plain g) over n
+  pub bounds : HasBoundsOf (plain g) over n.image
   pub faithful : IsFaithful (plain g) n
 
--- a program text that is not timely with the overhead
+-- a program text that is not in time with the overhead, by the text alone
 pub record IsUnsolved (over : ℕ) (held : Option (List ℕ)) : Type 0 where
   pub text : List ℕ
   pub is_held : held ≡ Some text
   pub tree : Prog Place
   pub written : IsWritten text tree
-  pub late : IsLate (plain tree) over
+  pub late : of_text.IsNotInTime (plain tree) over
 
 -- what a call of `go` that answers 0 has read, stored and put
 pub record IsDone (over : ℕ) (program script : Option (List ℕ)) (put : List ℕ) (image : Option (List ℕ)) : Type 0 where

@@ -15,17 +15,17 @@ use Rattle.sched_response.specs.Ranked.{use_at, outranks, AreCounted, IsCeilingA
 use Rattle.sched_response.proofs.Counted.{are_counted}
 use Rattle.sched_ranks.specs.Ranked.{AreUses, RanksAgree, CeilingsAgree}
 
-abbrev count : Bool → ℕ
+abbrev pub count : Bool → ℕ
 count b = cond b 1 0
 
 count_front : (p : ℕ → Bool) (n : ℕ) → count_below p (suc n) ≡ count (p 0) + count_below (λ j. p (suc j)) n
 count_front p zero = omega arith
 count_front p (suc n) = omega (arith, count_front p n)
 
-abbrev above : (f x deadline k : ℕ) → Bool
+abbrev pub above : (f x deadline k : ℕ) → Bool
 above f x deadline k = nat_lt f deadline || (nat_eq f deadline && nat_lt x k)
 
-higher_counts : (k deadline b : ℕ) (ds : List ℕ) (p : ℕ → Bool) → ((j f : ℕ) → slice_get ds j ≡ Some f → above f (b + j) deadline k ≡ p j) → higher k deadline b ds ≡ count_below p (length ds)
+pub higher_counts : (k deadline b : ℕ) (ds : List ℕ) (p : ℕ → Bool) → ((j f : ℕ) → slice_get ds j ≡ Some f → above f (b + j) deadline k ≡ p j) → higher k deadline b ds ≡ count_below p (length ds)
 higher_counts k deadline b [] p same = refl
 higher_counts k deadline b (f ∷ ds) p same =
     let z : b + 0 ≡ b = omega arith in

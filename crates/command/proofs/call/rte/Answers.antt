@@ -15,13 +15,14 @@ returns-clause-complete g c = λ call is. completes g.F.Files.tells call _ _ _ (
 pub returns-clause-done : goal.returns-clause-done
 returns-clause-done g c = λ call is.
     has_done (record { spelled = c.tokens_are_spelled.ensures; tokens_of = c.reads_back.ensures.tokens; tree_of = c.reads_back.ensures.tree })
-    c.built_images_are_faithful.ensures c.images_told_are_held.ensures c.images_read_are_held_again.ensures c.built_images_are_held.ensures c.images_read_are_in_their_ranges.ensures.limits c.every_valid_image_is_safe_and_in_time.ensures c.scripts_suit.ensures.held c.feasible_texts_keep_their_word.ensures
+    (record { faithful = c.built_images_are_faithful.ensures; in_time = c.built_is_in_time.ensures; bounds = c.bounds_are_of_the_text.ensures })
+    c.images_told_are_held.ensures c.images_read_are_held_again.ensures c.built_images_are_held.ensures c.images_read_are_in_their_ranges.ensures.limits c.every_valid_image_is_safe_and_in_time.ensures c.scripts_suit.ensures.held c.feasible_texts_keep_their_word.ensures
     g.F.Files.tells call _ _ _ (command_low c.overheads_are_decimal.ensures _ call is) (c.carry_out.ensures.went call is)
 
 -- status 3, by what is due
 pub returns-clause-late : goal.returns-clause-late
 returns-clause-late g c = λ call is.
-    refused_for_time c.written_or_faulty.ensures c.written_once.ensures c.timely_or_late.ensures c.answers_of_texts_are_one.ensures
+    refused_for_time c.written_or_faulty.ensures c.written_once.ensures c.built_is_in_time.ensures c.late_is_not_in_time.ensures c.answers_of_texts_are_one.ensures
     g.F.Files.tells call _ _ _ (c.carry_out.ensures.went call is)
 
 -- a file that has changed

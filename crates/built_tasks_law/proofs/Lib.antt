@@ -1,0 +1,5 @@
+pub mod Comes
+pub mod Origins
+pub mod Blocks
+pub mod Tasks
+pub mod Judged
