@@ -103,8 +103,8 @@ impl<S: Sink> Buffered<S> {
         self.sink.put(piece)
     }
 
-    /// Writes what waits, and gives the sink below back. Ok exactly where that has taken all; else
-    /// it has taken a front of it, and counted a fault.
+    /// Writes what waits, and gives the sink below back. Ok only where that has taken all; else it
+    /// has taken a front of it, and counted a fault.
     pub fn finish(self) -> (Result<(), SinkFailed>, S)
         ensures whole { let state = ⟦<Buffered<S> as Sink>⟧.state in
             OnOk result.0 ((S.state result.1).taken ≡ (state self).taken) }
@@ -120,9 +120,7 @@ impl<S: Sink> Buffered<S> {
         let flushed = this.flush();
         (flushed, this.sink)
     }
-}
 
-impl<S: Sink> Buffered<S> {
     /// Gives the sink below back, and writes nothing: what waits is lost.
     pub fn into_sink(self) -> S
         ensures taken { let state = ⟦<Buffered<S> as Sink>⟧.state in
