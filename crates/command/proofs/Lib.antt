@@ -10,3 +10,4 @@ pub mod Loads
 mod Settling
 mod Calls
 mod Clauses
+mod Tried

@@ -80,6 +80,11 @@ abbrev pub with_more : Option (List ℕ) → List ℕ → Option (List ℕ)
 with_more (Some taken) more = Some (taken ++ more)
 with_more None more = None
 
+-- something has been taken, where it is told
+abbrev pub HasTakenSome : Option (List ℕ) → Type 0
+HasTakenSome (Some taken) = taken ≢ []
+HasTakenSome None = Unit {0}
+
 -- one piece and then another is both in a row
 pub Appends-append : (a b c : Option (List ℕ)) (x y : List ℕ) → Appends a b x → Appends b c y → Appends a c (x ++ y)
 Appends-append (Some before) b c x y first then =
