@@ -18,8 +18,10 @@ use std::alloc::Global;
 /// Stores the script, behind the program, and puts the line.
 #[tactic(
     auto,
-    using(command_answers::proofs::Trying::tried_last),
-    using(command_answers::proofs::Trying::tried_at_most)
+    using(
+        command_answers::proofs::Trying::tried_last,
+        command_answers::proofs::Trying::tried_at_most
+    )
 )]
 fn store_script<F: Files, O: Sink>(
     load: &Load<'_>,
@@ -54,9 +56,11 @@ fn store_script<F: Files, O: Sink>(
 /// or `Memory`, and then nothing was put, and nothing was stored but the program at most.
 #[tactic(
     auto,
-    using(command_answers::proofs::Trying::tried_on),
-    using(command_answers::proofs::Trying::tried_first),
-    using(command_answers::proofs::Trying::tried_at_most)
+    using(
+        command_answers::proofs::Trying::tried_on,
+        command_answers::proofs::Trying::tried_first,
+        command_answers::proofs::Trying::tried_at_most
+    )
 )]
 pub fn make<F: Files, O: Sink>(alloc: Global, load: &Load<'_>, files: &mut F, out: &mut O) -> Status
     requires some { 1 ≤ load.now.count }

@@ -38,11 +38,7 @@ pub enum Content {
 /// # Errors
 ///
 /// `Unread` only where the name's count of faults rose. `Memory` where there is not enough memory.
-#[tactic(
-    auto,
-    using(crate::proofs::Trying::tried_last),
-    using(crate::proofs::Trying::tried_at_most)
-)]
+#[tactic(auto, using(crate::proofs::Trying::tried_last, crate::proofs::Trying::tried_at_most))]
 pub fn read<F: Files>(files: &mut F, name: &str, most: usize) -> Result<Content, PrepareError>
     ensures content { IfOk result (λ content.
         OnTrue F.tells (IsSomeAnd ((F.state files.old).held name.now) (IsContent most content))) }

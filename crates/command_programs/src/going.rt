@@ -106,9 +106,11 @@ fn go_on<'a, F: Files>(
 /// `go`: the program is read and judged, and the script only where the program is timely.
 #[tactic(
     auto,
-    using(command_answers::proofs::Trying::tried_first),
-    using(command_answers::proofs::Trying::tried_on),
-    using(command_answers::proofs::Trying::tried_alone)
+    using(
+        command_answers::proofs::Trying::tried_first,
+        command_answers::proofs::Trying::tried_on,
+        command_answers::proofs::Trying::tried_alone
+    )
 )]
 pub fn prepare_go<'a, F: Files>(
     alloc: Global,

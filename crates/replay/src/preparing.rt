@@ -59,9 +59,11 @@ fn log_on<'a, F: Files>(
 /// The second third of `replay`: the script for a program, and the log where it is one.
 #[tactic(
     auto,
-    using(command_answers::proofs::Trying::tried_first),
-    using(command_answers::proofs::Trying::tried_on),
-    using(command_answers::proofs::Trying::tried_alone)
+    using(
+        command_answers::proofs::Trying::tried_first,
+        command_answers::proofs::Trying::tried_on,
+        command_answers::proofs::Trying::tried_alone
+    )
 )]
 fn script_on<'a, F: Files>(
     alloc: Global,
@@ -99,9 +101,11 @@ fn script_on<'a, F: Files>(
 /// the log only where the script has none.
 #[tactic(
     auto,
-    using(command_answers::proofs::Trying::tried_first),
-    using(command_answers::proofs::Trying::tried_on),
-    using(command_answers::proofs::Trying::tried_alone)
+    using(
+        command_answers::proofs::Trying::tried_first,
+        command_answers::proofs::Trying::tried_on,
+        command_answers::proofs::Trying::tried_alone
+    )
 )]
 pub fn prepare_replay<'a, F: Files>(
     alloc: Global,
