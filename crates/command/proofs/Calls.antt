@@ -49,7 +49,7 @@ module _ (call : Call) (f f' : FilesState) (b m w : SinkState) (s : ℕ) (none :
     front = front_below b.taken m.taken w.taken c.outcome.text rest none c.front below;
     cause = elim c.cause [
       | inl write ↦ inl (write.0, write.1, none_below b.taken m.taken w.taken rest none write.2 below ∙ write.2)
-      | inr put ↦ inr (put_failed (inr put.0), put.1)
+      | inr put ↦ inr (put_failed (inr put.0), put.1, put.2)
     ];
   }
 

@@ -91,7 +91,7 @@ module _ (laws : Laws) (call : Call) (before now : Outside) (status : ℕ) (w : 
   cut : IsCut call before now → AllStay before.files.held now.files.held
   cut d = elim d.cause [
     | inl failed ↦ absurd (some_none failed.0.0 d.outcome.image failed.0.1 (same d.outcome d.due))
-    | inr failed ↦ nothing d.outcome.image (target_of call) before.files.held now.files.held (same d.outcome d.due) failed.1.0
+    | inr failed ↦ nothing d.outcome.image (target_of call) before.files.held now.files.held (same d.outcome d.due) failed.1
   ]
 
   stays : AllStay before.files.held now.files.held

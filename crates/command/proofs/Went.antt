@@ -75,7 +75,7 @@ module _ (call : Call) (b m n : FilesState) (o o' : SinkState) (act : PreparedCa
     front = d.front seven;
     cause = elim (d.cause seven) [
       | inl failed ↦ inl (some_bytes act.store m n o o' failed.0, write_failed call act.store b m n o o' p.at less failed.0, failed.1)
-      | inr failed ↦ inr (failed.0, stores call act.store b.held m.held n.held p.at stay failed.1.0, has_text o.taken (outcome_of act).text failed.1.1)
+      | inr failed ↦ inr (failed.0, stores call act.store b.held m.held n.held p.at stay failed.1, has_text o.taken (outcome_of act).text failed.2)
     ];
   }
 

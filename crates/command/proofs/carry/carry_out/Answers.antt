@@ -30,12 +30,12 @@ returns-in-Some-Load-clause-kept g c = λ none some other.
 pub returns-in-Some-Command-clause-reads : goal.returns-in-Some-Command-clause-reads
 returns-in-Some-Command-clause-reads g c =
     let asked = subst (IsRequest c.args.words.now) c.in-Some-Command.field-0-is c.in-Some-Command.ensures.some in
-    command_read c.one_command.ensures c.args.words.now (call_of c.in-Some-Command.command) _ _ _ asked c.carry.ensures.reads
+    command_read c.one_command.ensures c.args.words.now (call_of c.in-Some-Command.command) _ _ _ asked.0 c.carry.ensures.reads
 
 pub returns-in-Some-Command-clause-writes : goal.returns-in-Some-Command-clause-writes
 returns-in-Some-Command-clause-writes g c =
     let asked = subst (IsRequest c.args.words.now) c.in-Some-Command.field-0-is c.in-Some-Command.ensures.some in
-    command_written c.one_command.ensures c.no_command_is_a_load.ensures c.args.words.now (call_of c.in-Some-Command.command) _ _ _ asked c.carry.ensures.writes
+    command_written c.one_command.ensures c.no_command_is_a_load.ensures c.args.words.now (call_of c.in-Some-Command.command) _ _ _ asked.0 c.carry.ensures.writes
 
 pub returns-in-Some-Load-clause-reads : goal.returns-in-Some-Load-clause-reads
 returns-in-Some-Load-clause-reads g c =
