@@ -1,6 +1,6 @@
 //! `edf`.
 
-ghost use Rattle.std.specs.Prelude.{◌≡◌, Err, None, IfOk, IsSomeAnd};
+ghost use Rattle.std.specs.Prelude.{◌≡◌, ◌∷◌, [], Err, None, IfOk, IsSomeAnd};
 ghost use Rattle.std.specs.Bool.{OnTrue};
 ghost use Rattle.command_answers.specs.Acts.{outcome_of};
 ghost use Rattle.command_answers.specs.Acting.{CanBeDone};
