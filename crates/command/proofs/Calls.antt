@@ -1,32 +1,36 @@
 -- What a call promises of its buffer, it promises of the sink below, once what waited is written.
-use Rattle.std.proofs.Common.{◌≡◌, ◌≢◌, ◌≤◌, ◌<◌, ◌⊎◌, ◌∙◌, ℕ, List, Option, Bool, true, false, inl, inr, refl, sym, ap, subst, arith}
-use Rattle.std.specs.Prelude.{codes}
+use Rattle.std.proofs.Common.{◌≡◌, ◌≢◌, ◌≤◌, ◌<◌, ◌⊎◌, ◌∙◌, ◌∷◌, ℕ, List, [], Option, Bool, true, false, inl, inr, refl, sym, ap, subst, arith}
+use Rattle.std.specs.Prelude.{codes, String}
+use Rattle.std.specs.Global.{Global}
 use Rattle.std.specs.Bool.{OnTrue}
 use Rattle.std.proofs.lemmas.Bool.{cases_eq, OnTrue_at, OnTrue_from}
-use Rattle.outside.specs.Outside.{FilesState, SinkState, Outside, outside, Rose, Appends, AppendsFront}
+use Rattle.outside.specs.Outside.{FilesState, SinkState, Outside, outside, Rose, Appends, AppendsFront, HasTakenSome}
 use Rattle.command_words.specs.Calls.{Call, Load}
 use Rattle.command_answers.specs.Went.{IsWhole, IsCut, WriteFailed, PutFailed, Went, IsUsage}
+use Rattle.command_answers.specs.Files.{sources_of, target_of}
+use Rattle.command_answers.specs.Tried.{HasTried, HasTriedTarget}
 use Rattle.command.specs.Due.{IsSummary}
 use Rattle.command.specs.Made as of_make
 use Rattle.command.specs.Made.{Made}
+use Rattle.command.specs.Tried.{HasRead, HasWritten}
 use Rattle.command.specs.Settled.{HasTakenNothing, IsSettled, whole, idle, lost}
-use Rattle.command.proofs.Settling.{same_state, none_below, front_below, whole_front, rose_below}
+use Rattle.command.proofs.Settling.{same_state, none_below, front_below, text_taken, whole_front, rose_below}
 
 -- the sink below stands as the buffer, with its status; or what waited was not taken whole
 data Ends (m w : SinkState) (s n : ℕ) : Type 0 where
   stands : n ≡ s → w ≡ m → Ends m w s n
-  falls : n ≡ 7 → s ≢ 6 → s ≢ 8 → (rest : List ℕ) → Appends w.taken m.taken rest → Rose m.faults w.faults → Ends m w s n
+  falls : n ≡ 7 → s ≢ 6 → s ≢ 8 → (rest : List ℕ) → Appends w.taken m.taken rest → Rose m.faults w.faults → HasTakenSome m.taken → Ends m w s n
 
 -- where nothing was put with 6 and 8, nothing waits
 ends : (b m w : SinkState) (s n : ℕ) → HasTakenNothing b.taken → ((s ≡ 6) ⊎ (s ≡ 8) → m.taken ≡ b.taken) → IsSettled m w s n → Ends m w s n
 ends b m w s n none nothing (whole is taken faults) = stands is (same_state w m taken faults)
 ends b m w s n none nothing (idle is which rest below faults) =
     stands is (same_state w m (none_below b.taken m.taken w.taken rest none (nothing which) below) faults)
-ends b m w s n none nothing (lost is six eight rest below rose) = falls is six eight rest below rose
+ends b m w s n none nothing (lost is six eight rest below rose some) = falls is six eight rest below rose some
 
 -- ---- a command
 
-module _ (call : Call) (f f' : FilesState) (b m w : SinkState) (s : ℕ) (none : HasTakenNothing b.taken) (rest : List ℕ) (below : Appends w.taken m.taken rest) (rose : Rose m.faults w.faults) where
+module _ (call : Call) (f f' : FilesState) (b m w : SinkState) (s : ℕ) (none : HasTakenNothing b.taken) (rest : List ℕ) (below : Appends w.taken m.taken rest) (rose : Rose m.faults w.faults) (some : HasTakenSome m.taken) where
   put_failed : (m.faults ≡ b.faults) ⊎ Rose b.faults m.faults → PutFailed (outside f b) (outside f' w)
   put_failed since = rose_below b.faults m.faults w.faults since rose
 
@@ -35,7 +39,7 @@ module _ (call : Call) (f f' : FilesState) (b m w : SinkState) (s : ℕ) (none :
     outcome = went.outcome;
     due = went.due;
     front = front_below b.taken m.taken w.taken went.outcome.text rest none (whole_front b.taken m.taken went.outcome.text went.put) below;
-    cause = inr (put_failed (inl quiet), went.stored);
+    cause = inr (put_failed (inl quiet), went.stored, text_taken b.taken m.taken went.outcome.text none some went.put);
   }
 
   cut_front : IsCut call (outside f b) (outside f' m) → IsCut call (outside f b) (outside f' w)
@@ -45,7 +49,7 @@ module _ (call : Call) (f f' : FilesState) (b m w : SinkState) (s : ℕ) (none :
     front = front_below b.taken m.taken w.taken c.outcome.text rest none c.front below;
     cause = elim c.cause [
       | inl write ↦ inl (write.0, write.1, none_below b.taken m.taken w.taken rest none write.2 below ∙ write.2)
-      | inr put ↦ inr (put_failed (inr put.0), put.1)
+      | inr put ↦ inr (put_failed (inr put.0), put.1, put.2)
     ];
   }
 
@@ -81,8 +85,8 @@ pub went_settled : (tells : Bool) (call : Call) (f f' : FilesState) (b m w : Sin
 went_settled tells call f f' b m w s n none went settled = by (ends b m w s n none went.nothing settled) where
   by : Ends m w s n → Went tells call (outside f b) (outside f' w) n
   by (stands is state) = subst (λ (k : ℕ). Went tells call (outside f b) (outside f' w) k) (sym is) (subst (λ (o : SinkState). Went tells call (outside f b) (outside f' o) s) (sym state) went)
-  by (falls is six eight rest below rose) =
-      subst (λ (k : ℕ). Went tells call (outside f b) (outside f' w) k) (sym is) (went_lost call f f' b m w s none rest below rose tells six eight went)
+  by (falls is six eight rest below rose some) =
+      subst (λ (k : ℕ). Went tells call (outside f b) (outside f' w) k) (sym is) (went_lost call f f' b m w s none rest below rose some tells six eight went)
 
 -- ---- make
 
@@ -152,7 +156,7 @@ made_settled tells load f f' b m w s n none made settled =
     by (ends b m w s n none (made_nothing tells load (outside f b) (outside f' m) s made) settled) where
       by : Ends m w s n → Made tells load (outside f b) (outside f' w) n
       by (stands is state) = subst (λ (k : ℕ). Made tells load (outside f b) (outside f' w) k) (sym is) (subst (λ (o : SinkState). Made tells load (outside f b) (outside f' o) s) (sym state) made)
-      by (falls is six eight rest below rose) =
+      by (falls is six eight rest below rose some) =
           subst (λ (k : ℕ). Made tells load (outside f b) (outside f' w) k) (sym is) (made_lost load f f' b m w s none rest below rose tells eight made)
 
 -- ---- words that are no command
@@ -180,23 +184,49 @@ pub usage_settled : (f f' : FilesState) (b m w : SinkState) (s n : ℕ) → HasT
 usage_settled f f' b m w s n none usage settled = by (ends b m w s n none (usage_nothing f f' b m s usage) settled) where
   by : Ends m w s n → IsUsage (outside f b) (outside f' w) n
   by (stands is state) = subst (λ (k : ℕ). IsUsage (outside f b) (outside f' w) k) (sym is) (subst (λ (o : SinkState). IsUsage (outside f b) (outside f' o) s) (sym state) usage)
-  by (falls is six eight rest below rose) = record {
+  by (falls is six eight rest below rose some) = record {
     answer = inr (is, rose_below b.faults m.faults w.faults (usage_since f f' b m s usage) rose, front_below b.taken m.taken w.taken (codes "usage\n") rest none (usage_front f f' b m s usage) below);
     quiet = λ other. absurd (other is);
     stays = usage.stays;
   }
+
+-- ---- the files that were tried, by the status
+
+pub tried_settled : (names before now : List (List ℕ)) (m w : SinkState) (s n : ℕ) → HasTried names before now s → IsSettled m w s n → HasTried names before now n
+tried_settled names before now m w s n h (whole is taken faults) = subst (HasTried names before now) (sym is) h
+tried_settled names before now m w s n h (idle is which rest below faults) = subst (HasTried names before now) (sym is) h
+tried_settled names before now m w s n h (lost is six eight rest below rose some) =
+    record { count = h.count; is = h.is; all = λ zero. absurd (omega (arith, is, zero)); some = λ _. h.some eight }
+
+target_settled : (target : Option (List ℕ)) (before now : List (List ℕ)) (m w : SinkState) (s n : ℕ) → HasTriedTarget target before now s → IsSettled m w s n → HasTriedTarget target before now n
+target_settled target before now m w s n h (whole is taken faults) = subst (HasTriedTarget target before now) (sym is) h
+target_settled target before now m w s n h (idle is which rest below faults) = subst (HasTriedTarget target before now) (sym is) h
+target_settled target before now m w s n h (lost is six eight rest below rose some) = elim h [ inl none ↦ inl none | inr written ↦ inr (written.0, inr (inl is)) ]
+
+pub read_settled : (words : List (String Global)) (before now : List (List ℕ)) (m w : SinkState) (s n : ℕ) → HasRead words before now s → IsSettled m w s n → HasRead words before now n
+read_settled words before now m w s n h settled = record {
+  command = λ call is. tried_settled (sources_of call) before now m w s n (h.command call is) settled;
+  other = h.other;
+}
+
+pub written_settled : (words : List (String Global)) (before now : List (List ℕ)) (m w : SinkState) (s n : ℕ) → HasWritten words before now s → IsSettled m w s n → HasWritten words before now n
+written_settled words before now m w s n h settled = record {
+  command = λ call is. target_settled (target_of call) before now m w s n (h.command call is) settled;
+  load = λ load is. tried_settled (load.program ∷ load.script ∷ []) before now m w s n (h.load load is) settled;
+  other = h.other;
+}
 
 -- ---- the status
 
 pub status_settled : (m w : SinkState) (s n : ℕ) → IsSettled m w s n → (n ≡ s) ⊎ (n ≡ 7)
 status_settled m w s n (whole is taken faults) = inl is
 status_settled m w s n (idle is which rest below faults) = inl is
-status_settled m w s n (lost is six eight rest below rose) = inr is
+status_settled m w s n (lost is six eight rest below rose some) = inr is
 
 pub quiet_settled : (before : ℕ) (m w : SinkState) (s n : ℕ) → (s ≢ 7 → m.faults ≡ before) → IsSettled m w s n → n ≢ 7 → w.faults ≡ before
 quiet_settled before m w s n quiet (whole is taken faults) other = faults ∙ quiet (λ e. other (is ∙ e))
 quiet_settled before m w s n quiet (idle is which rest below faults) other = faults ∙ quiet (λ e. other (is ∙ e))
-quiet_settled before m w s n quiet (lost is six eight rest below rose) other = absurd (other is)
+quiet_settled before m w s n quiet (lost is six eight rest below rose some) other = absurd (other is)
 
 -- what holds of a call that answers 0 holds still where the call does now
 pub zero_settled : (P : SinkState → Type 0) (tells : Bool) (call : Call) (f f' : FilesState) (b m w : SinkState) (s n : ℕ) → HasTakenNothing b.taken
@@ -204,7 +234,7 @@ pub zero_settled : (P : SinkState → Type 0) (tells : Bool) (call : Call) (f f'
 zero_settled P tells call f f' b m w s n none went done settled = OnTrue_from tells _ (λ tell zero. by tell zero (ends b m w s n none went.nothing settled)) where
   by : tells ≡ true → n ≡ 0 → Ends m w s n → P w
   by tell zero (stands is state) = subst P (sym state) (OnTrue_at tell done (sym is ∙ zero))
-  by tell zero (falls is six eight rest below rose) = absurd (omega (arith, is, zero))
+  by tell zero (falls is six eight rest below rose some) = absurd (omega (arith, is, zero))
 
 -- what holds of a status below 6 holds of that now
 pub low_settled : (P : ℕ → Type 0) (tells : Bool) (m w : SinkState) (s n : ℕ) → OnTrue tells (s < 6 → P s) → IsSettled m w s n → OnTrue tells (n < 6 → P n)

@@ -11,3 +11,4 @@ pub mod Loads
 mod Settling
 mod Calls
 mod Clauses
+mod Tried

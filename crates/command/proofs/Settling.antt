@@ -2,7 +2,8 @@
 use Rattle.std.proofs.Common.{◌≡◌, ◌≤◌, ◌⊎◌, ◌∙◌, ◌++◌, ◌+◌, ◌-◌, ◌^◌, ◌∷◌, ℕ, List, [], Option, Some, None, Result, Ok, Err, OnErr, inl, inr, refl, sym, ap, subst, arith, append_assoc, append-nil}
 use Rattle.std.specs.Prelude.{min}
 use Rattle.std.proofs.Math.Nat.{le-min, min-le_right}
-use Rattle.outside.specs.Outside.{SinkState, Rose, Appends, AppendsFront}
+use Rattle.outside.specs.Outside.{SinkState, Rose, Appends, AppendsFront, HasTakenSome}
+use Rattle.command_answers.specs.Went.{HasText}
 use Rattle.command.specs.Settled.{HasTakenNothing}
 
 -- ---- the states of sinks
@@ -45,6 +46,13 @@ front_below None m None x rest none (front, more, cut, is) below = (front, more,
 -- all that was put is a front of itself
 pub whole_front : (b m : Option (List ℕ)) (x : List ℕ) → Appends b m x → AppendsFront b m x
 whole_front b m x is = (x, [], sym (append-nil x), is)
+
+-- where something was taken, the text was something
+pub text_taken : (b m : Option (List ℕ)) (text : List ℕ) → HasTakenNothing b → HasTakenSome m → Appends b m text → HasText b text
+text_taken (Some t) (Some u) text none some is =
+    λ empty. some (same_bytes u (t ++ text) is ∙ ap (λ l. l ++ text) none ∙ empty)
+text_taken (Some t) None text none some is = absurd cc
+text_taken None m text none some is = tt
 
 -- a count that rose below rose since the start
 pub rose_below : (b m w : ℕ) → (m ≡ b) ⊎ Rose b m → Rose m w → Rose b w

@@ -1,5 +1,5 @@
 -- What is prepared and performed went as is due.
-use Rattle.std.proofs.Common.{◌≡◌, ◌≢◌, ◌≤◌, ◌<◌, ◌⊎◌, ◌∙◌, ℕ, List, Option, Some, None, Bool, true, false, inl, inr, refl, sym, subst, ap, arith}
+use Rattle.std.proofs.Common.{◌≡◌, ◌≢◌, ◌≤◌, ◌<◌, ◌⊎◌, ◌∙◌, ℕ, List, [], Option, Some, None, Bool, true, false, inl, inr, refl, sym, subst, ap, arith}
 use Rattle.std.specs.Prelude.{IsSomeAnd, IfSome}
 use Rattle.std.specs.Bool.{OnTrue}
 use Rattle.outside.specs.Outside.{FilesState, SinkState, Outside, outside, Rose, AllStay, NoneFell}
@@ -10,7 +10,7 @@ use Rattle.command_answers.specs.declared.act.PreparedCall.{PreparedCall}
 use Rattle.command_answers.specs.declared.act.Store.{Store}
 use Rattle.command_answers.specs.Files.{Held, target_of}
 use Rattle.command_answers.specs.Acts.{number_of, outcome_of, bytes_due, IsAtTarget}
-use Rattle.command_answers.specs.Went.{IsAnswer, IsStored, Stores, IsWhole, WriteFailed, PutFailed, IsCut, Went}
+use Rattle.command_answers.specs.Went.{IsAnswer, IsStored, Stores, IsWhole, WriteFailed, PutFailed, HasText, IsCut, Went}
 use Rattle.command_answers.specs.Prepared.{IsPrepared, ReadsFailed}
 use Rattle.command_perform.specs.Performed.{StoresIt, OthersKept, StoreFailed, Performed}
 use Rattle.command_answers.proofs.Held.{rose_since}
@@ -38,6 +38,10 @@ write_failed call (Some s) b m n o o' at less failed =
 some_bytes : (s : Option Store) (b n : FilesState) (o o' : SinkState) → StoreFailed s (outside b o) (outside n o') → (bytes : List ℕ) × (bytes_due s ≡ Some bytes)
 some_bytes None b n o o' failed = absurd failed
 some_bytes (Some s) b n o o' failed = (s.bytes.items, refl)
+
+has_text : (taken : Option (List ℕ)) (text : List ℕ) → text ≢ [] → HasText taken text
+has_text (Some taken) text some = some
+has_text None text some = tt
 
 number_low : (s : Status) → number_of s ≤ 9
 number_low status.Done = omega arith
@@ -71,7 +75,7 @@ module _ (call : Call) (b m n : FilesState) (o o' : SinkState) (act : PreparedCa
     front = d.front seven;
     cause = elim (d.cause seven) [
       | inl failed ↦ inl (some_bytes act.store m n o o' failed.0, write_failed call act.store b m n o o' p.at less failed.0, failed.1)
-      | inr failed ↦ inr (failed.0, stores call act.store b.held m.held n.held p.at stay failed.1)
+      | inr failed ↦ inr (failed.0, stores call act.store b.held m.held n.held p.at stay failed.1, has_text o.taken (outcome_of act).text failed.2)
     ];
   }
 

@@ -4,3 +4,4 @@ pub mod Texts
 pub mod Steps
 pub mod Targets
 pub mod Settled
+pub mod Tried

@@ -1,6 +1,6 @@
 -- What a buffer comes to at the end of a call.
 use Rattle.std.specs.Prelude.{◌≡◌, ◌≢◌, ◌⊎◌, ℕ, List, [], Option, Some, None}
-use Rattle.outside.specs.Outside.{SinkState, Rose, Appends}
+use Rattle.outside.specs.Outside.{SinkState, Rose, Appends, HasTakenSome}
 
 -- nothing was taken yet, where it is told
 abbrev pub HasTakenNothing : Option (List ℕ) → Type 0
@@ -14,6 +14,6 @@ pub data IsSettled (buffer below : SinkState) (status now : ℕ) : Type 0 where
   -- the status says that nothing was put, and nothing was written
   idle : now ≡ status → (status ≡ 6) ⊎ (status ≡ 8) → (rest : List ℕ) → Appends below.taken buffer.taken rest
       → below.faults ≡ buffer.faults → IsSettled buffer below status now
-  -- what waited was not taken whole
+  -- what waited, which was something, was not taken whole
   lost : now ≡ 7 → status ≢ 6 → status ≢ 8 → (rest : List ℕ) → Appends below.taken buffer.taken rest
-      → Rose buffer.faults below.faults → IsSettled buffer below status now
+      → Rose buffer.faults below.faults → HasTakenSome buffer.taken → IsSettled buffer below status now

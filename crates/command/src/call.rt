@@ -12,6 +12,7 @@ ghost use Rattle.command_due.specs.CommandsDue.{Outcome};
 ghost use Rattle.command.specs.Made.{Made};
 ghost use Rattle.command_answers.specs.Promise.{HasDone, IsRefusedForTime};
 ghost use Rattle.command.specs.Targets.{IsNoTarget};
+ghost use Rattle.command.specs.Tried.{HasRead, HasWritten};
 
 use crate::carry::carry_out;
 use asm_law::text_and_image::images_told_are_held;
@@ -99,6 +100,14 @@ pub fn rte<F: Files, O: Sink>(alloc: Global, words: &[String], files: &mut F, ou
         (number_of result ≡ 0) ⊎ (number_of result ≡ 7) }
     // With a status but 7 the sink's count of faults is what it was.
     ensures quiet { number_of result ≢ 7 → (O.state out.new).faults ≡ (O.state out.old).faults }
+    // Each file that the words name is read at most once, in the order of the steps, and no other;
+    // with status 0 all that are to be read.
+    ensures reads { HasRead words.now (F.state files.old).reads (F.state files.new).reads
+        (number_of result) }
+    // Each that is to be written is written at most once, and no other; but of `make` only with
+    // status 0, 7 and 8.
+    ensures writes { HasWritten words.now (F.state files.old).writes (F.state files.new).writes
+        (number_of result) }
     // Status 0: of `go`, the text is that of a program that is in time by its text, with these
     // bounds, and the script one, what is stored is the image of the program and holds it, what was
     // put is its report and the log of that image over the script; and over every script for its

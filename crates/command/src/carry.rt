@@ -5,9 +5,12 @@ ghost use Rattle.outside.specs.Outside.{outside, AllStay, Appends, AppendsFront,
 ghost use Rattle.command_words.specs.Calls.{Call, Load, over_of};
 ghost use Rattle.command_words.specs.Words.{call_of, IsCommand, IsMake};
 ghost use Rattle.command_answers.specs.Acts.{number_of};
+ghost use Rattle.command_answers.specs.Files.{sources_of, target_of};
+ghost use Rattle.command_answers.specs.Tried.{HasTried, HasTriedTarget};
 ghost use Rattle.command_answers.specs.Went.{Went, IsUsage};
 ghost use Rattle.command.specs.Made.{Made};
 ghost use Rattle.command.specs.Targets.{IsNoTarget};
+ghost use Rattle.command.specs.Tried.{HasRead, HasWritten};
 
 use crate::{make, prepare};
 use command_answers::{PrepareError, Status};
@@ -39,9 +42,13 @@ fn carry<F: Files, O: Sink>(
     out: &mut O,
 ) -> Status
     requires { over_of (call_of command.now) ≤ 1000 }
-    ensures { Went F.tells (call_of command.now)
+    ensures went { Went F.tells (call_of command.now)
         (outside (F.state files.old) (O.state out.old))
         (outside (F.state files.new) (O.state out.new)) (number_of result) }
+    ensures reads { HasTried (sources_of (call_of command.now)) (F.state files.old).reads
+        (F.state files.new).reads (number_of result) }
+    ensures writes { HasTriedTarget (target_of (call_of command.now)) (F.state files.old).writes
+        (F.state files.new).writes (number_of result) }
 {
     match prepare(alloc, command, files) {
         Ok(act) => perform(alloc, &act, files, out),
@@ -72,6 +79,10 @@ pub fn carry_out<F: Files, O: Sink>(
     ensures others { (name : List ℕ) → IsNoTarget words.now name →
         (F.state files.new).held name ≡ (F.state files.old).held name }
     ensures quiet { number_of result ≢ 7 → (O.state out.new).faults ≡ (O.state out.old).faults }
+    ensures reads { HasRead words.now (F.state files.old).reads (F.state files.new).reads
+        (number_of result) }
+    ensures writes { HasWritten words.now (F.state files.old).writes (F.state files.new).writes
+        (number_of result) }
 {
     one_command();
     one_load();

@@ -1,8 +1,9 @@
 //! `make`.
 
-ghost use Rattle.std.specs.Prelude.{◌≤◌};
+ghost use Rattle.std.specs.Prelude.{◌≡◌, ◌≤◌, ◌∷◌, []};
 ghost use Rattle.outside.specs.Outside.{outside};
 ghost use Rattle.command_answers.specs.Acts.{number_of};
+ghost use Rattle.command_answers.specs.Tried.{HasTried};
 ghost use Rattle.command_words.specs.Words.{load_of};
 ghost use Rattle.command.specs.Made.{Made};
 ghost use Rattle.command.specs.Steps.{GoesOn};
@@ -15,6 +16,13 @@ use outside::{Files, Sink, WriteFault};
 use std::alloc::Global;
 
 /// Stores the script, behind the program, and puts the line.
+#[tactic(
+    auto,
+    using(
+        command_answers::proofs::Trying::tried_last,
+        command_answers::proofs::Trying::tried_at_most
+    )
+)]
 fn store_script<F: Files, O: Sink>(
     load: &Load<'_>,
     texts: &LoadTexts,
@@ -22,9 +30,12 @@ fn store_script<F: Files, O: Sink>(
     out: &mut O,
 ) -> Status
     requires { AreTextsOf load.now.key load.now.count texts.now }
-    ensures { GoesOn F.tells (load_of load.now) texts.now
+    ensures goes_on { GoesOn F.tells (load_of load.now) texts.now
         (outside (F.state files.old) (O.state out.old))
         (outside (F.state files.new) (O.state out.new)) (number_of result) }
+    ensures reads { (F.state files.new).reads ≡ (F.state files.old).reads }
+    ensures writes { HasTried (load.now.script.now ∷ []) (F.state files.old).writes
+        (F.state files.new).writes (number_of result) }
 {
     match files.write(load.script, texts.script.as_bytes()) {
         Ok(()) => match out.put(texts.summary.as_bytes()) {
@@ -43,12 +54,23 @@ fn store_script<F: Files, O: Sink>(
 ///
 /// The answer is `Done`; `Unwritten` where a write or the put failed, and nothing comes after it;
 /// or `Memory`, and then nothing was put, and nothing was stored but the program at most.
+#[tactic(
+    auto,
+    using(
+        command_answers::proofs::Trying::tried_on,
+        command_answers::proofs::Trying::tried_first,
+        command_answers::proofs::Trying::tried_at_most
+    )
+)]
 pub fn make<F: Files, O: Sink>(alloc: Global, load: &Load<'_>, files: &mut F, out: &mut O) -> Status
     requires some { 1 ≤ load.now.count }
     requires few { load.now.count ≤ 64 }
-    ensures { Made F.tells (load_of load.now)
+    ensures made { Made F.tells (load_of load.now)
         (outside (F.state files.old) (O.state out.old))
         (outside (F.state files.new) (O.state out.new)) (number_of result) }
+    ensures reads { (F.state files.new).reads ≡ (F.state files.old).reads }
+    ensures writes { HasTried (load.now.program.now ∷ load.now.script.now ∷ [])
+        (F.state files.old).writes (F.state files.new).writes (number_of result) }
 {
     let Ok(texts) = texts_of(alloc, load.key, load.count) else {
         return Status::Memory;

@@ -5,11 +5,13 @@
 //! what each answer of `prepare` means (`Prepares`): an act that comes to what is due, and that the
 //! machine can run; or a read that failed. Nothing is stored or put here.
 
-ghost use Rattle.std.specs.Prelude.{◌≤◌};
+ghost use Rattle.std.specs.Prelude.{◌≡◌, ◌≤◌};
 ghost use Rattle.outside.specs.Outside.{AllStay, NoneFell};
 ghost use Rattle.command_words.specs.Calls.{over_of};
 ghost use Rattle.command_words.specs.Words.{call_of};
+ghost use Rattle.command_answers.specs.Files.{sources_of};
 ghost use Rattle.command_answers.specs.Prepared.{Prepares};
+ghost use Rattle.command_answers.specs.Tried.{HasTried, status_of};
 
 use command_answers::{PrepareError, PreparedCall};
 use command_images::{prepare_asm, prepare_dis, prepare_migrate, prepare_run, prepare_watch};
@@ -41,6 +43,9 @@ pub fn prepare<'a, F: Files>(
     ensures read_counts { NoneFell (F.state files.old).read_faults (F.state files.new).read_faults }
     ensures write_counts { NoneFell (F.state files.old).write_faults
         (F.state files.new).write_faults }
+    ensures reads { HasTried (sources_of (call_of command.now)) (F.state files.old).reads
+        (F.state files.new).reads (status_of result) }
+    ensures writes { (F.state files.new).writes ≡ (F.state files.old).writes }
 {
     match *command {
         Command::Go {

@@ -12,6 +12,7 @@ ghost use Rattle.command_answers.specs.Promise.{HasDone, IsRefusedForTime};
 ghost use Rattle.command_due.specs.CommandsDue.{Outcome};
 ghost use Rattle.command.specs.Made.{Made};
 ghost use Rattle.command.specs.Targets.{IsNoTarget};
+ghost use Rattle.command.specs.Tried.{HasRead, HasWritten};
 ghost use Rattle.command.specs.Settled.{HasTakenNothing, IsSettled};
 
 use crate::rte;
@@ -87,6 +88,14 @@ pub fn whole_call<F: Files, S: Sink>(
         (number_of result.0 ≡ 0) ⊎ (number_of result.0 ≡ 7) }
     // With a status but 7 the sink's count of faults is what it was.
     ensures quiet { number_of result.0 ≢ 7 → (S.state result.1).faults ≡ (S.state sink).faults }
+    // Each file that the words name is read at most once, in the order of the steps, and no other;
+    // with status 0 all that are to be read.
+    ensures reads { HasRead words.now (F.state files.old).reads (F.state files.new).reads
+        (number_of result.0) }
+    // Each that is to be written is written at most once, and no other; but of `make` only with
+    // status 0, 7 and 8.
+    ensures writes { HasWritten words.now (F.state files.old).writes (F.state files.new).writes
+        (number_of result.0) }
     // Status 0: as of `rte`, and the sink has taken all that is due.
     ensures done { (call : Call) → IsCommand words.now call →
         OnTrue F.tells (number_of result.0 ≡ 0 → HasDone call

@@ -1,3 +1,4 @@
 pub mod Coming
 pub mod Held
 pub mod Judged
+pub mod Trying

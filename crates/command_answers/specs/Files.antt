@@ -1,5 +1,5 @@
 -- Which files a call reads and writes, and what is due of it by what they hold.
-use Rattle.std.specs.Prelude.{ℕ, List, Option, Some, None, IsSomeAnd}
+use Rattle.std.specs.Prelude.{ℕ, List, [], ◌∷◌, ◌++◌, Option, Some, None, IsSomeAnd}
 use Rattle.image.specs.Named.{NamedImage}
 use Rattle.image.specs.declared.raw.RawImage.{RawImage}
 use Rattle.sched_table.specs.Report.{report_text}
@@ -50,6 +50,15 @@ script_of call = None
 abbrev pub log_file_of : Call → Option (List ℕ)
 log_file_of (replay program script log) = Some log
 log_file_of call = None
+
+-- the name, if there is one
+abbrev pub listed : Option (List ℕ) → List (List ℕ)
+listed (Some name) = name ∷ []
+listed None = []
+
+-- all files that are read, in the order of the steps
+abbrev pub sources_of : Call → List (List ℕ)
+sources_of call = source_of call ∷ (listed (script_of call) ++ listed (log_file_of call))
 
 -- the file that is written, if any is
 abbrev pub target_of : Call → Option (List ℕ)

@@ -8,3 +8,4 @@ pub mod Contents
 pub mod Acting
 pub mod Runnable
 pub mod Scripted
+pub mod Tried

@@ -1,6 +1,6 @@
 -- What a call did, by the status that it answers. What is said of bytes is said where the files,
 -- and of what was put where the sink, tell theirs.
-use Rattle.std.specs.Prelude.{◌≡◌, ◌≢◌, ◌<◌, ◌≤◌, ◌⊎◌, ℕ, Bool, List, Option, Some, None, IsSomeAnd, codes}
+use Rattle.std.specs.Prelude.{◌≡◌, ◌≢◌, ◌<◌, ◌≤◌, ◌⊎◌, ℕ, Bool, List, [], Option, Some, None, IsSomeAnd, codes}
 use Rattle.std.specs.Bool.{OnTrue}
 use Rattle.outside.specs.Outside.{Outside, Rose, AllStay, Appends, AppendsFront}
 use Rattle.command_words.specs.Calls.{Call}
@@ -33,15 +33,20 @@ WriteFailed call before now = IsSomeAnd (target_of call) (λ name. Rose (before.
 abbrev pub PutFailed : (before now : Outside) → Type 0
 PutFailed before now = Rose before.out.faults now.out.faults
 
+-- the text that is due is not empty, where the sink tells what it takes
+abbrev pub HasText : Option (List ℕ) → List ℕ → Type 0
+HasText (Some taken) text = text ≢ []
+HasText None text = Unit {0}
+
 -- what is due was cut off: an image was to be stored, its write failed, and nothing was put; or a
--- put failed behind a front of the text, and the image that is due is stored
+-- put failed behind a front of a text that is not empty, and the image that is due is stored
 pub record IsCut (call : Call) (before now : Outside) : Type 0 where
   pub outcome : Outcome
   pub due : IsDue call before.files.held outcome
   pub front : AppendsFront before.out.taken now.out.taken outcome.text
   pub cause :
       (((bytes : List ℕ) × (outcome.image ≡ Some bytes)) × WriteFailed call before now × (now.out.taken ≡ before.out.taken))
-      ⊎ (PutFailed before now × Stores outcome.image (target_of call) before.files.held now.files.held)
+      ⊎ (PutFailed before now × Stores outcome.image (target_of call) before.files.held now.files.held × HasText before.out.taken outcome.text)
 
 abbrev pub SourceFailed : Call → (before now : Outside) → Type 0
 SourceFailed call before now = Rose (before.files.read_faults (source_of call)) (now.files.read_faults (source_of call))

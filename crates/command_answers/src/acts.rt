@@ -1,8 +1,9 @@
 //! Acts.
 
-ghost use Rattle.std.specs.Prelude.{◌≡◌, IfOk};
+ghost use Rattle.std.specs.Prelude.{◌≡◌, ◌≢◌, IfOk};
 ghost use Rattle.command_due.specs.Source.{fault_line};
 ghost use Rattle.command_answers.specs.Acting.{puts};
+ghost use Rattle.command_answers.specs.Acts.{number_of};
 
 use crate::{PreparedCall, Status, fault_line};
 use std::alloc::{AllocError, Global};
@@ -27,7 +28,8 @@ pub fn put_fault<'a>(
     number: u8,
     place: Place,
 ) -> Result<PreparedCall<'a>, AllocError>
-    ensures { IfOk result (λ act. act ≡ puts Status.Text (fault_line number place)) }
+    ensures act { IfOk result (λ act. act ≡ puts Status.Text (fault_line number place)) }
+    ensures refused { IfOk result (λ act. number_of act.status ≢ 0) }
 {
     Ok(put(Status::Text, fault_line(alloc, number, place)?))
 }

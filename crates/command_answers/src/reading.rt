@@ -1,9 +1,10 @@
 //! Reading files.
 
-ghost use Rattle.std.specs.Prelude.{◌≡◌, IfOk, IsSomeAnd};
+ghost use Rattle.std.specs.Prelude.{◌≡◌, ◌∷◌, [], IfErr, IfOk, IsSomeAnd, OnOk};
 ghost use Rattle.std.specs.Bool.{OnTrue};
-ghost use Rattle.outside.specs.Outside.{AllStay, NoneFell, Rose};
+ghost use Rattle.outside.specs.Outside.{AllStay, IsAdded, NoneFell, Rose};
 ghost use Rattle.command_answers.specs.Contents.{IsContent};
+ghost use Rattle.command_answers.specs.Tried.{HasTried, error_status};
 
 use crate::prepare_error::PrepareError;
 use outside::{Files, ReadFault};
@@ -32,11 +33,12 @@ pub enum Content {
     TooLong,
 }
 
-/// What the file of a name holds: its bytes, where they are at most `most`.
+/// What the file of a name holds: its bytes, where they are at most `most`. It is read once.
 ///
 /// # Errors
 ///
 /// `Unread` only where the name's count of faults rose. `Memory` where there is not enough memory.
+#[tactic(auto, using(crate::proofs::Trying::tried_last, crate::proofs::Trying::tried_at_most))]
 pub fn read<F: Files>(files: &mut F, name: &str, most: usize) -> Result<Content, PrepareError>
     ensures content { IfOk result (λ content.
         OnTrue F.tells (IsSomeAnd ((F.state files.old).held name.now) (IsContent most content))) }
@@ -46,6 +48,11 @@ pub fn read<F: Files>(files: &mut F, name: &str, most: usize) -> Result<Content,
     ensures read_counts { NoneFell (F.state files.old).read_faults (F.state files.new).read_faults }
     ensures write_counts { NoneFell (F.state files.old).write_faults
         (F.state files.new).write_faults }
+    ensures read { OnOk result
+        (IsAdded (F.state files.old).reads (F.state files.new).reads name.now) }
+    ensures tried { IfErr result (λ why. HasTried (name.now ∷ [])
+        (F.state files.old).reads (F.state files.new).reads (error_status why)) }
+    ensures writes { (F.state files.new).writes ≡ (F.state files.old).writes }
 {
     match files.read(name, most) {
         Ok(bytes) => Ok(Content::Bytes(bytes)),

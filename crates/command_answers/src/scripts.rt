@@ -6,6 +6,7 @@ ghost use Rattle.script.specs.Faults.{IsFault};
 ghost use Rattle.script.specs.Scripts.{IsScript, longest_text};
 ghost use Rattle.command_due.specs.Script.{script_fault_line};
 ghost use Rattle.command_answers.specs.Acting.{puts};
+ghost use Rattle.command_answers.specs.Acts.{number_of};
 ghost use Rattle.command_answers.specs.Contents.{IsContent};
 
 use crate::acts::put;
@@ -49,6 +50,7 @@ pub fn judge_script(
 pub fn refuse_script<'a>(alloc: Global, fault: &ScriptFault) -> Result<PreparedCall<'a>, AllocError>
     ensures act { IfOk result (λ act. act ≡ puts Status.Script (script_fault_line fault.now)) }
     ensures is_fault { IfOk result (λ act. fault.now ≢ ScriptFault.Memory) }
+    ensures refused { IfOk result (λ act. number_of act.status ≢ 0) }
 {
     match fault {
         ScriptFault::Bad { .. } => Ok(put(Status::Script, script_fault_line(alloc, fault)?)),

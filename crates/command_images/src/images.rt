@@ -1,7 +1,7 @@
 //! Image files judged, and `migrate`.
 
-ghost use Rattle.std.specs.Prelude.{◌≡◌, ℕ, List, Some, Err, IfOk};
-ghost use Rattle.command_answers.specs.Acts.{outcome_of};
+ghost use Rattle.std.specs.Prelude.{◌∷◌, [], ◌≢◌, ◌≡◌, ℕ, List, Some, Err, IfOk};
+ghost use Rattle.command_answers.specs.Acts.{number_of, outcome_of};
 ghost use Rattle.command_due.specs.AsmDue.{keeps};
 ghost use Rattle.command_due.specs.CommandsDue.{IsImageRefused, IsMigrateDue, stored, told};
 ghost use Rattle.image.specs.InRange.{IsInRange};
@@ -13,6 +13,7 @@ ghost use Rattle.command_words.specs.Calls as call;
 ghost use Rattle.command_answers.specs.Acting.{CanBeDone, IsQuiet};
 ghost use Rattle.command_answers.specs.Contents.{IsContent};
 ghost use Rattle.command_answers.specs.Prepared.{Prepares};
+ghost use Rattle.command_answers.specs.Tried.{HasTried, status_of};
 ghost use Rattle.command_answers.specs.Runnable.{IsRunnable};
 
 use crate::{FileFault, load};
@@ -76,6 +77,7 @@ pub fn refuse_image<'a>(alloc: Global, fault: FileFault) -> Result<PreparedCall<
     ensures due { IfOk result (λ act. (bytes : List ℕ) → Loads bytes (Err fault) →
         IsImageRefused bytes (outcome_of act)) }
     ensures quiet { IfOk result IsQuiet }
+    ensures refused { IfOk result (λ act. number_of act.status ≢ 0) }
 {
     let line = line_of(alloc, fault)?;
     Ok(put(Status::Image, line))
@@ -120,6 +122,7 @@ fn migrate_act<'a>(
 }
 
 /// `migrate`.
+#[tactic(auto, using(command_answers::proofs::Trying::tried_last))]
 pub fn prepare_migrate<'a, F: Files>(
     alloc: Global,
     image: &str,
@@ -132,6 +135,9 @@ pub fn prepare_migrate<'a, F: Files>(
     ensures read_counts { NoneFell (F.state files.old).read_faults (F.state files.new).read_faults }
     ensures write_counts { NoneFell (F.state files.old).write_faults
         (F.state files.new).write_faults }
+    ensures reads { HasTried (image.now ∷ []) (F.state files.old).reads
+        (F.state files.new).reads (status_of result) }
+    ensures writes { (F.state files.new).writes ≡ (F.state files.old).writes }
 {
     let content = read(files, image, LONGEST_IMAGE)?;
     match migrate_act(alloc, &content, target) {

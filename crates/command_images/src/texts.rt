@@ -1,6 +1,6 @@
 //! `asm` and `dis`.
 
-ghost use Rattle.std.specs.Prelude.{◌≡◌, ℕ, List, Some, Err, IfOk, length};
+ghost use Rattle.std.specs.Prelude.{◌∷◌, [], ◌≡◌, ℕ, List, Some, Err, IfOk, length};
 ghost use Rattle.command_answers.specs.Acts.{outcome_of};
 ghost use Rattle.command_due.specs.AsmDue.{IsAsmDue, IsDisDue, keeps};
 ghost use Rattle.assembler.specs.Faults.{longest_text};
@@ -8,6 +8,7 @@ ghost use Rattle.command_due.specs.CommandsDue.{told};
 ghost use Rattle.command_answers.specs.Acting.{CanBeDone, IsQuiet};
 ghost use Rattle.command_answers.specs.Contents.{IsContent};
 ghost use Rattle.command_answers.specs.Prepared.{Prepares};
+ghost use Rattle.command_answers.specs.Tried.{HasTried, status_of};
 ghost use Rattle.image.specs.InRange.{IsInRange};
 ghost use Rattle.image.specs.Raw.{named_of};
 ghost use Rattle.command_images.specs.Telling.{LoadsText};
@@ -103,6 +104,7 @@ fn asm_act<'a>(
 }
 
 /// `asm`.
+#[tactic(auto, using(command_answers::proofs::Trying::tried_last))]
 pub fn prepare_asm<'a, F: Files>(
     alloc: Global,
     text: &str,
@@ -115,6 +117,9 @@ pub fn prepare_asm<'a, F: Files>(
     ensures read_counts { NoneFell (F.state files.old).read_faults (F.state files.new).read_faults }
     ensures write_counts { NoneFell (F.state files.old).write_faults
         (F.state files.new).write_faults }
+    ensures reads { HasTried (text.now ∷ []) (F.state files.old).reads
+        (F.state files.new).reads (status_of result) }
+    ensures writes { (F.state files.new).writes ≡ (F.state files.old).writes }
 {
     let content = read(files, text, LONGEST_IMAGE_TEXT)?;
     match asm_act(alloc, &content, image) {
@@ -213,6 +218,7 @@ fn dis_act<'a>(
 }
 
 /// `dis`.
+#[tactic(auto, using(command_answers::proofs::Trying::tried_last))]
 pub fn prepare_dis<'a, F: Files>(
     alloc: Global,
     image: &str,
@@ -225,6 +231,9 @@ pub fn prepare_dis<'a, F: Files>(
     ensures read_counts { NoneFell (F.state files.old).read_faults (F.state files.new).read_faults }
     ensures write_counts { NoneFell (F.state files.old).write_faults
         (F.state files.new).write_faults }
+    ensures reads { HasTried (image.now ∷ []) (F.state files.old).reads
+        (F.state files.new).reads (status_of result) }
+    ensures writes { (F.state files.new).writes ≡ (F.state files.old).writes }
 {
     let content = read(files, image, LONGEST_IMAGE)?;
     match dis_act(alloc, &content, text) {

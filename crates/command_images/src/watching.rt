@@ -1,6 +1,6 @@
 //! `watch`.
 
-ghost use Rattle.std.specs.Prelude.{◌≡◌, ℕ, List, None, IfOk, IsSomeAnd};
+ghost use Rattle.std.specs.Prelude.{◌∷◌, [], ◌≡◌, ℕ, List, None, IfOk, IsSomeAnd};
 ghost use Rattle.std.specs.Bool.{OnTrue};
 ghost use Rattle.command_answers.specs.Acts.{outcome_of};
 ghost use Rattle.outside.specs.Outside.{AllStay, NoneFell, Rose};
@@ -9,6 +9,7 @@ ghost use Rattle.command_words.specs.Calls as call;
 ghost use Rattle.command_answers.specs.Acting.{IsQuiet};
 ghost use Rattle.command_answers.specs.Contents.{IsContent};
 ghost use Rattle.command_answers.specs.Prepared.{Prepares};
+ghost use Rattle.command_answers.specs.Tried.{HasTried, status_of};
 ghost use Rattle.command_answers.specs.Runnable.{IsRunnable, RunsRaw};
 ghost use Rattle.command_images.specs.Watched.{IsSeenDue, IsTold};
 
@@ -58,6 +59,7 @@ fn watch_act<'a>(
 }
 
 /// The second half of `watch`: the script of an image that is valid.
+#[tactic(auto, using(command_answers::proofs::Trying::tried_last))]
 fn watch_on<'a, F: Files>(
     alloc: Global,
     raw: &RawImage,
@@ -77,6 +79,9 @@ fn watch_on<'a, F: Files>(
     ensures read_counts { NoneFell (F.state files.old).read_faults (F.state files.new).read_faults }
     ensures write_counts { NoneFell (F.state files.old).write_faults
         (F.state files.new).write_faults }
+    ensures reads { HasTried (script.now ∷ []) (F.state files.old).reads
+        (F.state files.new).reads (status_of result) }
+    ensures writes { (F.state files.new).writes ≡ (F.state files.old).writes }
 {
     let content = read(files, script, LONGEST_SCRIPT)?;
     match watch_act(alloc, raw, &content, stop) {
@@ -86,6 +91,14 @@ fn watch_on<'a, F: Files>(
 }
 
 /// `watch`: the image is read and judged, and the script only where the image is valid.
+#[tactic(
+    auto,
+    using(
+        command_answers::proofs::Trying::tried_first,
+        command_answers::proofs::Trying::tried_on,
+        command_answers::proofs::Trying::tried_alone
+    )
+)]
 pub fn prepare_watch<'a, F: Files>(
     alloc: Global,
     image: &str,
@@ -99,6 +112,9 @@ pub fn prepare_watch<'a, F: Files>(
     ensures read_counts { NoneFell (F.state files.old).read_faults (F.state files.new).read_faults }
     ensures write_counts { NoneFell (F.state files.old).write_faults
         (F.state files.new).write_faults }
+    ensures reads { HasTried (image.now ∷ script.now ∷ []) (F.state files.old).reads
+        (F.state files.new).reads (status_of result) }
+    ensures writes { (F.state files.new).writes ≡ (F.state files.old).writes }
 {
     let content = read(files, image, LONGEST_IMAGE)?;
     match load_content(alloc, &content) {

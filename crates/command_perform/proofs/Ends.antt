@@ -1,11 +1,11 @@
 -- How acts end.
-use Rattle.std.proofs.Common.{◌++◌, ℕ, Bool, List, [], Option, Some, None, Result, Ok, Err, OnOk, OnErr, inl, inr, refl, arith}
+use Rattle.std.proofs.Common.{◌≡◌, ◌≢◌, ◌++◌, ◌∷◌, ℕ, Bool, List, [], Option, Some, None, Result, Ok, Err, OnOk, OnErr, inl, inr, refl, arith}
 use Rattle.std.specs.Prelude.{IsSomeAnd}
 use Rattle.command_answers.specs.declared.act.Store.{Store}
 use Rattle.command_answers.specs.declared.act.PreparedCall.{PreparedCall}
 use Rattle.command_answers.specs.Acts.{outcome_of}
 use Rattle.outside.specs.Outside.{outside, FilesState, SinkState, Rose, Appends, AppendsFront, Appends-nothing, Appends-append, AppendsFront-append}
-use Rattle.command_perform.specs.Performed.{OthersKept, StoreFailed, Performed}
+use Rattle.command_perform.specs.Performed.{OthersKept, StoreFailed, Performed, WritesIt}
 
 -- ---- text and log
 
@@ -24,6 +24,19 @@ pub front_told : {A E : Type 0} (r : Result A E) (a b c : Option (List ℕ)) (te
 front_told (Ok x) a b c text log first then = tt
 front_told (Err e) a b c text log first then = AppendsFront-append a b c text log first then
 
+-- a put failed, so something was to be put
+pub some_before : (text log : List ℕ) → text ≢ [] → text ++ log ≢ []
+some_before [] log some = absurd (some refl)
+some_before (b ∷ text) log some = λ none. absurd cc
+
+behind : (text log : List ℕ) → log ≢ [] → text ++ log ≢ []
+behind [] log some = some
+behind (b ∷ text) log some = λ none. absurd cc
+
+pub some_log : {A E : Type 0} (r : Result A E) (text log : List ℕ) → OnErr r (log ≢ []) → OnErr r (text ++ log ≢ [])
+some_log (Ok x) text log some = tt
+some_log (Err e) text log some = behind text log some
+
 -- ---- the image
 
 -- a write that failed was that of the image
@@ -33,9 +46,9 @@ failed_store None files files' out rose = absurd rose
 failed_store (Some s) files files' out rose = rose
 
 pub not_stored : (tells : Bool) (act : PreparedCall) (files files' : FilesState) (out : SinkState)
-    → IsSomeAnd act.store (λ s. Rose (files.write_faults s.name.now) (files'.write_faults s.name.now)) → OthersKept act.store files.held files'.held
+    → IsSomeAnd act.store (λ s. Rose (files.write_faults s.name.now) (files'.write_faults s.name.now)) → OthersKept act.store files.held files'.held → files'.reads ≡ files.reads → WritesIt act.store files.writes files'.writes
     → Performed tells act (outside files out) (outside files' out) 7
-not_stored tells act files files' out rose others = record {
+not_stored tells act files files' out rose others unread written = record {
   range = inr (inl refl);
   whole = λ not_seven not_eight. absurd (not_seven refl);
   stored = λ not_seven not_eight. absurd (not_seven refl);
@@ -45,4 +58,6 @@ not_stored tells act files files' out rose others = record {
   kept = λ eight. absurd (omega (arith, eight));
   quiet = λ not_seven. absurd (not_seven refl);
   others = others;
+  unread = unread;
+  written = written;
 }

@@ -1,6 +1,6 @@
 //! Machines by the dispatch of a run.
 
-ghost use Rattle.std.specs.Prelude.{◌≡◌, Some, IfOk, OnOk, OnErr, map};
+ghost use Rattle.std.specs.Prelude.{◌≡◌, ◌≢◌, [], Some, IfOk, OnOk, OnErr, map};
 ghost use Rattle.command_answers.specs.Acts.{CanRun, log_due};
 ghost use Rattle.image.specs.Raw.{image_of};
 ghost use Rattle.outside.specs.Outside.{Appends, AppendsFront, Rose};
@@ -82,6 +82,7 @@ fn put_by_ranks<O: Sink>(
         (log_due (Some run.now))) }
     ensures front { OnErr result (AppendsFront (O.state out.old).taken (O.state out.new).taken
         (log_due (Some run.now))) }
+    ensures some { OnErr result (log_due (Some run.now) ≢ []) }
     ensures failed { OnErr result (Rose (O.state out.old).faults (O.state out.new).faults) }
     ensures quiet { OnOk result ((O.state out.new).faults ≡ (O.state out.old).faults) }
 {
@@ -104,6 +105,7 @@ fn put_by_deadlines<O: Sink>(
         (log_due (Some run.now))) }
     ensures front { OnErr result (AppendsFront (O.state out.old).taken (O.state out.new).taken
         (log_due (Some run.now))) }
+    ensures some { OnErr result (log_due (Some run.now) ≢ []) }
     ensures failed { OnErr result (Rose (O.state out.old).faults (O.state out.new).faults) }
     ensures quiet { OnOk result ((O.state out.new).faults ≡ (O.state out.old).faults) }
 {
@@ -145,6 +147,7 @@ impl AnyMachine {
             (log_due (Some run.now))) }
         ensures front { OnErr result (AppendsFront (O.state out.old).taken (O.state out.new).taken
             (log_due (Some run.now))) }
+        ensures some { OnErr result (log_due (Some run.now) ≢ []) }
         ensures failed { OnErr result (Rose (O.state out.old).faults (O.state out.new).faults) }
         ensures quiet { OnOk result ((O.state out.new).faults ≡ (O.state out.old).faults) }
     {

@@ -1,10 +1,10 @@
 //! Performing.
 
-ghost use Rattle.std.specs.Prelude.{◌≡◌, ◌<◌, ◌++◌, IfOk, IfSome, IsSomeAnd, OnOk, OnErr};
+ghost use Rattle.std.specs.Prelude.{◌≡◌, ◌≢◌, ◌<◌, ◌++◌, [], IfOk, IfSome, IsSomeAnd, OnOk, OnErr};
 ghost use Rattle.outside.specs.Outside.{outside, AllStay, Appends, AppendsFront, Rose};
 ghost use Rattle.command_answers.specs.Acts.{CanRun, log_due, number_of};
 ghost use Rattle.command_answers.specs.Went.{IsAnswer};
-ghost use Rattle.command_perform.specs.Performed.{OthersKept, Performed, StoresIt};
+ghost use Rattle.command_perform.specs.Performed.{OthersKept, Performed, StoresIt, WritesIt};
 ghost use Rattle.command_perform.specs.Ready.{IsReady, run_of};
 
 use crate::ready::Ready;
@@ -34,6 +34,8 @@ fn store<F: Files>(image: &Option<Store<'_>>, files: &mut F) -> Result<(), Write
     ensures kept { result ≡ Err WriteFault.Memory →
         AllStay (F.state files.old).held (F.state files.new).held }
     ensures others { OthersKept image.now (F.state files.old).held (F.state files.new).held }
+    ensures reads { (F.state files.new).reads ≡ (F.state files.old).reads }
+    ensures written { WritesIt image.now (F.state files.old).writes (F.state files.new).writes }
 {
     match image {
         Some(image) => files.write(image.name, image.bytes.as_slice()),
@@ -46,6 +48,7 @@ fn put_text<O: Sink>(text: &[u8], out: &mut O) -> Result<(), SinkFailed>
     ensures whole { OnOk result (Appends (O.state out.old).taken (O.state out.new).taken text.now) }
     ensures front { OnErr result (AppendsFront (O.state out.old).taken
         (O.state out.new).taken text.now) }
+    ensures some { OnErr result (text.now ≢ []) }
     ensures failed { OnErr result (Rose (O.state out.old).faults (O.state out.new).faults) }
     ensures quiet { OnOk result ((O.state out.new).faults ≡ (O.state out.old).faults) }
 {
@@ -63,6 +66,7 @@ fn tell<O: Sink>(text: &[u8], run: Option<Ready<'_>>, out: &mut O) -> Result<(),
         (text.now ++ log_due (run_of run.entry))) }
     ensures front { OnErr result (AppendsFront (O.state out.old).taken (O.state out.new).taken
         (text.now ++ log_due (run_of run.entry))) }
+    ensures some { OnErr result (text.now ++ log_due (run_of run.entry) ≢ []) }
     ensures failed { OnErr result (Rose (O.state out.old).faults (O.state out.new).faults) }
     ensures quiet { OnOk result ((O.state out.new).faults ≡ (O.state out.old).faults) }
 {
@@ -74,8 +78,8 @@ fn tell<O: Sink>(text: &[u8], run: Option<Ready<'_>>, out: &mut O) -> Result<(),
 }
 
 /// Stores the image of the act, puts its text, unless it is empty, and then the log of its run, one
-/// put a line. The answer is the act's status; `Unwritten` where the write or a put failed, and
-/// nothing is put after that; `Memory` where there is not enough memory for the machine or for the
+/// put a line. No file is read, and that of the image is written once. The answer is the act's
+/// status; `Unwritten` where the write or a put failed, and nothing is put after that; `Memory` where there is not enough memory for the machine or for the
 /// write, and then nothing was stored or put.
 pub fn perform<F: Files, O: Sink>(
     alloc: Global,

@@ -1,6 +1,6 @@
 //! Runs made ready.
 
-ghost use Rattle.std.specs.Prelude.{◌≡◌, Some, IfOk, OnOk, OnErr};
+ghost use Rattle.std.specs.Prelude.{◌≡◌, ◌≢◌, [], Some, IfOk, OnOk, OnErr};
 ghost use Rattle.command_answers.specs.Acts.{CanRun, log_due};
 ghost use Rattle.image.specs.Raw.{image_of};
 ghost use Rattle.outside.specs.Outside.{Appends, AppendsFront, Rose};
@@ -47,6 +47,7 @@ impl<'a> Ready<'a> {
             (log_due (Some self.old.run.now))) }
         ensures front { OnErr result (AppendsFront (O.state out.old).taken (O.state out.new).taken
             (log_due (Some self.old.run.now))) }
+        ensures some { OnErr result (log_due (Some self.old.run.now) ≢ []) }
         ensures failed { OnErr result (Rose (O.state out.old).faults (O.state out.new).faults) }
         ensures quiet { OnOk result ((O.state out.new).faults ≡ (O.state out.old).faults) }
     {

@@ -1,6 +1,6 @@
 //! `go`.
 
-ghost use Rattle.std.specs.Prelude.{◌≡◌, ◌≤◌, ℕ, List, Some, IfOk, IsSomeAnd};
+ghost use Rattle.std.specs.Prelude.{◌∷◌, [], ◌≡◌, ◌≤◌, ℕ, List, Some, IfOk, IsSomeAnd};
 ghost use Rattle.std.specs.Bool.{OnTrue};
 ghost use Rattle.command_answers.specs.Acts.{outcome_of};
 ghost use Rattle.outside.specs.Outside.{AllStay, NoneFell, Rose};
@@ -9,6 +9,7 @@ ghost use Rattle.command_words.specs.Calls as call;
 ghost use Rattle.command_answers.specs.Acting.{CanBeDone};
 ghost use Rattle.command_answers.specs.Contents.{IsContent};
 ghost use Rattle.command_answers.specs.Prepared.{Prepares};
+ghost use Rattle.command_answers.specs.Tried.{HasTried, status_of};
 ghost use Rattle.command_programs.specs.Runnable.{IsRunnableBuilt, RunsBuilt};
 ghost use Rattle.command_programs.specs.Scripted.{IsBuiltRunDue, built_run};
 
@@ -71,6 +72,7 @@ fn go_act<'a>(
 }
 
 /// The second half of `go`: the script of a program that is timely.
+#[tactic(auto, using(command_answers::proofs::Trying::tried_last))]
 fn go_on<'a, F: Files>(
     alloc: Global,
     built: Built,
@@ -90,6 +92,9 @@ fn go_on<'a, F: Files>(
     ensures read_counts { NoneFell (F.state files.old).read_faults (F.state files.new).read_faults }
     ensures write_counts { NoneFell (F.state files.old).write_faults
         (F.state files.new).write_faults }
+    ensures reads { HasTried (script.now ∷ []) (F.state files.old).reads
+        (F.state files.new).reads (status_of result) }
+    ensures writes { (F.state files.new).writes ≡ (F.state files.old).writes }
 {
     let content = read(files, script, LONGEST_SCRIPT)?;
     match go_act(alloc, built, &content, image) {
@@ -99,6 +104,14 @@ fn go_on<'a, F: Files>(
 }
 
 /// `go`: the program is read and judged, and the script only where the program is timely.
+#[tactic(
+    auto,
+    using(
+        command_answers::proofs::Trying::tried_first,
+        command_answers::proofs::Trying::tried_on,
+        command_answers::proofs::Trying::tried_alone
+    )
+)]
 pub fn prepare_go<'a, F: Files>(
     alloc: Global,
     program: &str,
@@ -114,6 +127,9 @@ pub fn prepare_go<'a, F: Files>(
     ensures read_counts { NoneFell (F.state files.old).read_faults (F.state files.new).read_faults }
     ensures write_counts { NoneFell (F.state files.old).write_faults
         (F.state files.new).write_faults }
+    ensures reads { HasTried (program.now ∷ script.now ∷ []) (F.state files.old).reads
+        (F.state files.new).reads (status_of result) }
+    ensures writes { (F.state files.new).writes ≡ (F.state files.old).writes }
 {
     let content = read(files, program, LONGEST_PROGRAM)?;
     match compile_content(alloc, &content, over) {

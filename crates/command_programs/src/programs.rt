@@ -1,11 +1,11 @@
 //! `check`, `json`, `slack`, `print` and `compile`.
 
-ghost use Rattle.std.specs.Prelude.{◌≡◌, ◌≤◌, ℕ, List, Some, Ok, Err, IfOk};
+ghost use Rattle.std.specs.Prelude.{◌∷◌, [], ◌≢◌, ◌≡◌, ◌≤◌, ℕ, List, Some, Ok, Err, IfOk};
 ghost use Rattle.syntax.specs.Tokens.{longest_text};
 ghost use Rattle.command_due.specs.CommandsDue.{IsRefused, IsReportDue, IsPrintDue, IsCompileDue};
 ghost use Rattle.command_due.specs.SpareDue.{IsSlackDue};
 ghost use Rattle.compile.specs.Compile.{Compiles};
-ghost use Rattle.command_answers.specs.Acts.{outcome_of};
+ghost use Rattle.command_answers.specs.Acts.{number_of, outcome_of};
 ghost use Rattle.outside.specs.Outside.{AllStay, NoneFell};
 ghost use Rattle.command_words.specs.Calls as call;
 ghost use Rattle.sched_table.specs.Late.{IsNamed};
@@ -13,6 +13,7 @@ ghost use Rattle.command_answers.specs.Acting.{CanBeDone, IsQuiet, puts};
 ghost use Rattle.command_answers.specs.Contents.{IsContent};
 ghost use Rattle.command_programs.specs.Formats.{shown, report_call};
 ghost use Rattle.command_answers.specs.Prepared.{Prepares};
+ghost use Rattle.command_answers.specs.Tried.{HasTried, status_of};
 ghost use Rattle.command_programs.specs.Runnable.{IsRunnableBuilt, Readies};
 
 use crate::{compile_content, read_content, slack_text};
@@ -63,6 +64,7 @@ pub fn refuse<'a>(
     ensures due { IfOk result (λ act. (over : ℕ) (text : List ℕ) → Compiles over text (Err fault) →
         IsRefused (shown format) over text (outcome_of act)) }
     ensures quiet { IfOk result IsQuiet }
+    ensures refused { IfOk result (λ act. number_of act.status ≢ 0) }
 {
     match fault {
         CompileFault::Text { number, place } => put_fault(alloc, number, place),
@@ -189,6 +191,7 @@ fn compile_act<'a>(
 }
 
 /// `check` and `json`, by the format of the report.
+#[tactic(auto, using(command_answers::proofs::Trying::tried_last))]
 pub fn prepare_report<'a, F: Files>(
     alloc: Global,
     format: Format,
@@ -203,6 +206,9 @@ pub fn prepare_report<'a, F: Files>(
     ensures read_counts { NoneFell (F.state files.old).read_faults (F.state files.new).read_faults }
     ensures write_counts { NoneFell (F.state files.old).write_faults
         (F.state files.new).write_faults }
+    ensures reads { HasTried (program.now ∷ []) (F.state files.old).reads
+        (F.state files.new).reads (status_of result) }
+    ensures writes { (F.state files.new).writes ≡ (F.state files.old).writes }
 {
     let content = read(files, program, LONGEST_PROGRAM)?;
     match report_act(alloc, format, &content, over) {
@@ -212,6 +218,7 @@ pub fn prepare_report<'a, F: Files>(
 }
 
 /// `slack`.
+#[tactic(auto, using(command_answers::proofs::Trying::tried_last))]
 pub fn prepare_slack<'a, F: Files>(
     alloc: Global,
     program: &str,
@@ -225,6 +232,9 @@ pub fn prepare_slack<'a, F: Files>(
     ensures read_counts { NoneFell (F.state files.old).read_faults (F.state files.new).read_faults }
     ensures write_counts { NoneFell (F.state files.old).write_faults
         (F.state files.new).write_faults }
+    ensures reads { HasTried (program.now ∷ []) (F.state files.old).reads
+        (F.state files.new).reads (status_of result) }
+    ensures writes { (F.state files.new).writes ≡ (F.state files.old).writes }
 {
     let content = read(files, program, LONGEST_PROGRAM)?;
     match slack_act(alloc, &content, over) {
@@ -234,6 +244,7 @@ pub fn prepare_slack<'a, F: Files>(
 }
 
 /// `print`.
+#[tactic(auto, using(command_answers::proofs::Trying::tried_last))]
 pub fn prepare_print<'a, F: Files>(
     alloc: Global,
     program: &str,
@@ -245,6 +256,9 @@ pub fn prepare_print<'a, F: Files>(
     ensures read_counts { NoneFell (F.state files.old).read_faults (F.state files.new).read_faults }
     ensures write_counts { NoneFell (F.state files.old).write_faults
         (F.state files.new).write_faults }
+    ensures reads { HasTried (program.now ∷ []) (F.state files.old).reads
+        (F.state files.new).reads (status_of result) }
+    ensures writes { (F.state files.new).writes ≡ (F.state files.old).writes }
 {
     let content = read(files, program, LONGEST_PROGRAM)?;
     match print_act(alloc, &content) {
@@ -254,6 +268,7 @@ pub fn prepare_print<'a, F: Files>(
 }
 
 /// `compile`.
+#[tactic(auto, using(command_answers::proofs::Trying::tried_last))]
 pub fn prepare_compile<'a, F: Files>(
     alloc: Global,
     program: &str,
@@ -268,6 +283,9 @@ pub fn prepare_compile<'a, F: Files>(
     ensures read_counts { NoneFell (F.state files.old).read_faults (F.state files.new).read_faults }
     ensures write_counts { NoneFell (F.state files.old).write_faults
         (F.state files.new).write_faults }
+    ensures reads { HasTried (program.now ∷ []) (F.state files.old).reads
+        (F.state files.new).reads (status_of result) }
+    ensures writes { (F.state files.new).writes ≡ (F.state files.old).writes }
 {
     let content = read(files, program, LONGEST_PROGRAM)?;
     match compile_act(alloc, &content, image, over) {

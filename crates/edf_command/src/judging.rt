@@ -1,7 +1,7 @@
 //! Programs whose demand is judged.
 
-ghost use Rattle.std.specs.Prelude.{◌≡◌, ℕ, List, Option, Some, IfOk, IfErr};
-ghost use Rattle.command_answers.specs.Acts.{outcome_of};
+ghost use Rattle.std.specs.Prelude.{◌≡◌, ◌≢◌, ℕ, List, Option, Some, IfOk, IfErr};
+ghost use Rattle.command_answers.specs.Acts.{number_of, outcome_of};
 ghost use Rattle.command_due.specs.Source.{IsWritten};
 ghost use Rattle.command_answers.specs.Acting.{IsQuiet};
 ghost use Rattle.command_answers.specs.Contents.{IsContent};
@@ -124,6 +124,7 @@ pub fn refuse_source<'a>(
     ensures due { IfOk result (λ act. (text : List ℕ) (script : Option (List ℕ)) →
         Stops text fault → IsEdfDue (Some text) script (outcome_of act)) }
     ensures quiet { IfOk result IsQuiet }
+    ensures refused { IfOk result (λ act. number_of act.status ≢ 0) }
 {
     match fault {
         ProgramTextFault::Text { number, place } => put_fault(alloc, number, place),

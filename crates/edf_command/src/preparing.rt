@@ -1,10 +1,11 @@
 //! `edf`.
 
-ghost use Rattle.std.specs.Prelude.{◌≡◌, Err, None, IfOk, IsSomeAnd};
+ghost use Rattle.std.specs.Prelude.{◌≡◌, ◌∷◌, [], Err, None, IfOk, IsSomeAnd};
 ghost use Rattle.std.specs.Bool.{OnTrue};
 ghost use Rattle.command_answers.specs.Acts.{outcome_of};
 ghost use Rattle.command_answers.specs.Acting.{CanBeDone};
 ghost use Rattle.command_answers.specs.Prepared.{Failed, Prepares};
+ghost use Rattle.command_answers.specs.Tried.{HasTried, MayHaveTried, status_of};
 ghost use Rattle.image.specs.Raw.{named_of};
 ghost use Rattle.outside.specs.Outside.{AllStay, NoneFell};
 ghost use Rattle.edf_command.specs.Judged.{IsMet, IsScriptDue, IsSubject, IsSubjectDue};
@@ -18,6 +19,7 @@ use sched_demand::Judgement;
 use std::alloc::Global;
 
 /// The last part of `edf`: the script of a program whose demand is met.
+#[tactic(auto, using(command_answers::proofs::Trying::tried_last))]
 fn run_on<'a, F: Files>(
     alloc: Global,
     subject: Subject,
@@ -36,6 +38,9 @@ fn run_on<'a, F: Files>(
     ensures read_counts { NoneFell (F.state files.old).read_faults (F.state files.new).read_faults }
     ensures write_counts { NoneFell (F.state files.old).write_faults
         (F.state files.new).write_faults }
+    ensures reads { HasTried (script.now ∷ []) (F.state files.old).reads
+        (F.state files.new).reads (status_of result) }
+    ensures writes { (F.state files.new).writes ≡ (F.state files.old).writes }
 {
     let content = read(files, script, LONGEST_SCRIPT)?;
     match run_act(alloc, subject, &content) {
@@ -61,6 +66,9 @@ fn judged_on<'a, F: Files>(
     ensures read_counts { NoneFell (F.state files.old).read_faults (F.state files.new).read_faults }
     ensures write_counts { NoneFell (F.state files.old).write_faults
         (F.state files.new).write_faults }
+    ensures reads { MayHaveTried (script.now ∷ []) (F.state files.old).reads
+        (F.state files.new).reads (status_of result) }
+    ensures writes { (F.state files.new).writes ≡ (F.state files.old).writes }
 {
     if let Judgement::Feasible { .. } = subject.answer {
         return run_on(alloc, subject, script, files);
@@ -72,6 +80,14 @@ fn judged_on<'a, F: Files>(
 }
 
 /// `edf`: the program is read and judged, and the script only where its demand is met.
+#[tactic(
+    auto,
+    using(
+        command_answers::proofs::Trying::tried_first,
+        command_answers::proofs::Trying::tried_perhaps,
+        command_answers::proofs::Trying::tried_alone
+    )
+)]
 pub fn prepare_edf<'a, F: Files>(
     alloc: Global,
     program: &str,
@@ -84,6 +100,9 @@ pub fn prepare_edf<'a, F: Files>(
     ensures read_counts { NoneFell (F.state files.old).read_faults (F.state files.new).read_faults }
     ensures write_counts { NoneFell (F.state files.old).write_faults
         (F.state files.new).write_faults }
+    ensures reads { HasTried (program.now ∷ script.now ∷ []) (F.state files.old).reads
+        (F.state files.new).reads (status_of result) }
+    ensures writes { (F.state files.new).writes ≡ (F.state files.old).writes }
 {
     let content = read(files, program, LONGEST_PROGRAM)?;
     match judge_source(alloc, content) {

@@ -1,7 +1,7 @@
 //! Programs run, where their demand is met.
 
-ghost use Rattle.std.specs.Prelude.{◌≡◌, ◌++◌, ℕ, List, None, IfOk};
-ghost use Rattle.command_answers.specs.Acts.{outcome_of};
+ghost use Rattle.std.specs.Prelude.{◌≡◌, ◌≢◌, ◌++◌, ℕ, List, None, IfOk};
+ghost use Rattle.command_answers.specs.Acts.{number_of, outcome_of};
 ghost use Rattle.command_due.specs.CommandsDue.{told};
 ghost use Rattle.command_answers.specs.Acting.{CanBeDone, IsQuiet, puts};
 ghost use Rattle.command_answers.specs.Contents.{IsContent};
@@ -26,6 +26,7 @@ pub fn refuse_unfit<'a>(alloc: Global, subject: &Subject) -> Result<PreparedCall
     ensures act { IfOk result (λ act. act ≡
         puts Status.Late (edf_report (named_of subject.now.image) subject.now.answer)) }
     ensures quiet { IfOk result IsQuiet }
+    ensures refused { IfOk result (λ act. number_of act.status ≢ 0) }
 {
     let text = report(alloc, &subject.image, subject.answer)?;
     Ok(put(Status::Late, text))

@@ -1,6 +1,6 @@
 //! The run to the end of the script.
 
-ghost use Rattle.std.specs.Prelude.{◌≡◌, ◌≤◌, All, OnOk, OnErr};
+ghost use Rattle.std.specs.Prelude.{◌≡◌, ◌≢◌, ◌≤◌, [], All, OnOk, OnErr};
 ghost use Rattle.outside.specs.Outside.{Appends, AppendsFront, Rose};
 ghost use Rattle.event_log.specs.InRange.{AreIn};
 ghost use Rattle.machine_semantics.specs.Image.{Image};
@@ -39,6 +39,9 @@ pub fn run<O: Sink>(
     ensures end { OnOk result (machine.new.tick ≡ script.now.end) }
     ensures front { OnErr result (AppendsFront (O.state out.old).taken (O.state out.new).taken
         (log_to_come image (script_of script.now) names.now machine.old.tick)) }
+    // a put failed, so there was a line to put
+    ensures some { OnErr result (log_to_come image (script_of script.now) names.now
+        machine.old.tick ≢ []) }
     ensures failed { OnErr result (Rose (O.state out.old).faults (O.state out.new).faults) }
     ensures count { (O.state out.old).faults ≤ (O.state out.new).faults }
     ensures quiet { OnOk result ((O.state out.new).faults ≡ (O.state out.old).faults) }

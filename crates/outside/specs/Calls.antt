@@ -26,12 +26,12 @@ abbrev pub HasFailed : Result (Vec ℕ Global) ReadFault → Type 0
 HasFailed answer = (answer ≡ Err read.Failed) ⊎ (answer ≡ Err read.Memory)
 
 -- the answer of a read that does not fail: the bytes where they are at most `most`, and Long where
--- they are more
+-- they are more, but for want of memory
 abbrev pub ReadsAs : List ℕ → (most : ℕ) → Result (Vec ℕ Global) ReadFault → Type 0
 ReadsAs bytes most (Ok got) = (got.items ≡ bytes) × (length bytes ≤ most)
 ReadsAs bytes most (Err read.Failed) = ⊥
 ReadsAs bytes most (Err read.Long) = most < length bytes
-ReadsAs bytes most (Err read.Memory) = length bytes ≤ most
+ReadsAs bytes most (Err read.Memory) = Unit {0}
 
 -- the answer of a read: it fails if it is to fail, or if the name is missing
 abbrev pub ReadAnswers : (fails : Bool) → Option (List ℕ) → (most : ℕ) → Result (Vec ℕ Global) ReadFault → Type 0

@@ -1,5 +1,5 @@
--- What files in memory hold, and how often a name has been kept.
-use Rattle.std.specs.Prelude.{ℕ, List, Option, count_by, Vec, String, string_bytes}
+-- What files in memory hold, which names have been kept, and how often.
+use Rattle.std.specs.Prelude.{ℕ, List, Option, count_by, map, Vec, String, string_bytes}
 use Rattle.std.specs.Global.{Global}
 use Rattle.std.specs.Option.{option_map}
 use Rattle.std.specs.Str.{bytes_eq}
@@ -12,6 +12,10 @@ Store = BTreeMap (String Global) (Vec ℕ Global)
 -- the bytes under a name, if it is there
 abbrev pub held_in : Store → List ℕ → Option (List ℕ)
 held_in store name = option_map (λ v. v.items) (get_by_text store name)
+
+-- the names, each by its bytes
+abbrev pub names_in : List (String Global) → List (List ℕ)
+names_in names = map string_bytes names
 
 -- how many of the names are this one
 abbrev pub count_of : List (String Global) → List ℕ → ℕ

@@ -5,7 +5,7 @@ use Rattle.outside.specs.declared.mem_sink.MemorySink.{MemorySink}
 use Rattle.outside.specs.declared.sure.SureFiles.{SureFiles}
 use Rattle.outside.specs.declared.sure.SureSink.{SureSink}
 use Rattle.outside.specs.Calls.{Calls}
-use Rattle.outside.specs.Kept.{count_of, held_in}
+use Rattle.outside.specs.Kept.{count_of, held_in, names_in}
 use Rattle.outside.specs.Outside.{FilesState}
 
 -- what a name holds, if it is there
@@ -20,8 +20,22 @@ read_faults_of files name = count_of files.failed_reads.items name
 abbrev pub write_faults_of : MemoryFiles → List ℕ → ℕ
 write_faults_of files name = count_of files.failed_writes.items name
 
+-- the names that were read so far, oldest first
+abbrev pub names_read : MemoryFiles → List (List ℕ)
+names_read files = names_in files.names_read.items
+
+-- the names that were written so far, oldest first
+abbrev pub names_written : MemoryFiles → List (List ℕ)
+names_written files = names_in files.names_written.items
+
 abbrev pub state_of : MemoryFiles → FilesState
-state_of files = record { held = held_of files; read_faults = read_faults_of files; write_faults = write_faults_of files }
+state_of files = record {
+  held = held_of files;
+  read_faults = read_faults_of files;
+  write_faults = write_faults_of files;
+  reads = names_read files;
+  writes = names_written files;
+}
 
 -- the reads of the files so far, and those that fail
 abbrev pub reads_of : MemoryFiles → Calls

@@ -1,13 +1,16 @@
 -- What a call on the outside promises, of the counts of faults and of the bytes.
-use Rattle.std.specs.Prelude.{◌≡◌, ◌≢◌, ◌≤◌, ◌+◌, ◌-◌, ◌^◌, ℕ, List, [], ◌++◌, take, drop, min, Bool, true, false, Option, Some, None}
+use Rattle.std.specs.Prelude.{◌≡◌, ◌≢◌, ◌≤◌, ◌⊎◌, ◌+◌, ◌-◌, ◌^◌, ℕ, List, [], ◌∷◌, ◌++◌, take, drop, min, Bool, true, false, Option, Some, None}
 use Rattle.std.proofs.Common.{refl, sym, ap, subst, ◌∙◌, append_assoc}
 use Rattle.std.proofs.lemmas.List.{append-nil, take-append-drop}
 
--- what files hold by name, and how many reads and writes of each name have failed
+-- what files hold by name, how many reads and writes of each name have failed, and the names that
+-- were read, and that were written, oldest first: a call that failed is among them
 pub record FilesState : Type 0 where
   pub held : List ℕ → Option (List ℕ)
   pub read_faults : List ℕ → ℕ
   pub write_faults : List ℕ → ℕ
+  pub reads : List (List ℕ)
+  pub writes : List (List ℕ)
 
 -- what a sink has taken, where it tells, and how many of its puts have failed
 pub record SinkState : Type 0 where
@@ -47,6 +50,14 @@ abbrev pub CountsFailure : (failed : Bool) → (List ℕ → ℕ) → (List ℕ 
 CountsFailure true before now name = OneMore before now name
 CountsFailure false before now name = SameCounts before now
 
+-- the name stands behind those that were there
+abbrev pub IsAdded : (before now : List (List ℕ)) → (name : List ℕ) → Type 0
+IsAdded before now name = now ≡ before ++ name ∷ []
+
+-- the same, or nothing was tried
+abbrev pub IsAddedAtMost : (before now : List (List ℕ)) → (name : List ℕ) → Type 0
+IsAddedAtMost before now name = IsAdded before now name ⊎ (now ≡ before)
+
 -- each name holds what it held
 abbrev pub AllStay : (List ℕ → Option (List ℕ)) → (List ℕ → Option (List ℕ)) → Type 0
 AllStay before now = (name : List ℕ) → now name ≡ before name
@@ -69,6 +80,11 @@ abbrev pub with_more : Option (List ℕ) → List ℕ → Option (List ℕ)
 with_more (Some taken) more = Some (taken ++ more)
 with_more None more = None
 
+-- something has been taken, where it is told
+abbrev pub HasTakenSome : Option (List ℕ) → Type 0
+HasTakenSome (Some taken) = taken ≢ []
+HasTakenSome None = Unit {0}
+
 -- one piece and then another is both in a row
 pub Appends-append : (a b c : Option (List ℕ)) (x y : List ℕ) → Appends a b x → Appends b c y → Appends a c (x ++ y)
 Appends-append (Some before) b c x y first then =
@@ -88,11 +104,6 @@ AppendsFront-more a b x y (front, rest, cut, first) = (front, rest ++ y, ap (λ 
 -- where first bytes of the piece were taken, a front was
 pub AppendsFront-take : (a b : Option (List ℕ)) (count : ℕ) (x : List ℕ) → Appends a b (take count x) → AppendsFront a b x
 AppendsFront-take a b count x h = (take count x, drop count x, sym (take-append-drop count x), h)
-
--- what was taken, and nothing more
-pub with_more-nothing : (a : Option (List ℕ)) → with_more a [] ≡ a
-with_more-nothing (Some taken) = ap Some (append-nil taken)
-with_more-nothing None = refl
 
 pub Appends-nothing : (a : Option (List ℕ)) → Appends a a []
 Appends-nothing (Some before) = ap Some (sym (append-nil before))

@@ -1,7 +1,7 @@
 //! A buffer over a sink.
 
-ghost use Rattle.std.specs.Prelude.{◌≡◌, ◌≤◌, List, ℕ, [], length, vec_len, take, drop, OnOk, OnErr, IfErr};
-ghost use Rattle.outside.specs.Outside.{Rose, Appends};
+ghost use Rattle.std.specs.Prelude.{◌≡◌, ◌≢◌, ◌≤◌, List, ℕ, [], length, vec_len, take, drop, OnOk, OnErr, IfErr};
+ghost use Rattle.outside.specs.Outside.{Rose, Appends, HasTakenSome};
 
 use crate::outside::{Sink, SinkFailed};
 use std::alloc::Global;
@@ -40,6 +40,7 @@ impl<S: Sink> Buffered<S> {
         ensures whole { OnOk result ((S.state self.new.sink).taken ≡
             (⟦<Buffered<S> as Sink>⟧.state self.new).taken) }
         ensures none { OnOk result (self.new.waiting.items ≡ []) }
+        ensures some { OnErr result (self.old.waiting.items ≢ []) }
         ensures failed { let state = ⟦<Buffered<S> as Sink>⟧.state in
             OnErr result (Rose (state self.old).faults (state self.new).faults) }
         ensures quiet { let state = ⟦<Buffered<S> as Sink>⟧.state in
@@ -103,14 +104,17 @@ impl<S: Sink> Buffered<S> {
         self.sink.put(piece)
     }
 
-    /// Writes what waits, and gives the sink below back. Ok exactly where that has taken all; else
-    /// it has taken a front of it, and counted a fault.
+    /// Writes what waits, and gives the sink below back. Ok only where that has taken all; else it
+    /// has taken a front of it, and counted a fault; and there was something to take, where it tells.
+    #[tactic(auto, using(crate::proofs::Buffering::some_waited))]
     pub fn finish(self) -> (Result<(), SinkFailed>, S)
         ensures whole { let state = ⟦<Buffered<S> as Sink>⟧.state in
             OnOk result.0 ((S.state result.1).taken ≡ (state self).taken) }
         ensures front { let state = ⟦<Buffered<S> as Sink>⟧.state in
             OnErr result.0 ((rest : List ℕ) × Appends (S.state result.1).taken
             (state self).taken rest) }
+        ensures some { OnErr result.0
+            (HasTakenSome (⟦<Buffered<S> as Sink>⟧.state self).taken) }
         ensures failed { let state = ⟦<Buffered<S> as Sink>⟧.state in
             OnErr result.0 (Rose (state self).faults (S.state result.1).faults) }
         ensures quiet { let state = ⟦<Buffered<S> as Sink>⟧.state in
@@ -120,9 +124,7 @@ impl<S: Sink> Buffered<S> {
         let flushed = this.flush();
         (flushed, this.sink)
     }
-}
 
-impl<S: Sink> Buffered<S> {
     /// Gives the sink below back, and writes nothing: what waits is lost.
     pub fn into_sink(self) -> S
         ensures taken { let state = ⟦<Buffered<S> as Sink>⟧.state in

@@ -1,18 +1,19 @@
 //! Files in memory, with calls that fail as told.
 
-ghost use Rattle.std.specs.Prelude.{◌≡◌, ℕ, List, Some, None, OnOk, OnErr};
+ghost use Rattle.std.specs.Prelude.{◌≡◌, ◌≢◌, ℕ, List, [], Some, None, OnOk, OnErr};
 ghost use Rattle.std.specs.Option.{option_copied};
 ghost use Rattle.outside.specs.Calls.{HasFailed, ReadAnswers, ReadsAs, WriteAnswers, next, next_fails, read_failed, write_failed};
-ghost use Rattle.outside.specs.Kept.{count_of};
-ghost use Rattle.outside.specs.Memory.{held_of, read_faults_of, write_faults_of, reads_of, state_of, writes_of};
-ghost use Rattle.outside.specs.Outside.{AllStay, CountsFailure, NoneFell, OneMore, OthersStay, Rose, SameCounts};
+ghost use Rattle.outside.specs.Kept.{count_of, names_in};
+ghost use Rattle.outside.specs.Memory.{held_of, names_read, names_written, read_faults_of, write_faults_of, reads_of, state_of, writes_of};
+ghost use Rattle.outside.specs.Outside.{AllStay, CountsFailure, IsAdded, IsAddedAtMost, NoneFell, OneMore, OthersStay, Rose, SameCounts};
 
 use crate::outside::{Files, ReadFault, WriteFault};
 use std::alloc::{AllocError, Global};
 use std::collections::BTreeMap;
 
 /// Named files in memory. Reads and writes are counted apart, from 1, and one whose number stands
-/// in its list fails. A read of a missing name fails too.
+/// in its list fails. A read of a missing name fails too. The names are kept; where there is no
+/// memory for one, nothing is tried.
 #[derive(Drop)]
 pub struct MemoryFiles {
     alloc: Global,
@@ -21,16 +22,21 @@ pub struct MemoryFiles {
     bad_writes: Vec<u64>,
     reads: u64,
     writes: u64,
+    names_read: Vec<String>,
+    names_written: Vec<String>,
     failed_reads: Vec<String>,
     failed_writes: Vec<String>,
 }
 
-/// Keeps the name of a failed call.
-fn keep(alloc: Global, names: &mut Vec<String>, name: &str) -> Result<(), AllocError>
+/// Keeps the name of a call.
+pub(crate) fn keep(alloc: Global, names: &mut Vec<String>, name: &str) -> Result<(), AllocError>
     ensures kept { OnOk result (OneMore (count_of names.old.items)
         (count_of names.new.items) name.now) }
     ensures err { OnErr result (SameCounts (count_of names.old.items) (count_of names.new.items)) }
     ensures counts { NoneFell (count_of names.old.items) (count_of names.new.items) }
+    ensures added { OnOk result (IsAdded (names_in names.old.items)
+        (names_in names.new.items) name.now) }
+    ensures same { OnErr result (names_in names.new.items ≡ names_in names.old.items) }
 {
     names.push(String::from_str(alloc, name)?)?;
     Ok(())
@@ -70,6 +76,8 @@ impl MemoryFiles {
         ensures writes { writes_of result ≡ record { made = 0; failing = bad_writes.items } }
         ensures read_counts { (name : List ℕ) → read_faults_of result name ≡ 0 }
         ensures write_counts { (name : List ℕ) → write_faults_of result name ≡ 0 }
+        ensures unread { names_read result ≡ [] }
+        ensures unwritten { names_written result ≡ [] }
     {
         MemoryFiles {
             alloc,
@@ -78,6 +86,8 @@ impl MemoryFiles {
             bad_writes,
             reads: 0,
             writes: 0,
+            names_read: Vec::new(alloc),
+            names_written: Vec::new(alloc),
             failed_reads: Vec::new(alloc),
             failed_writes: Vec::new(alloc),
         }
@@ -93,6 +103,8 @@ impl MemoryFiles {
         ensures writes { writes_of self.new ≡ writes_of self.old }
         ensures read_counts { SameCounts (read_faults_of self.old) (read_faults_of self.new) }
         ensures write_counts { SameCounts (write_faults_of self.old) (write_faults_of self.new) }
+        ensures names_read { names_read self.new ≡ names_read self.old }
+        ensures names_written { names_written self.new ≡ names_written self.old }
     {
         let key = String::from_str(self.alloc, name)?;
         let copy = Vec::from_slice(self.alloc, bytes)?;
@@ -130,8 +142,15 @@ impl Files for MemoryFiles {
             Rose (read_faults_of self.old name.now) (read_faults_of self.new name.now) }
         ensures files { AllStay (held_of self.old) (held_of self.new) }
         ensures read_counts { NoneFell (read_faults_of self.old) (read_faults_of self.new) }
+        ensures tried { result ≢ Err ReadFault.Memory →
+            IsAdded (names_read self.old) (names_read self.new) name.now }
+        ensures once { IsAddedAtMost (names_read self.old) (names_read self.new) name.now }
+        ensures names_written { names_written self.new ≡ names_written self.old }
     {
         self.reads = self.reads.saturating_add(1);
+        if keep(self.alloc, &mut self.names_read, name).is_err() {
+            return Err(ReadFault::Memory);
+        }
         if self.bad_reads.contains(&self.reads) {
             return refuse(self.alloc, &mut self.failed_reads, name);
         }
@@ -154,8 +173,15 @@ impl Files for MemoryFiles {
             Rose (write_faults_of self.old name.now) (write_faults_of self.new name.now) }
         ensures others { OthersStay (held_of self.old) (held_of self.new) name.now }
         ensures write_counts { NoneFell (write_faults_of self.old) (write_faults_of self.new) }
+        ensures tried { result ≢ Err WriteFault.Memory →
+            IsAdded (names_written self.old) (names_written self.new) name.now }
+        ensures once { IsAddedAtMost (names_written self.old) (names_written self.new) name.now }
+        ensures names_read { names_read self.new ≡ names_read self.old }
     {
         self.writes = self.writes.saturating_add(1);
+        if keep(self.alloc, &mut self.names_written, name).is_err() {
+            return Err(WriteFault::Memory);
+        }
         if self.bad_writes.contains(&self.writes) {
             return match keep(self.alloc, &mut self.failed_writes, name) {
                 Ok(()) => Err(WriteFault::Failed),

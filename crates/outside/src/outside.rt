@@ -1,8 +1,8 @@
 //! What files and sinks are to the code above.
 
-ghost use Rattle.std.specs.Prelude.{◌≡◌, ◌≤◌, ◌<◌, ◌⊎◌, ℕ, Bool, List, Option, Some, length, take, vec_len, IfOk, IfErr, IsSomeAnd, OnOk, OnErr};
+ghost use Rattle.std.specs.Prelude.{◌≡◌, ◌≢◌, ◌≤◌, ◌<◌, ◌⊎◌, ℕ, Bool, List, Option, Some, length, take, vec_len, IfOk, IfErr, IsSomeAnd, OnOk, OnErr};
 ghost use Rattle.std.specs.Bool.{OnTrue};
-ghost use Rattle.outside.specs.Outside.{FilesState, SinkState, Rose, NoneFell, AllStay, OthersStay, Appends, AppendsFront};
+ghost use Rattle.outside.specs.Outside.{FilesState, SinkState, Rose, NoneFell, AllStay, OthersStay, Appends, AppendsFront, IsAdded, IsAddedAtMost};
 
 use thiserror::Error;
 
@@ -41,7 +41,8 @@ pub struct SinkFailed {
 ///
 /// Of their state, where `tells` is true, `held` is what each name holds, `None` for a missing one.
 /// `read_faults` and `write_faults` count the failures of each name, and never fall. A count that
-/// rose is greater than before the call, or stands at the greatest u64.
+/// rose is greater than before the call, or stands at the greatest u64. `reads` are the names that
+/// were read, and `writes` those that were written, oldest first, also where the call failed.
 pub trait Files {
     ghost tells: { Bool };
 
@@ -49,7 +50,8 @@ pub trait Files {
 
     /// All the bytes that the name holds, which are at most `most`. `Failed` comes only where the
     /// name's count of faults rose, and `Long` exactly where the name holds more than `most` bytes
-    /// and the read did not fail. No file changes.
+    /// and the read did not fail. No file changes. The name stands behind those that were read; after
+    /// `Memory` it may be that nothing was tried.
     fn read(&mut self, name: &str, most: usize) -> Result<Vec<u8>, ReadFault>
         ensures within { IfOk result (λ bytes. vec_len bytes ≤ most) }
         ensures whole { IfOk result (λ bytes.
@@ -66,11 +68,16 @@ pub trait Files {
         ensures files { AllStay (state self.old).held (state self.new).held }
         ensures read_counts { NoneFell (state self.old).read_faults (state self.new).read_faults }
         ensures write_counts { NoneFell (state self.old).write_faults
-            (state self.new).write_faults };
+            (state self.new).write_faults }
+        ensures tried { result ≢ Err ReadFault.Memory →
+            IsAdded (state self.old).reads (state self.new).reads name.now }
+        ensures once { IsAddedAtMost (state self.old).reads (state self.new).reads name.now }
+        ensures writes { (state self.new).writes ≡ (state self.old).writes };
 
     /// Makes the name hold the bytes, and leaves the other names as they were. After `Memory` the
     /// name holds what it held, after `Failed` anything. `Failed` comes only where the name's count
-    /// of faults rose.
+    /// of faults rose. The name stands behind those that were written; after `Memory` it may be that
+    /// nothing was tried.
     fn write(&mut self, name: &str, bytes: &[u8]) -> Result<(), WriteFault>
         ensures stored { OnOk result (OnTrue tells
             ((state self.new).held name.now ≡ Some bytes.now)) }
@@ -81,7 +88,11 @@ pub trait Files {
             AllStay (state self.old).held (state self.new).held }
         ensures read_counts { NoneFell (state self.old).read_faults (state self.new).read_faults }
         ensures write_counts { NoneFell (state self.old).write_faults
-            (state self.new).write_faults };
+            (state self.new).write_faults }
+        ensures tried { result ≢ Err WriteFault.Memory →
+            IsAdded (state self.old).writes (state self.new).writes name.now }
+        ensures once { IsAddedAtMost (state self.old).writes (state self.new).writes name.now }
+        ensures reads { (state self.new).reads ≡ (state self.old).reads };
 }
 
 /// A taker of bytes.

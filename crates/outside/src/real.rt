@@ -1,8 +1,11 @@
-//! The trusted edge: std's files and standard output. They tell nothing of content.
+//! The trusted edge: std's files and standard output. They tell nothing of content, but which files
+//! were read and written, in which order.
 
-ghost use Rattle.std.specs.Prelude.{◌≡◌, ◌≤◌, ◌<◌, ℕ, List, length, vec_len, IfOk, OnOk, OnErr};
-ghost use Rattle.outside.specs.Outside.{next_count};
+ghost use Rattle.std.specs.Prelude.{◌≡◌, ◌≢◌, ◌≤◌, ◌<◌, ℕ, List, [], length, vec_len, IfOk, OnOk, OnErr};
+ghost use Rattle.outside.specs.Kept.{names_in};
+ghost use Rattle.outside.specs.Outside.{IsAdded, IsAddedAtMost, next_count};
 
+use crate::memory::keep;
 use crate::outside::{Files, ReadFault, Sink, SinkFailed, WriteFault};
 use std::alloc::Global;
 use std::io::{ErrorKind, Read};
@@ -12,12 +15,15 @@ use std::{fs, rt};
 const RETRIES: usize = 1_000_000;
 
 /// The files of the system, by the runtime that main lends. One number is both counts of faults of
-/// every name, and each Err raises it until it stands at the greatest u64.
+/// every name, and each Err raises it until it stands at the greatest u64. The names are kept; where
+/// there is no memory for one, nothing is tried.
 #[derive(Drop)]
 pub struct RealFiles<'a, R: rt::Files> {
     rt: &'a R,
     alloc: Global,
     faults: u64,
+    names_read: Vec<String>,
+    names_written: Vec<String>,
 }
 
 /// Standard output, by the runtime that main lends. Each Err raises the count of faults until it
@@ -51,6 +57,29 @@ fn read_up_to<F: Read>(alloc: Global, file: &mut F, most: usize) -> Result<Vec<u
     Err(ReadFault::Failed)
 }
 
+/// All that the file of a name gives, where it is at most `most` bytes.
+fn read_file<R: rt::Files>(
+    alloc: Global,
+    rt: &R,
+    name: &str,
+    most: usize,
+) -> Result<Vec<u8>, ReadFault>
+    ensures { IfOk result (λ bytes. vec_len bytes ≤ most) }
+{
+    match fs::open(rt, name) {
+        Ok(mut file) => read_up_to(alloc, &mut file, most),
+        Err(_) => Err(ReadFault::Failed),
+    }
+}
+
+/// Writes the file of a name.
+fn write_file<R: rt::Files>(rt: &R, name: &str, bytes: &[u8]) -> Result<(), WriteFault> {
+    match fs::write(rt, name, bytes) {
+        Ok(()) => Ok(()),
+        Err(_) => Err(WriteFault::Failed),
+    }
+}
+
 impl<'a, R: rt::Files> RealFiles<'a, R> {
     /// No faults yet. It takes no memory.
     pub fn new(alloc: Global, rt: &'a R) -> RealFiles<'a, R>
@@ -58,11 +87,15 @@ impl<'a, R: rt::Files> RealFiles<'a, R> {
             name ≡ 0 }
         ensures writes { (name : List ℕ) → (⟦<RealFiles<'a, R> as Files>⟧.state result).write_faults
             name ≡ 0 }
+        ensures unread { (⟦<RealFiles<'a, R> as Files>⟧.state result).reads ≡ [] }
+        ensures unwritten { (⟦<RealFiles<'a, R> as Files>⟧.state result).writes ≡ [] }
     {
         RealFiles {
             rt,
             alloc,
             faults: 0,
+            names_read: Vec::new(alloc),
+            names_written: Vec::new(alloc),
         }
     }
 
@@ -70,6 +103,8 @@ impl<'a, R: rt::Files> RealFiles<'a, R> {
     fn raise(&mut self)
         ensures raised { self.new.faults ≡ next_count self.old.faults }
         ensures count { self.old.faults ≤ self.new.faults }
+        ensures read { self.new.names_read.items ≡ self.old.names_read.items }
+        ensures written { self.new.names_written.items ≡ self.old.names_written.items }
     {
         self.faults = self.faults.saturating_add(1);
     }
@@ -84,6 +119,8 @@ impl<'a, R: rt::Files> Files for RealFiles<'a, R> {
       held = λ _. None;
       read_faults = λ _. s.faults;
       write_faults = λ _. s.faults;
+      reads = names_in s.names_read.items;
+      writes = names_in s.names_written.items;
     } };
 
     fn read(&mut self, name: &str, most: usize) -> Result<Vec<u8>, ReadFault>
@@ -96,10 +133,17 @@ impl<'a, R: rt::Files> Files for RealFiles<'a, R> {
             (state self.old).read_faults name.now) }
         ensures count { let state = ⟦<RealFiles<'a, R> as Files>⟧.state in
             (state self.old).read_faults name.now ≤ (state self.new).read_faults name.now }
+        ensures tried { let state = ⟦<RealFiles<'a, R> as Files>⟧.state in
+            result ≢ Err ReadFault.Memory →
+            IsAdded (state self.old).reads (state self.new).reads name.now }
+        ensures once { let state = ⟦<RealFiles<'a, R> as Files>⟧.state in
+            IsAddedAtMost (state self.old).reads (state self.new).reads name.now }
+        ensures writes { let state = ⟦<RealFiles<'a, R> as Files>⟧.state in
+            (state self.new).writes ≡ (state self.old).writes }
     {
-        let answer = match fs::open(self.rt, name) {
-            Ok(mut file) => read_up_to(self.alloc, &mut file, most),
-            Err(_) => Err(ReadFault::Failed),
+        let answer = match keep(self.alloc, &mut self.names_read, name) {
+            Ok(()) => read_file(self.alloc, self.rt, name, most),
+            Err(_) => Err(ReadFault::Memory),
         };
         if answer.is_err() {
             self.raise();
@@ -116,14 +160,22 @@ impl<'a, R: rt::Files> Files for RealFiles<'a, R> {
             (state self.old).write_faults name.now) }
         ensures count { let state = ⟦<RealFiles<'a, R> as Files>⟧.state in
             (state self.old).write_faults name.now ≤ (state self.new).write_faults name.now }
+        ensures tried { let state = ⟦<RealFiles<'a, R> as Files>⟧.state in
+            result ≢ Err WriteFault.Memory →
+            IsAdded (state self.old).writes (state self.new).writes name.now }
+        ensures once { let state = ⟦<RealFiles<'a, R> as Files>⟧.state in
+            IsAddedAtMost (state self.old).writes (state self.new).writes name.now }
+        ensures reads { let state = ⟦<RealFiles<'a, R> as Files>⟧.state in
+            (state self.new).reads ≡ (state self.old).reads }
     {
-        match fs::write(self.rt, name, bytes) {
-            Ok(()) => Ok(()),
-            Err(_) => {
-                self.raise();
-                Err(WriteFault::Failed)
-            }
+        let answer = match keep(self.alloc, &mut self.names_written, name) {
+            Ok(()) => write_file(self.rt, name, bytes),
+            Err(_) => Err(WriteFault::Memory),
+        };
+        if answer.is_err() {
+            self.raise();
         }
+        answer
     }
 }
 

@@ -1,12 +1,13 @@
 //! Files and a sink that never fail, but for memory.
 
-ghost use Rattle.std.specs.Prelude.{◌≡◌, ◌⊎◌, ◌≤◌, ◌+◌, ◌^◌, ◌-◌, ℕ, List, [], Some, None, min, OnOk, OnErr, IsOk, length};
+ghost use Rattle.std.specs.Prelude.{◌≡◌, ◌≢◌, ◌⊎◌, ◌≤◌, ◌+◌, ◌^◌, ◌-◌, ℕ, List, [], Some, None, min, OnOk, OnErr, IsOk, length};
 ghost use Rattle.std.specs.Option.{option_copied};
 ghost use Rattle.outside.specs.Calls.{ReadsAs};
+ghost use Rattle.outside.specs.Kept.{names_in};
 ghost use Rattle.outside.specs.Memory.{counted, placed_in, shown_in};
-ghost use Rattle.outside.specs.Outside.{AllStay, OthersStay};
+ghost use Rattle.outside.specs.Outside.{AllStay, IsAdded, IsAddedAtMost, OthersStay};
 
-use crate::memory::copy_within;
+use crate::memory::{copy_within, keep};
 use crate::outside::{Files, ReadFault, Sink, SinkFailed, WriteFault};
 use std::alloc::{AllocError, Global};
 use std::collections::BTreeMap;
@@ -16,6 +17,8 @@ use std::collections::BTreeMap;
 pub struct SureFiles {
     alloc: Global,
     store: BTreeMap<String, Vec<u8>>,
+    names_read: Vec<String>,
+    names_written: Vec<String>,
 }
 
 /// Counts bytes and keeps none.
@@ -29,10 +32,14 @@ impl SureFiles {
     pub fn new(alloc: Global) -> SureFiles
         ensures empty { (name : List ℕ) → placed_in result name ≡ None }
         ensures shown { (name : List ℕ) → shown_in result name ≡ [] }
+        ensures unread { (⟦<SureFiles as Files>⟧.state result).reads ≡ [] }
+        ensures unwritten { (⟦<SureFiles as Files>⟧.state result).writes ≡ [] }
     {
         SureFiles {
             alloc,
             store: BTreeMap::new(alloc),
+            names_read: Vec::new(alloc),
+            names_written: Vec::new(alloc),
         }
     }
 
@@ -41,6 +48,8 @@ impl SureFiles {
         ensures placed { OnOk result (placed_in self.new name.now ≡ Some bytes.now) }
         ensures others { OthersStay (placed_in self.old) (placed_in self.new) name.now }
         ensures err { OnErr result (AllStay (placed_in self.old) (placed_in self.new)) }
+        ensures read { self.new.names_read.items ≡ self.old.names_read.items }
+        ensures written { self.new.names_written.items ≡ self.old.names_written.items }
     {
         let key = String::from_str(self.alloc, name)?;
         let copy = Vec::from_slice(self.alloc, bytes)?;
@@ -68,12 +77,22 @@ impl Files for SureFiles {
       held = λ name. Some (shown_in s name);
       read_faults = λ _. 0;
       write_faults = λ _. 0;
+      reads = names_in s.names_read.items;
+      writes = names_in s.names_written.items;
     } };
 
     fn read(&mut self, name: &str, most: usize) -> Result<Vec<u8>, ReadFault>
         ensures answer { ReadsAs (shown_in self.old name.now) most result }
         ensures files { AllStay (placed_in self.old) (placed_in self.new) }
+        ensures tried { result ≢ Err ReadFault.Memory → IsAdded
+            (names_in self.old.names_read.items) (names_in self.new.names_read.items) name.now }
+        ensures once { IsAddedAtMost
+            (names_in self.old.names_read.items) (names_in self.new.names_read.items) name.now }
+        ensures writes { self.new.names_written.items ≡ self.old.names_written.items }
     {
+        if keep(self.alloc, &mut self.names_read, name).is_err() {
+            return Err(ReadFault::Memory);
+        }
         match self.store.get(name) {
             None => Ok(Vec::new(self.alloc)),
             Some(bytes) => copy_within(self.alloc, bytes.as_slice(), most),
@@ -85,7 +104,17 @@ impl Files for SureFiles {
         ensures stored { OnOk result (placed_in self.new name.now ≡ Some bytes.now) }
         ensures others { OthersStay (placed_in self.old) (placed_in self.new) name.now }
         ensures refused { OnErr result (AllStay (placed_in self.old) (placed_in self.new)) }
+        ensures tried { result ≢ Err WriteFault.Memory → IsAdded
+            (names_in self.old.names_written.items) (names_in self.new.names_written.items)
+            name.now }
+        ensures once { IsAddedAtMost
+            (names_in self.old.names_written.items) (names_in self.new.names_written.items)
+            name.now }
+        ensures reads { self.new.names_read.items ≡ self.old.names_read.items }
     {
+        if keep(self.alloc, &mut self.names_written, name).is_err() {
+            return Err(WriteFault::Memory);
+        }
         match self.place(name, bytes) {
             Ok(()) => Ok(()),
             Err(_) => Err(WriteFault::Memory),

@@ -1,10 +1,11 @@
 //! `replay`.
 
-ghost use Rattle.std.specs.Prelude.{◌≡◌, ◌<◌, ◌^◌, Err, IfOk, IsSomeAnd};
+ghost use Rattle.std.specs.Prelude.{◌∷◌, [], ◌≡◌, ◌<◌, ◌^◌, Err, IfOk, IsSomeAnd};
 ghost use Rattle.std.specs.Bool.{OnTrue};
 ghost use Rattle.command_answers.specs.Acts.{outcome_of};
 ghost use Rattle.command_answers.specs.Acting.{IsQuiet};
 ghost use Rattle.command_answers.specs.Prepared.{Failed, Prepares};
+ghost use Rattle.command_answers.specs.Tried.{HasTried, status_of};
 ghost use Rattle.outside.specs.Outside.{AllStay, NoneFell};
 ghost use Rattle.replay.specs.Held.{IsSource};
 ghost use Rattle.replay.specs.Scripted.{IsReplayed, LaterFailed};
@@ -23,6 +24,7 @@ use script::Script;
 use std::alloc::Global;
 
 /// The last third of `replay`: the log of a program over a script.
+#[tactic(auto, using(command_answers::proofs::Trying::tried_last))]
 fn log_on<'a, F: Files>(
     alloc: Global,
     source: &Source,
@@ -43,6 +45,9 @@ fn log_on<'a, F: Files>(
     ensures read_counts { NoneFell (F.state files.old).read_faults (F.state files.new).read_faults }
     ensures write_counts { NoneFell (F.state files.old).write_faults
         (F.state files.new).write_faults }
+    ensures reads { HasTried (log.now ∷ []) (F.state files.old).reads
+        (F.state files.new).reads (status_of result) }
+    ensures writes { (F.state files.new).writes ≡ (F.state files.old).writes }
 {
     let content = read(files, log, LONGEST_LOG)?;
     match log_act(alloc, source, script, &content) {
@@ -52,6 +57,14 @@ fn log_on<'a, F: Files>(
 }
 
 /// The second third of `replay`: the script for a program, and the log where it is one.
+#[tactic(
+    auto,
+    using(
+        command_answers::proofs::Trying::tried_first,
+        command_answers::proofs::Trying::tried_on,
+        command_answers::proofs::Trying::tried_alone
+    )
+)]
 fn script_on<'a, F: Files>(
     alloc: Global,
     source: &Source,
@@ -70,6 +83,9 @@ fn script_on<'a, F: Files>(
     ensures read_counts { NoneFell (F.state files.old).read_faults (F.state files.new).read_faults }
     ensures write_counts { NoneFell (F.state files.old).write_faults
         (F.state files.new).write_faults }
+    ensures reads { HasTried (script.now ∷ log.now ∷ []) (F.state files.old).reads
+        (F.state files.new).reads (status_of result) }
+    ensures writes { (F.state files.new).writes ≡ (F.state files.old).writes }
 {
     let content = read(files, script, LONGEST_SCRIPT)?;
     match judge_script(alloc, &content, &source.names) {
@@ -83,6 +99,14 @@ fn script_on<'a, F: Files>(
 
 /// `replay`: the program is read and judged, the script only where the program has no fault, and
 /// the log only where the script has none.
+#[tactic(
+    auto,
+    using(
+        command_answers::proofs::Trying::tried_first,
+        command_answers::proofs::Trying::tried_on,
+        command_answers::proofs::Trying::tried_alone
+    )
+)]
 pub fn prepare_replay<'a, F: Files>(
     alloc: Global,
     program: &str,
@@ -96,6 +120,9 @@ pub fn prepare_replay<'a, F: Files>(
     ensures read_counts { NoneFell (F.state files.old).read_faults (F.state files.new).read_faults }
     ensures write_counts { NoneFell (F.state files.old).write_faults
         (F.state files.new).write_faults }
+    ensures reads { HasTried (program.now ∷ script.now ∷ log.now ∷ []) (F.state files.old).reads
+        (F.state files.new).reads (status_of result) }
+    ensures writes { (F.state files.new).writes ≡ (F.state files.old).writes }
 {
     let content = read(files, program, LONGEST_PROGRAM)?;
     match read_source(alloc, content) {

@@ -1,7 +1,7 @@
 //! Programs that are to be replayed.
 
-ghost use Rattle.std.specs.Prelude.{◌≡◌, ℕ, List, Option, Some, Err, IfOk, IfErr};
-ghost use Rattle.command_answers.specs.Acts.{outcome_of};
+ghost use Rattle.std.specs.Prelude.{◌≡◌, ◌≢◌, ℕ, List, Option, Some, Err, IfOk, IfErr};
+ghost use Rattle.command_answers.specs.Acts.{number_of, outcome_of};
 ghost use Rattle.command_due.specs.Source.{IsWritten};
 ghost use Rattle.compile.specs.Written.{ReadsWritten};
 ghost use Rattle.command_answers.specs.Acting.{IsQuiet};
@@ -80,6 +80,7 @@ pub fn refuse_source<'a>(
     ensures due { IfOk result (λ act. (text : List ℕ) (script log : Option (List ℕ)) →
         ReadsWritten text (Err fault) → IsReplayDue (Some text) script log (outcome_of act)) }
     ensures quiet { IfOk result IsQuiet }
+    ensures refused { IfOk result (λ act. number_of act.status ≢ 0) }
 {
     match fault {
         ProgramTextFault::Text { number, place } => put_fault(alloc, number, place),

@@ -1,6 +1,6 @@
 //! Events put as lines.
 
-ghost use Rattle.std.specs.Prelude.{◌≡◌, ◌≤◌, All, OnOk, OnErr};
+ghost use Rattle.std.specs.Prelude.{◌≡◌, ◌≢◌, ◌≤◌, [], All, OnOk, OnErr};
 ghost use Rattle.outside.specs.Outside.{Appends, AppendsFront, Rose};
 ghost use Rattle.event_log.specs.InRange.{AreIn};
 ghost use Rattle.event_log.specs.Line.{line_of, log_of};
@@ -46,6 +46,7 @@ pub fn put_all<O: Sink>(
     ensures front { OnErr result
         (AppendsFront (O.state out.old).taken (O.state out.new).taken
         (log_of names.now events.now)) }
+    ensures some { OnErr result (log_of names.now events.now ≢ []) }
     ensures failed { OnErr result (Rose (O.state out.old).faults (O.state out.new).faults) }
     ensures count { (O.state out.old).faults ≤ (O.state out.new).faults }
     ensures quiet { OnOk result ((O.state out.new).faults ≡ (O.state out.old).faults) }

@@ -1,6 +1,7 @@
-use Rattle.std.proofs.Common.{subst}
-use Rattle.command_words.specs.Words.{IsRequest, load_of}
+use Rattle.std.proofs.Common.{refl, subst}
+use Rattle.command_words.specs.Words.{IsRequest, call_of, load_of}
 use Rattle.command.proofs.Loads.{made_as_asked}
+use Rattle.command.proofs.Tried.{command_read, command_written, load_read, load_written}
 use Rattle.command.proofs.carry.carry_out.Goals as goal
 
 pub returns-in-None-clause-went : goal.returns-in-None-clause-went
@@ -9,12 +10,12 @@ returns-in-None-clause-went g c = λ call is. absurd (c.in-None.ensures.commands
 pub returns-in-Some-Load-clause-made : goal.returns-in-Some-Load-clause-made
 returns-in-Some-Load-clause-made g c = λ load is.
     let asked = subst (IsRequest c.args.words.now) c.in-Some-Load.field-0-is c.in-Some-Load.ensures.some in
-    made_as_asked c.one_load.ensures c.args.words.now (load_of c.in-Some-Load.load) load g.F.Files.tells _ _ _ asked c.make.ensures is
+    made_as_asked c.one_load.ensures c.args.words.now (load_of c.in-Some-Load.load) load g.F.Files.tells _ _ _ asked c.make.ensures.made is
 
 pub returns-in-Some-Load-clause-others : goal.returns-in-Some-Load-clause-others
 returns-in-Some-Load-clause-others g c = λ name none.
     let asked = subst (IsRequest c.args.words.now) c.in-Some-Load.field-0-is c.in-Some-Load.ensures.some in
-    c.make.ensures.others name (none.program (load_of c.in-Some-Load.load) asked) (none.script (load_of c.in-Some-Load.load) asked)
+    c.make.ensures.made.others name (none.program (load_of c.in-Some-Load.load) asked) (none.script (load_of c.in-Some-Load.load) asked)
 
 pub returns-in-Some-Load-clause-usage : goal.returns-in-Some-Load-clause-usage
 returns-in-Some-Load-clause-usage g c = λ no none.
@@ -25,3 +26,33 @@ pub returns-in-Some-Load-clause-kept : goal.returns-in-Some-Load-clause-kept
 returns-in-Some-Load-clause-kept g c = λ none some other.
     let asked = subst (IsRequest c.args.words.now) c.in-Some-Load.field-0-is c.in-Some-Load.ensures.some in
     absurd (none (load_of c.in-Some-Load.load) asked)
+
+pub returns-in-Some-Command-clause-reads : goal.returns-in-Some-Command-clause-reads
+returns-in-Some-Command-clause-reads g c =
+    let asked = subst (IsRequest c.args.words.now) c.in-Some-Command.field-0-is c.in-Some-Command.ensures.some in
+    command_read c.one_command.ensures c.args.words.now (call_of c.in-Some-Command.command) _ _ _ asked.0 c.carry.ensures.reads
+
+pub returns-in-Some-Command-clause-writes : goal.returns-in-Some-Command-clause-writes
+returns-in-Some-Command-clause-writes g c =
+    let asked = subst (IsRequest c.args.words.now) c.in-Some-Command.field-0-is c.in-Some-Command.ensures.some in
+    command_written c.one_command.ensures c.no_command_is_a_load.ensures c.args.words.now (call_of c.in-Some-Command.command) _ _ _ asked.0 c.carry.ensures.writes
+
+pub returns-in-Some-Load-clause-reads : goal.returns-in-Some-Load-clause-reads
+returns-in-Some-Load-clause-reads g c =
+    let asked = subst (IsRequest c.args.words.now) c.in-Some-Load.field-0-is c.in-Some-Load.ensures.some in
+    load_read c.no_command_is_a_load.ensures c.args.words.now (load_of c.in-Some-Load.load) _ _ _ asked c.make.ensures.reads
+
+pub returns-in-Some-Load-clause-writes : goal.returns-in-Some-Load-clause-writes
+returns-in-Some-Load-clause-writes g c =
+    let asked = subst (IsRequest c.args.words.now) c.in-Some-Load.field-0-is c.in-Some-Load.ensures.some in
+    load_written c.one_load.ensures c.no_command_is_a_load.ensures c.args.words.now (load_of c.in-Some-Load.load) _ _ _ asked c.make.ensures.writes
+
+pub returns-in-None-clause-reads : goal.returns-in-None-clause-reads
+returns-in-None-clause-reads g c = record { command = λ call is. absurd (c.in-None.ensures.commands call is); other = λ no. refl }
+
+pub returns-in-None-clause-writes : goal.returns-in-None-clause-writes
+returns-in-None-clause-writes g c = record {
+  command = λ call is. absurd (c.in-None.ensures.commands call is);
+  load = λ load is. absurd (c.in-None.ensures.loads load is);
+  other = λ no no_load. refl;
+}

@@ -12,4 +12,5 @@ returns-in-Err g c =
     let other = c.puts_nothing.ensures.no c.if-puts_nothing.false in
     let front = err_told c.finish-written.result.0 c.in-Err.field-0 c.in-Err.is c.finish-written.ensures.front in
     let rose = err_told c.finish-written.result.0 c.in-Err.field-0 c.in-Err.is c.finish-written.ensures.failed in
-    lost refl other.0 other.1 front.0 front.1 rose
+    let some = err_told c.finish-written.result.0 c.in-Err.field-0 c.in-Err.is c.finish-written.ensures.some in
+    lost refl other.0 other.1 front.0 front.1 rose some

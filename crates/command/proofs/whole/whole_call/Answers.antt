@@ -1,6 +1,6 @@
 use Rattle.std.proofs.Common.{inl, inr, ◌∙◌, subst, ◌<◌}
 use Rattle.command.proofs.Complete.{completes}
-use Rattle.command.proofs.Calls.{quiet_settled, status_settled}
+use Rattle.command.proofs.Calls.{quiet_settled, read_settled, status_settled, written_settled}
 use Rattle.command.proofs.Clauses.{went_whole, made_whole, usage_whole, done_whole, late_whole}
 use Rattle.command.proofs.whole.whole_call.Goals as goal
 
@@ -44,3 +44,9 @@ returns-clause-done g c = λ call is.
 pub returns-clause-late : goal.returns-clause-late
 returns-clause-late g c = λ call is.
     late_whole _ _ _ _ _ _ _ c.new-out.ensures.taken c.new-out.ensures.faults c.settle.ensures g.F.Files.tells call (c.rte-status.ensures.late call is)
+
+pub returns-clause-reads : goal.returns-clause-reads
+returns-clause-reads g c = read_settled _ _ _ _ _ _ _ c.rte-status.ensures.reads c.settle.ensures
+
+pub returns-clause-writes : goal.returns-clause-writes
+returns-clause-writes g c = written_settled _ _ _ _ _ _ _ c.rte-status.ensures.writes c.settle.ensures

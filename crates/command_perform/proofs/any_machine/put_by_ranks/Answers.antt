@@ -1,4 +1,4 @@
-use Rattle.std.proofs.Common.{List, ℕ, OnOk, OnErr, subst, sym}
+use Rattle.std.proofs.Common.{◌≢◌, [], List, ℕ, OnOk, OnErr, subst, sym}
 use Rattle.outside.specs.Outside.{Appends, AppendsFront}
 use Rattle.machine_semantics.specs.Image.{Image}
 use Rattle.vm_runner.specs.Standing.{StandsIn}
@@ -33,3 +33,9 @@ returns-clause-front g c =
     let ready = c.requires.1.1.1 in
     subst (λ (log : List ℕ). OnErr c.run.result (AppendsFront (g.O.Sink.state c.args.out.now).taken (g.O.Sink.state c.run.new.out).taken log))
     (log_first c.args.run.now g.image c.requires.1.0 c.args.machine.now.tick ready.dispatch ready.start) c.run.ensures.front
+
+pub returns-clause-some : goal.returns-clause-some
+returns-clause-some g c =
+    let ready = c.requires.1.1.1 in
+    subst (λ (log : List ℕ). OnErr c.run.result (log ≢ []))
+    (log_first c.args.run.now g.image c.requires.1.0 c.args.machine.now.tick ready.dispatch ready.start) c.run.ensures.some

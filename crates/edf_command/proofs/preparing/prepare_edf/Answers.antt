@@ -1,10 +1,12 @@
-use Rattle.std.proofs.Common.{None}
+use Rattle.std.proofs.Common.{None, ◌∷◌, []}
 use Rattle.syntax.specs.Tokens.{longest_text}
 use Rattle.command_words.specs.Calls as call
 use Rattle.image.specs.Raw.{named_of}
 use Rattle.command_answers.specs.Acts.{outcome_of}
 use Rattle.command_answers.specs.Contents.{IsContent}
+use Rattle.command_answers.specs.Tried.{status_of}
 use Rattle.command_answers.proofs.Held.{acted}
+use Rattle.command_answers.proofs.Trying.{tried_perhaps}
 use Rattle.edf_command.proofs.Prepared.{edf_prepares, stopped}
 use Rattle.edf_command.proofs.preparing.prepare_edf.Goals as goal
 
@@ -20,3 +22,7 @@ returns-in-Ok-refuse_source-clause-prepared g c =
     (stopped g.F.Files.tells ((g.F.Files.state c.args.files.now).held c.args.program.now) ((g.F.Files.state c.args.files.now).held c.args.script.now) (IsContent longest_text c.in_ok-content.content)
     (outcome_of c.in-Ok-refuse_source.act) c.in_ok-content.ensures.content
     (λ text is. c.in-Ok-refuse_source.ensures.due text ((g.F.Files.state c.args.files.now).held c.args.script.now) (c.in-Err.ensures.fault text is)))
+
+pub returns-in-Ok-clause-reads : goal.returns-in-Ok-clause-reads
+returns-in-Ok-clause-reads g c =
+    tried_perhaps c.args.program.now (c.args.script.now ∷ []) _ _ _ (status_of c.judged_on.result) c.in_ok-content.ensures.read c.judged_on.ensures.reads

@@ -6,6 +6,7 @@ use Rattle.event_log.specs.InRange.{AreIn}
 use Rattle.event_log.specs.Line.{log_of}
 use Rattle.vm_releases.specs.Begin.{script_of}
 use Rattle.edf_machine.specs.Coming.{log_to_come}
+use Rattle.vm_run.proofs.Lines.{some_before, some_behind}
 use Rattle.edf_machine.proofs.Rest.{lines_now, lines_later, log_ends, split}
 use Rattle.edf_machine.proofs.to_end.run.Goals as goal
 
@@ -57,6 +58,20 @@ returns-in_err-put_all-clause-front g c =
     split g.image script names c.args.machine.now.tick t u taken.0 c.events.result.now (omega (arith, later)) c.advance_row.ensures.stands.within told taken.2 in
     on_err c.from_residual.result _
     (rw all (AppendsFront-append _ _ _ taken.0 _ taken.1 (AppendsFront-more _ _ (log_of names c.events.result.now) (log_to_come g.image script names u) c.in_err-put_all.ensures.front)))
+
+pub returns-in_err-put_all-clause-some : goal.returns-in_err-put_all-clause-some
+returns-in_err-put_all-clause-some g c =
+    let script = script_of c.args.script.now in
+    let names = c.args.names.now in
+    let t = c.loop-text.machine.tick in
+    let u = c.advance_row.new.self.tick in
+    let later : t < u = c.advance_row.ensures.passed (λ e. absurd (omega (arith, c.advance_row.ensures.done.0 e))) in
+    let told = c.events.ensures ∙ c.advance_row.ensures.fell (λ e. absurd (omega (arith, c.advance_row.ensures.done.0 e))) in
+    let taken = c.loop-text.invariant.taken in
+    let all : log_to_come g.image script names c.args.machine.now.tick ≡ taken.0 ++ (log_of names c.events.result.now ++ log_to_come g.image script names u) =
+    split g.image script names c.args.machine.now.tick t u taken.0 c.events.result.now (omega (arith, later)) c.advance_row.ensures.stands.within told taken.2 in
+    on_err c.from_residual.result _
+    (rw all (some_behind taken.0 _ (some_before (log_of names c.events.result.now) (log_to_come g.image script names u) c.in_err-put_all.ensures.some)))
 
 pub returns-clause-whole : goal.returns-clause-whole
 returns-clause-whole g c =

@@ -13,4 +13,4 @@ pub returns-in-Text-clause-due : goal.returns-in-Text-clause-due
 returns-in-Text-clause-due c =
     of_made c.put_fault.result (puts status.Text (fault_line c.in-Text.number c.in-Text.place))
     (λ act. (text : List ℕ) (script log : Option (List ℕ)) → ReadsWritten text (Err c.args.fault) → IsReplayDue (Some text) script log (outcome_of act))
-    c.put_fault.ensures (faulty_replay c.args.fault c.in-Text.number c.in-Text.place c.in-Text.is)
+    c.put_fault.ensures.act (faulty_replay c.args.fault c.in-Text.number c.in-Text.place c.in-Text.is)

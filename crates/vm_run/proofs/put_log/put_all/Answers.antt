@@ -3,7 +3,7 @@ use Rattle.outside.specs.Outside.{AppendsFront, Appends-nothing, Appends-append,
 use Rattle.base.specs.declared.event.Event.{Event}
 use Rattle.base.specs.declared.event.Act.TheVariants as act
 use Rattle.event_log.specs.Line.{line_of, log_of}
-use Rattle.vm_run.proofs.Lines.{log_of-more, log_of-cut, log_of-nil}
+use Rattle.vm_run.proofs.Lines.{log_of-more, log_of-cut, log_of-nil, log_of-some}
 use Rattle.vm_run.proofs.put_log.put_all.Goals as goal
 
 pub loop-event-init : goal.loop-event-init
@@ -31,3 +31,8 @@ returns-in_err-put_line-clause-front g c =
     (rw (log_of-cut c.args.names.now c.args.events.now c.loop-event.event-index e (omega arith))
     (AppendsFront-append (g.O.Sink.state c.args.out.now).taken (g.O.Sink.state c.loop-event.out).taken (g.O.Sink.state c.put_line.new.out).taken (log_of c.args.names.now (take c.loop-event.event-index c.args.events.now)) _ c.loop-event.invariant.taken
     (AppendsFront-more _ _ (line_of c.args.names.now (get_or c.args.events.now c.loop-event.event-index e)) (log_of c.args.names.now (drop (c.loop-event.event-index + 1) c.args.events.now)) put)))
+
+pub returns-in_err-put_line-clause-some : goal.returns-in_err-put_line-clause-some
+returns-in_err-put_line-clause-some g c =
+    let e : Event = record { tick = 0; proc = 0; act = act.Release } in
+    on_err c.from_residual.result _ (log_of-some c.args.names.now c.args.events.now c.loop-event.event-index e (omega arith))

@@ -27,6 +27,9 @@ read-tells g c = record {
   files = λ _. refl;
   read_counts = λ _. c.ensures.count;
   write_counts = λ _. c.ensures.count;
+  tried = c.ensures.tried;
+  once = c.ensures.once;
+  writes = c.ensures.writes;
 }
 
 pub write-tells : goal.write-tells
@@ -37,4 +40,7 @@ write-tells g c = record {
   kept = λ _ _. refl;
   read_counts = λ _. c.ensures.count;
   write_counts = λ _. c.ensures.count;
+  tried = c.ensures.tried;
+  once = c.ensures.once;
+  reads = c.ensures.reads;
 }
