@@ -3,16 +3,17 @@
 ghost use Rattle.std.specs.Prelude.{IfOk, IsTrue, OnErr, ◌<◌, ◌^◌, ◌↔◌, ◌≡◌};
 ghost use Rattle.replay_state.specs.Tables.{Fits};
 ghost use Rattle.replay_state.specs.View.{config_of};
-ghost use Rattle.replay_due_events.specs.Timings.{event_of, script_of};
+ghost use Rattle.replay_due_events.specs.Timings.{event_of};
+ghost use Rattle.replay_accept.specs.Cursors.{IsAt, script_in};
 ghost use Rattle.replay_accept.specs.Judged.{Begins, ComesAs, IsInTime};
 ghost use Rattle.replay_accept.specs.Running.{AreRules, program_of};
 
+use crate::cursor::ScriptCursor;
 use crate::rules::Rules;
 use crate::starting::{come, is_start};
 use base::Event;
 use replay_due_events::Start;
 use replay_state::Config;
-use script::Script;
 use std::alloc::AllocError;
 
 /// What an event is by its tick.
@@ -29,12 +30,13 @@ pub enum Begun {
 
 /// Whether the event is before the script's end and not before the tick reached, and no start event
 /// due before it is missing.
-fn is_in_time(rules: &Rules<'_>, config: &Config<'_>, script: &Script, event: &Event) -> bool
+fn is_in_time(rules: &Rules<'_>, config: &Config<'_>, script: &ScriptCursor<'_>, event: &Event) -> bool
     requires rules { AreRules rules.now }
     requires fits { Fits (program_of rules.now) (config_of config.now) }
     requires tick { config.now.tick < 2 ^ 61 }
+    requires script { IsAt config.now.tick script.now }
     ensures { IsTrue result ↔ IsInTime (program_of rules.now)
-        (script_of script.now.lines script.now.end) (config_of config.now) event.now }
+        (script_in script.now) (config_of config.now) event.now }
 {
     if event.tick >= script.end() {
         return false;
@@ -42,7 +44,7 @@ fn is_in_time(rules: &Rules<'_>, config: &Config<'_>, script: &Script, event: &E
     if event.tick < config.tick {
         return false;
     }
-    rules.is_none_missing(config, script.lines().as_slice(), event.tick)
+    rules.is_none_missing(config, script, event.tick)
 }
 
 /// Judges the event by its tick, and lets it come where it is the start event that comes next. Want
@@ -50,14 +52,15 @@ fn is_in_time(rules: &Rules<'_>, config: &Config<'_>, script: &Script, event: &E
 pub fn begin<'a>(
     rules: &Rules<'a>,
     config: &mut Config<'a>,
-    script: &Script,
+    script: &ScriptCursor<'_>,
     event: &Event,
 ) -> Result<Begun, AllocError>
     requires rules { AreRules rules.now }
     requires fits { Fits (program_of rules.now) (config_of config.old) }
     requires tick { config.old.tick < 2 ^ 61 }
+    requires script { IsAt config.old.tick script.now }
     ensures begins { IfOk result (λ begun. Begins (program_of rules.now)
-        (script_of script.now.lines script.now.end) (config_of config.old) event.now begun
+        (script_in script.now) (config_of config.old) event.now begun
         (config_of config.new)) }
     ensures err { OnErr result (config_of config.new ≡ config_of config.old) }
 {
@@ -72,18 +75,19 @@ pub fn begin<'a>(
 fn begin_in_time<'a>(
     rules: &Rules<'a>,
     config: &mut Config<'a>,
-    script: &Script,
+    script: &ScriptCursor<'_>,
     event: &Event,
 ) -> Result<Begun, AllocError>
     requires rules { AreRules rules.now }
+    requires script { IsAt config.old.tick script.now }
     requires time { IsInTime (program_of rules.now)
-        (script_of script.now.lines script.now.end) (config_of config.old) event.now }
+        (script_in script.now) (config_of config.old) event.now }
     ensures begins { IfOk result (λ begun. Begins (program_of rules.now)
-        (script_of script.now.lines script.now.end) (config_of config.old) event.now begun
+        (script_in script.now) (config_of config.old) event.now begun
         (config_of config.new)) }
     ensures err { OnErr result (config_of config.new ≡ config_of config.old) }
 {
-    match rules.next_start(config, script.lines().as_slice(), event.tick) {
+    match rules.next_start(config, script, event.tick) {
         None => Ok(Begun::Open),
         Some(start) => {
             if is_start(event, start) {

@@ -4,15 +4,15 @@ ghost use Rattle.std.specs.Prelude.{IfOk, OnErr, ◌<◌, ◌^◌, ◌≡◌};
 ghost use Rattle.replay_state.specs.Tables.{Fits};
 ghost use Rattle.replay_state.specs.View.{config_of};
 ghost use Rattle.replay_due_events.specs.Accepts.{Accepts, IsComplete};
-ghost use Rattle.replay_due_events.specs.Timings.{script_of};
+ghost use Rattle.replay_accept.specs.Cursors.{IsAt, script_in};
 ghost use Rattle.replay_accept.specs.Running.{AreRules, Stands, program_of};
 
 use crate::act_events::act_by;
+use crate::cursor::ScriptCursor;
 use crate::begin::{Begun, begin};
 use crate::rules::Rules;
 use base::Event;
 use replay_state::Config;
-use script::Script;
 use std::alloc::AllocError;
 
 /// A program's tables, and its configuration.
@@ -26,14 +26,15 @@ pub struct Running<'a> {
 fn accept_by<'a>(
     rules: &Rules<'a>,
     config: &mut Config<'a>,
-    script: &Script,
+    script: &ScriptCursor<'_>,
     event: &Event,
 ) -> Result<bool, AllocError>
     requires rules { AreRules rules.now }
     requires fits { Fits (program_of rules.now) (config_of config.old) }
     requires tick { config.old.tick < 2 ^ 61 }
+    requires script { IsAt config.old.tick script.now }
     ensures accepts { IfOk result (λ accepted. Accepts (program_of rules.now)
-        (script_of script.now.lines script.now.end) (config_of config.old) event.now accepted
+        (script_in script.now) (config_of config.old) event.now accepted
         (config_of config.new)) }
     ensures err { OnErr result (config_of config.new ≡ config_of config.old) }
 {
@@ -46,27 +47,37 @@ fn accept_by<'a>(
 
 impl<'a> Running<'a> {
     /// Whether the event is allowed next; the configuration is then the one after it, else the one
-    /// before it. Want of memory leaves the configuration as it was.
-    pub fn accept(&mut self, script: &Script, event: &Event) -> Result<bool, AllocError>
+    /// before it. Want of memory leaves the configuration as it was. The script goes on to the
+    /// tick that is reached.
+    pub fn accept(
+        &mut self,
+        script: &mut ScriptCursor<'_>,
+        event: &Event,
+    ) -> Result<bool, AllocError>
         requires stands { Stands self.old }
-        requires end { script.now.end < 2 ^ 61 }
+        requires script { IsAt self.old.config.tick script.old }
+        requires end { script.old.script.now.end < 2 ^ 61 }
         ensures accepts { IfOk result (λ accepted. Accepts (program_of self.old.rules)
-            (script_of script.now.lines script.now.end) (config_of self.old.config) event.now
-            accepted (config_of self.new.config)) }
+            (script_in script.old) (config_of self.old.config) event.now accepted
+            (config_of self.new.config)) }
         ensures err { OnErr result (config_of self.new.config ≡ config_of self.old.config) }
         ensures stands { Stands self.new }
         ensures rules { self.new.rules ≡ self.old.rules }
+        ensures script { IsAt self.new.config.tick script.new }
+        ensures same { script.new.script ≡ script.old.script }
     {
-        accept_by(&self.rules, &mut self.config, script, event)
+        let accepted = accept_by(&self.rules, &mut self.config, script, event);
+        script.pass(self.config.tick);
+        accepted
     }
 
     /// Whether no start event that is due before the script's end is missing.
-    pub fn is_complete(&self, script: &Script) -> bool
+    pub fn is_complete(&self, script: &ScriptCursor<'_>) -> bool
         requires stands { Stands self.now }
-        ensures { IsComplete (program_of self.now.rules)
-            (script_of script.now.lines script.now.end) (config_of self.now.config) result }
+        requires script { IsAt self.now.config.tick script.now }
+        ensures { IsComplete (program_of self.now.rules) (script_in script.now)
+            (config_of self.now.config) result }
     {
-        self.rules
-            .is_none_missing(&self.config, script.lines().as_slice(), script.end())
+        self.rules.is_none_missing(&self.config, script, script.end())
     }
 }
