@@ -1,4 +1,4 @@
-use Rattle.std.proofs.Common.{◌≡◌, ◌∙◌, ◌+◌, arith, false, get_or, length, refl, subst, sym, true}
+use Rattle.std.proofs.Common.{ap, ◌≡◌, ◌∙◌, ◌+◌, arith, false, get_or, length, refl, subst, sym, true}
 use Rattle.replay_accept.specs.declared.rules.Rules.{Rules}
 use Rattle.replay_accept.specs.Running.{program_of}
 use Rattle.replay_state.specs.View.{config_of}
