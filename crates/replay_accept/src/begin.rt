@@ -5,12 +5,12 @@ ghost use Rattle.replay_state.specs.Tables.{Fits};
 ghost use Rattle.replay_state.specs.View.{config_of};
 ghost use Rattle.replay_due_events.specs.Timings.{event_of};
 ghost use Rattle.replay_accept.specs.Cursors.{IsAt, script_in};
-ghost use Rattle.replay_accept.specs.Judged.{Begins, ComesAs, IsInTime};
+ghost use Rattle.replay_accept.specs.Judged.{Begins, ComesAs, IsInTime, IsOpen};
 ghost use Rattle.replay_accept.specs.Running.{AreRules, program_of};
 
 use crate::cursor::ScriptCursor;
 use crate::rules::Rules;
-use crate::starting::{come, is_start};
+use crate::starting::{come, is_release, is_start};
 use base::Event;
 use replay_due_events::Start;
 use replay_state::Config;
@@ -44,7 +44,29 @@ fn is_in_time(rules: &Rules<'_>, config: &Config<'_>, script: &ScriptCursor<'_>,
     if event.tick < config.tick {
         return false;
     }
+    if event.tick == config.tick {
+        return true;
+    }
     rules.is_none_missing(config, script, event.tick)
+}
+
+/// Whether the event's tick is neither past nor at the script's end, and no start event due up to
+/// it is missing, that tick included.
+fn is_open(rules: &Rules<'_>, config: &Config<'_>, script: &ScriptCursor<'_>, event: &Event) -> bool
+    requires rules { AreRules rules.now }
+    requires fits { Fits (program_of rules.now) (config_of config.now) }
+    requires tick { config.now.tick < 2 ^ 61 }
+    requires script { IsAt config.now.tick script.now }
+    ensures { IsTrue result ↔ IsOpen (program_of rules.now)
+        (script_in script.now) (config_of config.now) event.now }
+{
+    if event.tick >= script.end() {
+        return false;
+    }
+    if event.tick < config.tick {
+        return false;
+    }
+    rules.is_none_missing(config, script, event.tick + 1)
 }
 
 /// Judges the event by its tick, and lets it come where it is the start event that comes next. Want
@@ -64,6 +86,11 @@ pub fn begin<'a>(
         (config_of config.new)) }
     ensures err { OnErr result (config_of config.new ≡ config_of config.old) }
 {
+    if !is_release(event.act) {
+        if is_open(rules, config, script, event) {
+            return Ok(Begun::Open);
+        }
+    }
     if is_in_time(rules, config, script, event) {
         begin_in_time(rules, config, script, event)
     } else {
