@@ -8,6 +8,9 @@
 #   events     6 million log lines of one process
 #   processes  64 processes with 3 million log lines
 #   replay     those 3 million lines, 60 MB, judged by the program
+#   judged     the 6 million lines of one process, judged by the program
+#   beside     1,200 log lines, judged beside a script of 100,000 lines
+#   besiderun  the run that put those 1,200 lines
 #   script     1,000,000 lines of a script
 #   earliest   10 million ticks of two processes under earliest deadline first
 #   make       a load of 64 processes
@@ -37,6 +40,8 @@ awk 'BEGIN { print "program bench device valve : out"
     print "end bench" }' > processes
 echo 'program bench device g : in process p : periodic frame 1000000000 begin end p end bench' > reader
 awk 'BEGIN { for (i = 0; i < 999999; i++) printf "%d set g 1\n", i; print "end 1000000" }' > lines
+echo 'program bench device g : in process p : periodic frame 60 var x : int begin get g x end p end bench' > sampler
+awk 'BEGIN { for (i = 0; i < 100000; i++) printf "%d set g %d\n", int(i * 24000 / 100000), i % 1000; print "end 24000" }' > often
 
 # measure NAME AIM WORD..
 measure() {
@@ -55,10 +60,16 @@ echo 'end 280000000' > script
 measure loops 0.58 go loops image4 script
 echo 'end 39000000' > script
 measure events 0.36 go events image5 script
+"$rte" run image5 script > log
+measure judged 0.8 replay events script log
 echo 'end 15000000' > script
 measure processes 0.67 go processes image6 script
 "$rte" run image6 script > log
-measure replay 1.2 replay processes script log
+measure replay 0.8 replay processes script log
+"$rte" compile sampler image8 > told
+"$rte" run image8 often > log
+measure besiderun 0.1 run image8 often
+measure beside 0.12 replay sampler often log
 measure script 0.11 go reader image7 lines
 echo 'program bench device valve : out process p : periodic frame 30 begin put valve 1 end p process q : periodic frame 52 begin put valve 2 end q end bench' > two
 echo 'end 10000000' > script

@@ -7,30 +7,31 @@
 //! Events, judged in turn.
 
 ghost use Rattle.std.specs.Prelude.{IfOk, length, ◌<◌, ◌^◌};
+ghost use Rattle.replay_accept.specs.Cursors.{IsAt, script_in};
 ghost use Rattle.replay_accept.specs.Running.{Stands, program_of};
 ghost use Rattle.replay_state.specs.View.{config_of};
 ghost use Rattle.replay_due_events.specs.Timings.{script_of};
 ghost use Rattle.source_semantics.specs.Verdicts.{Judges};
 
 use base::Event;
-use replay_accept::Running;
+use replay_accept::{Running, ScriptCursor};
 use script::Script;
 use source_semantics::Verdict;
 use std::alloc::AllocError;
 
-/// Whether the events are a run over the script from the configuration at hand, and else the first
-/// line that is refused. It fails only where memory is wanting.
-pub fn judge(
+/// Whether the events are a run over the script, which has reached the tick of the configuration at
+/// hand, and else the first line that is refused.
+fn judge_over(
     running: &mut Running<'_>,
-    script: &Script,
+    script: &mut ScriptCursor<'_>,
     events: &[Event],
 ) -> Result<Verdict, AllocError>
     requires stands { Stands running.old }
-    requires end { script.now.end < 2 ^ 61 }
+    requires script { IsAt running.old.config.tick script.old }
+    requires end { script.old.script.now.end < 2 ^ 61 }
     requires few { length events.now < 4294967295 }
     ensures { IfOk result (λ verdict. Judges (program_of running.old.rules)
-        (script_of script.now.lines script.now.end) (config_of running.old.config) events.now
-        verdict) }
+        (script_in script.old) (config_of running.old.config) events.now verdict) }
 {
     for (at, event) in events.iter().enumerate() {
         if !running.accept(script, event)? {
@@ -46,4 +47,23 @@ pub fn judge(
             line: events.len() as u32 + 1,
         })
     }
+}
+
+/// Whether the events are a run over the script from the configuration at hand, and else the first
+/// line that is refused. It fails only where memory is wanting.
+pub fn judge(
+    running: &mut Running<'_>,
+    script: &Script,
+    events: &[Event],
+) -> Result<Verdict, AllocError>
+    requires stands { Stands running.old }
+    requires end { script.now.end < 2 ^ 61 }
+    requires few { length events.now < 4294967295 }
+    ensures { IfOk result (λ verdict. Judges (program_of running.old.rules)
+        (script_of script.now.lines script.now.end) (config_of running.old.config) events.now
+        verdict) }
+{
+    let mut cursor = ScriptCursor::new(running.rules.text.alloc, script)?;
+    cursor.pass(running.config.tick);
+    judge_over(running, &mut cursor, events)
 }

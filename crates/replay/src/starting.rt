@@ -32,5 +32,9 @@ pub fn start<'a>(
 {
     let rules = rules_of(alloc, declarations, ranks)?;
     let config = first_config(alloc, &rules.text)?;
-    Ok(Running { rules, config })
+    Ok(Running {
+        rules,
+        config,
+        next_clock: 0,
+    })
 }

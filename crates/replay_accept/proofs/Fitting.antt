@@ -1,5 +1,5 @@
 -- A step keeps how many processes, monitors and queues there are.
-use Rattle.std.specs.Prelude.{◌≡◌, ◌<◌, ◌^◌, IfOk, OnErr, Result, Ok, Err, ℕ, zero, suc, Bool, true, false, List, [], ◌∷◌, ◌++◌, Option, Some, None, length, slice_get}
+use Rattle.std.specs.Prelude.{◌≡◌, ◌≤◌, ◌<◌, ◌^◌, IfOk, OnErr, Result, Ok, Err, ℕ, zero, suc, Bool, true, false, List, [], ◌∷◌, ◌++◌, Option, Some, None, length, slice_get}
 use Rattle.std.proofs.Common.{refl, sym, ◌∙◌, ap, inl, inr, subst, arith}
 use Rattle.base.specs.declared.event.Event.{Event}
 use Rattle.base.specs.declared.event.Act.{Act}
@@ -167,6 +167,14 @@ goes_on g s c e true new step k end =
     let at : FitsAt g e.tick new = step_fits g s c e new step k.fits in
     record { fits = at.fits; tick = omega (arith, at.tick, step.before_end, end) }
 goes_on g s c e false new w k end = subst (Goes g) (sym w.1) k
+
+-- the tick does not fall, also where memory was wanting
+pub later_with : {E : Type 0} (g : Program) (s : Script) (c : Config) (e : Event) (r : Result Bool E) (new : Config) → IfOk r (λ b. Accepts g s c e b new) → OnErr r (new ≡ c) → Fits g c → c.tick ≤ new.tick
+later_with g s c e (Ok true) new accepts same f =
+    let at : FitsAt g e.tick new = step_fits g s c e new accepts f in
+    omega (arith, at.tick, accepts.reached)
+later_with g s c e (Ok false) new accepts same f = let is : new.tick ≡ c.tick = ap (λ (d : Config). d.tick) accepts.1 in omega (arith, is)
+later_with g s c e (Err x) new accepts same f = let is : new.tick ≡ c.tick = ap (λ (d : Config). d.tick) same in omega (arith, is)
 
 -- also where memory was wanting
 pub goes_with : {E : Type 0} (g : Program) (s : Script) (c : Config) (e : Event) (r : Result Bool E) (new : Config) → IfOk r (λ b. Accepts g s c e b new) → OnErr r (new ≡ c) → Goes g c → s.end_tick < 2 ^ 61

@@ -1,6 +1,7 @@
 -- Events, judged: what is refused leads nowhere.
-use Rattle.std.specs.Prelude.{IfOk, Result, Ok, Err, ◌≡◌, ◌↔◌, ◌≤◌, ◌<◌, ℕ, Bool, false, ◌&&◌, IsTrue, List, [], ◌∷◌, Some, None, length, nat_eq, slice_get}
-use Rattle.std.proofs.Common.{refl, sym, ◌∙◌, ap, inl, inr, subst}
+use Rattle.std.specs.Prelude.{IfOk, Result, Ok, Err, ◌≡◌, ◌↔◌, ◌≤◌, ◌<◌, ◌+◌, ℕ, Bool, false, ◌&&◌, IsTrue, List, [], ◌∷◌, Some, None, length, nat_eq, slice_get}
+use Rattle.std.proofs.Common.{refl, sym, ◌∙◌, ap, inl, inr, subst, arith}
+use Rattle.std.proofs.lemmas.Bool.{cases_lt}
 use Rattle.std.proofs.lemmas.Option.{slice_get_within}
 use Rattle.std.proofs.lemmas.Bool.Decides.{Decides-and, Decides-at, Decides-eqb, Decides-like}
 use Rattle.base.specs.declared.event.Event.{Event}
@@ -95,6 +96,26 @@ if_ok P Q (Ok x) f p = f x p
 if_ok P Q (Err e) f p = tt
 
 -- by the first start event that is missing
+-- no tick is before the one reached
+pub now_in_time : (g : Program) (s : Script) (c : Config) (e : Event) → e.tick < s.end_tick → e.tick ≡ c.tick → IsInTime g s c e
+now_in_time g s c e before same = record { before_end = before; reached = omega (arith, same); none_missing = λ u low high. absurd (omega (arith, low, high, same)) }
+
+-- nothing is missing up to the event's tick, that tick included
+pub open_up_to : (g : Program) (s : Script) (c : Config) (e : Event) (b : Bool) → e.tick < s.end_tick → c.tick ≤ e.tick → NoneMissing g s c (e.tick + 1) ↔ IsTrue b → IsTrue b ↔ IsOpen g s c e
+open_up_to g s c e b before reached is = (
+  λ h. (
+    let none : NoneMissing g s c (e.tick + 1) = is.1 h in
+    record {
+      in_time = record { before_end = before; reached = reached; none_missing = λ u low high. none u low (omega (arith, high)) };
+      none_due = none e.tick reached (omega arith);
+    }
+  ),
+  λ o. is.0 (λ u low high. elim (cases_lt u e.tick) [
+    | inl lt ↦ o.in_time.none_missing u low lt
+    | inr ge ↦ let same : e.tick ≡ u = omega (arith, ge, high) in subst (λ k. due g s c k ≡ []) same o.none_due
+  ]),
+)
+
 pub in_time : (g : Program) (s : Script) (c : Config) (e : Event) (b : Bool) → e.tick < s.end_tick → c.tick ≤ e.tick → NoneMissing g s c e.tick ↔ IsTrue b → IsTrue b ↔ IsInTime g s c e
 in_time g s c e b before reached is = (λ h. record { before_end = before; reached = reached; none_missing = is.1 h }, λ t. is.0 t.none_missing)
 

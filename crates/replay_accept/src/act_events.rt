@@ -5,10 +5,11 @@ ghost use Rattle.source_semantics.specs.Config.{is_ready as is_at_work};
 ghost use Rattle.replay_state.specs.Tables.{Fits};
 ghost use Rattle.replay_state.specs.View.{config_of, doing_of, next_of};
 ghost use Rattle.replay_due_events.specs.Accepts.{Accepts};
-ghost use Rattle.replay_due_events.specs.Timings.{script_of};
+ghost use Rattle.replay_accept.specs.Cursors.{IsAt, script_in};
 ghost use Rattle.replay_accept.specs.Judged.{IsNextOf, IsOpen, IsReady, IsToAct};
 ghost use Rattle.replay_accept.specs.Running.{AreRules, program_of};
 
+use crate::cursor::ScriptCursor;
 use crate::rules::Rules;
 use crate::{act, is_told, may_act};
 use base::Event;
@@ -16,7 +17,6 @@ use replay_due_events::has_acted;
 use replay_next::next_action;
 use replay_state::{Activity, Config, NextAction};
 use replay_values::EvalContext;
-use script::Script;
 use std::alloc::AllocError;
 
 /// Whether it is work since a release.
@@ -88,15 +88,16 @@ fn next_of_process<'a>(
 pub fn act_by<'a>(
     rules: &Rules<'a>,
     config: &mut Config<'a>,
-    script: &Script,
+    script: &ScriptCursor<'_>,
     event: &Event,
 ) -> Result<bool, AllocError>
     requires rules { AreRules rules.now }
     requires fits { Fits (program_of rules.now) (config_of config.old) }
-    requires opened { IsOpen (program_of rules.now) (script_of script.now.lines script.now.end)
+    requires script { IsAt config.old.tick script.now }
+    requires opened { IsOpen (program_of rules.now) (script_in script.now)
         (config_of config.old) event.now }
     ensures accepts { IfOk result (λ acts. Accepts (program_of rules.now)
-        (script_of script.now.lines script.now.end) (config_of config.old) event.now acts
+        (script_in script.now) (config_of config.old) event.now acts
         (config_of config.new)) }
     ensures err { OnErr result (config_of config.new ≡ config_of config.old) }
 {
@@ -115,26 +116,26 @@ pub fn act_by<'a>(
 fn act_next<'a>(
     rules: &Rules<'a>,
     config: &mut Config<'a>,
-    script: &Script,
+    script: &ScriptCursor<'_>,
     event: &Event,
     next: NextAction<'a>,
 ) -> Result<bool, AllocError>
     requires rules { AreRules rules.now }
-    requires opened { IsOpen (program_of rules.now) (script_of script.now.lines script.now.end)
+    requires script { IsAt config.old.tick script.now }
+    requires opened { IsOpen (program_of rules.now) (script_in script.now)
         (config_of config.old) event.now }
     requires acts { IsToAct (program_of rules.now) (config_of config.old) event.now }
     requires next { IsNextOf (program_of rules.now) (config_of config.old) event.now.proc
         (Some (next_of next)) }
     ensures accepts { IfOk result (λ acts. Accepts (program_of rules.now)
-        (script_of script.now.lines script.now.end) (config_of config.old) event.now acts
+        (script_in script.now) (config_of config.old) event.now acts
         (config_of config.new)) }
     ensures err { OnErr result (config_of config.new ≡ config_of config.old) }
 {
-    let lines = script.lines().as_slice();
     if may_act(config, next.action) {
-        if is_told(config, lines, event.tick, &next, event.act) {
+        if is_told(config, script, event.tick, &next, event.act) {
             let process = usize::from(event.proc);
-            act(config, &rules.text, lines, event.tick, process, next)?;
+            act(config, &rules.text, script, event.tick, process, next)?;
             Ok(true)
         } else {
             Ok(false)

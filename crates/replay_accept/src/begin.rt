@@ -1,18 +1,19 @@
 //! Events, judged by their ticks.
 
-ghost use Rattle.std.specs.Prelude.{IfOk, IsTrue, OnErr, ◌<◌, ◌^◌, ◌↔◌, ◌≡◌};
+ghost use Rattle.std.specs.Prelude.{IfOk, IsTrue, OnErr, ◌+◌, ◌<◌, ◌^◌, ◌↔◌, ◌≡◌};
 ghost use Rattle.replay_state.specs.Tables.{Fits};
 ghost use Rattle.replay_state.specs.View.{config_of};
-ghost use Rattle.replay_due_events.specs.Timings.{event_of, script_of};
-ghost use Rattle.replay_accept.specs.Judged.{Begins, ComesAs, IsInTime};
+ghost use Rattle.replay_due_events.specs.Timings.{IsClockFree, event_of};
+ghost use Rattle.replay_accept.specs.Cursors.{IsAt, script_in};
+ghost use Rattle.replay_accept.specs.Judged.{Begins, ComesAs, IsInTime, IsOpen};
 ghost use Rattle.replay_accept.specs.Running.{AreRules, program_of};
 
+use crate::cursor::ScriptCursor;
 use crate::rules::Rules;
-use crate::starting::{come, is_start};
+use crate::starting::{come, is_release, is_start};
 use base::Event;
 use replay_due_events::Start;
 use replay_state::Config;
-use script::Script;
 use std::alloc::AllocError;
 
 /// What an event is by its tick.
@@ -29,12 +30,20 @@ pub enum Begun {
 
 /// Whether the event is before the script's end and not before the tick reached, and no start event
 /// due before it is missing.
-fn is_in_time(rules: &Rules<'_>, config: &Config<'_>, script: &Script, event: &Event) -> bool
+fn is_in_time(
+    rules: &Rules<'_>,
+    config: &Config<'_>,
+    script: &ScriptCursor<'_>,
+    next_clock: u64,
+    event: &Event,
+) -> bool
     requires rules { AreRules rules.now }
     requires fits { Fits (program_of rules.now) (config_of config.now) }
     requires tick { config.now.tick < 2 ^ 61 }
+    requires script { IsAt config.now.tick script.now }
+    requires clock { IsClockFree rules.now.table.timings.items (config.now.tick + 1) next_clock }
     ensures { IsTrue result ↔ IsInTime (program_of rules.now)
-        (script_of script.now.lines script.now.end) (config_of config.now) event.now }
+        (script_in script.now) (config_of config.now) event.now }
 {
     if event.tick >= script.end() {
         return false;
@@ -42,7 +51,36 @@ fn is_in_time(rules: &Rules<'_>, config: &Config<'_>, script: &Script, event: &E
     if event.tick < config.tick {
         return false;
     }
-    rules.is_none_missing(config, script.lines().as_slice(), event.tick)
+    if event.tick == config.tick {
+        return true;
+    }
+    rules.is_none_missing(config, script, event.tick, next_clock)
+}
+
+/// Whether the event's tick is neither past nor at the script's end, and no start event due up to
+/// it is missing, that tick included.
+fn is_open(
+    rules: &Rules<'_>,
+    config: &Config<'_>,
+    script: &ScriptCursor<'_>,
+    next_clock: u64,
+    event: &Event,
+) -> bool
+    requires rules { AreRules rules.now }
+    requires fits { Fits (program_of rules.now) (config_of config.now) }
+    requires tick { config.now.tick < 2 ^ 61 }
+    requires script { IsAt config.now.tick script.now }
+    requires clock { IsClockFree rules.now.table.timings.items (config.now.tick + 1) next_clock }
+    ensures { IsTrue result ↔ IsOpen (program_of rules.now)
+        (script_in script.now) (config_of config.now) event.now }
+{
+    if event.tick >= script.end() {
+        return false;
+    }
+    if event.tick < config.tick {
+        return false;
+    }
+    rules.is_none_missing(config, script, event.tick + 1, next_clock)
 }
 
 /// Judges the event by its tick, and lets it come where it is the start event that comes next. Want
@@ -50,18 +88,26 @@ fn is_in_time(rules: &Rules<'_>, config: &Config<'_>, script: &Script, event: &E
 pub fn begin<'a>(
     rules: &Rules<'a>,
     config: &mut Config<'a>,
-    script: &Script,
+    script: &ScriptCursor<'_>,
+    next_clock: u64,
     event: &Event,
 ) -> Result<Begun, AllocError>
     requires rules { AreRules rules.now }
     requires fits { Fits (program_of rules.now) (config_of config.old) }
     requires tick { config.old.tick < 2 ^ 61 }
+    requires script { IsAt config.old.tick script.now }
+    requires clock { IsClockFree rules.now.table.timings.items (config.old.tick + 1) next_clock }
     ensures begins { IfOk result (λ begun. Begins (program_of rules.now)
-        (script_of script.now.lines script.now.end) (config_of config.old) event.now begun
+        (script_in script.now) (config_of config.old) event.now begun
         (config_of config.new)) }
     ensures err { OnErr result (config_of config.new ≡ config_of config.old) }
 {
-    if is_in_time(rules, config, script, event) {
+    if !is_release(event.act) {
+        if is_open(rules, config, script, next_clock, event) {
+            return Ok(Begun::Open);
+        }
+    }
+    if is_in_time(rules, config, script, next_clock, event) {
         begin_in_time(rules, config, script, event)
     } else {
         Ok(Begun::Refused)
@@ -72,18 +118,19 @@ pub fn begin<'a>(
 fn begin_in_time<'a>(
     rules: &Rules<'a>,
     config: &mut Config<'a>,
-    script: &Script,
+    script: &ScriptCursor<'_>,
     event: &Event,
 ) -> Result<Begun, AllocError>
     requires rules { AreRules rules.now }
+    requires script { IsAt config.old.tick script.now }
     requires time { IsInTime (program_of rules.now)
-        (script_of script.now.lines script.now.end) (config_of config.old) event.now }
+        (script_in script.now) (config_of config.old) event.now }
     ensures begins { IfOk result (λ begun. Begins (program_of rules.now)
-        (script_of script.now.lines script.now.end) (config_of config.old) event.now begun
+        (script_in script.now) (config_of config.old) event.now begun
         (config_of config.new)) }
     ensures err { OnErr result (config_of config.new ≡ config_of config.old) }
 {
-    match rules.next_start(config, script.lines().as_slice(), event.tick) {
+    match rules.next_start(config, script, event.tick) {
         None => Ok(Begun::Open),
         Some(start) => {
             if is_start(event, start) {

@@ -1,17 +1,32 @@
 //! What devices answer.
 
-ghost use Rattle.std.specs.Prelude.{ℕ, ◌≡◌};
-ghost use Rattle.source_semantics.specs.Starts.{device_value as value_at};
-ghost use Rattle.replay_due_events.specs.Timings.{script_of};
+ghost use Rattle.std.specs.Prelude.{map, ◌≡◌};
+ghost use Rattle.source_semantics.specs.Starts.{device_value as value_at, value_set};
+ghost use Rattle.replay_due_events.specs.Timings.{line_of};
+ghost use Rattle.replay_accept.specs.Cursors.{IsWithin, script_in};
 ghost use Rattle.replay_accept.specs.Told.{value_after};
 
+use crate::cursor::ScriptCursor;
 use script::ScriptLine;
 
 /// What the device answers at the tick: the value set last, 0 where there is none.
-pub fn device_value(lines: &[ScriptLine], tick: u64, device: usize) -> i32
-    ensures { (end : ℕ) → result ≡ value_at (script_of lines.now end) tick device }
+pub fn device_value(script: &ScriptCursor<'_>, tick: u64, device: usize) -> i32
+    requires { IsWithin tick script.now }
+    ensures { result ≡ value_at (script_in script.now) tick device }
 {
-    let mut last = 0;
+    set_up_to(
+        script.up_to(tick),
+        tick,
+        device,
+        script.kept_word(device),
+    )
+}
+
+/// The value that these lines set last up to the tick, or the one before them.
+fn set_up_to(lines: &[ScriptLine], tick: u64, device: usize, before: i32) -> i32
+    ensures { result ≡ value_set tick device before (map line_of lines.now) }
+{
+    let mut last = before;
     for line in lines {
         last = set_by(line, tick, device, last);
     }

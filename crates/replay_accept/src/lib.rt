@@ -6,13 +6,15 @@
 //! tests: its tick, start events that are due, the process that is to act, what its next action
 //! tells.
 //!
-//! `is_told` and `may_act` test an act, `act` does it (`specs/Effects.antt`). Where memory is
+//! `ScriptCursor` passes the lines of a script as ticks are reached, and keeps what they set
+//! (`specs/Cursors.antt`). `is_told` and `may_act` test an act, `act` does it (`specs/Effects.antt`). Where memory is
 //! wanting the configuration is as it was.
 #![tactic(auto)]
 
 mod act_events;
 mod as_defined;
 mod begin;
+mod cursor;
 mod device;
 mod effects;
 mod giving;
@@ -25,6 +27,7 @@ mod source_actions;
 mod starting;
 mod telling;
 
+pub use cursor::ScriptCursor;
 pub use perform::{act, may_act};
 pub use rules::Rules;
 pub use running::Running;

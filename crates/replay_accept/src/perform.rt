@@ -1,19 +1,19 @@
 //! Acts of processes.
 
-ghost use Rattle.std.specs.Prelude.{OnErr, OnOk, ℕ, ◌≡◌};
+ghost use Rattle.std.specs.Prelude.{OnErr, OnOk, ◌≡◌};
 ghost use Rattle.syntax_tree.specs.Placed.{placed, plain};
 ghost use Rattle.source_semantics.specs.Source.{acts, may_act as is_free_for};
 ghost use Rattle.replay_state.specs.View.{action_of, config_of, next_of};
-ghost use Rattle.replay_due_events.specs.Timings.{script_of};
+ghost use Rattle.replay_accept.specs.Cursors.{IsWithin, script_in};
 ghost use Rattle.replay_state.specs.Texts.{IsText};
 
+use crate::cursor::ScriptCursor;
 use crate::effects::Wanted;
 use crate::saving::save;
 use crate::source_actions::{
     ask_empty, broadcast_on, end, enter, get, leave, raise_in, signal_on, wait,
 };
 use replay_state::{Action, Config, NextAction, ProgramContext};
-use script::ScriptLine;
 use std::alloc::AllocError;
 
 /// Whether a monitor that the action enters is free.
@@ -34,19 +34,20 @@ pub fn may_act(config: &Config<'_>, action: Action) -> bool
 pub fn act<'a>(
     config: &mut Config<'a>,
     text: &ProgramContext<'a>,
-    lines: &[ScriptLine],
+    script: &ScriptCursor<'_>,
     tick: u64,
     process: usize,
     next: NextAction<'a>,
 ) -> Result<(), AllocError>
-    requires { IsText text.now }
-    ensures ok { OnOk result ((end : ℕ) → config_of config.new ≡
-        (acts (plain (placed text.now.declarations.now)) (script_of lines.now end)
+    requires text { IsText text.now }
+    requires script { IsWithin tick script.now }
+    ensures ok { OnOk result (config_of config.new ≡
+        (acts (plain (placed text.now.declarations.now)) (script_in script.now)
         (config_of config.old) tick process (next_of next.entry)).config) }
     ensures err { OnErr result (config_of config.new ≡ config_of config.old) }
 {
     match next.action {
-        Action::Gets { dev } => get(config, lines, tick, process, next, dev),
+        Action::Gets { dev } => get(config, script, tick, process, next, dev),
         Action::Puts { .. } => save(config, tick, process, next),
         Action::Enters { mon } => enter(config, tick, process, next, mon),
         Action::Leaves { .. } => leave(config, tick, process, next),

@@ -1,17 +1,19 @@
 //! What events are judged by.
 
-ghost use Rattle.std.specs.Prelude.{IsTrue, length, option_map, ℕ, ◌<◌, ◌^◌, ◌↔◌, ◌≡◌};
+ghost use Rattle.std.specs.Prelude.{IsTrue, length, option_map, List, ◌+◌, ◌<◌, ◌^◌, ◌↔◌, ◌≡◌};
 ghost use Rattle.syntax_tree.specs.Plain.{Program};
 ghost use Rattle.source_semantics.specs.Source.{before, is_empty, ready_from};
 ghost use Rattle.source_semantics.specs.Starts.{NoneMissing, due};
 ghost use Rattle.replay_state.specs.Tables.{AreRanksOf, Fits};
 ghost use Rattle.replay_state.specs.View.{config_of};
-ghost use Rattle.replay_due_events.specs.NextDue.{FramesPass};
-ghost use Rattle.replay_due_events.specs.Timings.{IsTimetableOf, event_of, first_in, script_of};
+ghost use Rattle.replay_due_events.specs.NextDue.{FramesPass, due_from};
+ghost use Rattle.replay_due_events.specs.Timings.{IsClockFree, IsTimetableOf, event_of, first_in};
+ghost use Rattle.replay_due_events.specs.declared.timetable.Timing.{Timing};
+ghost use Rattle.replay_accept.specs.Cursors.{IsAt, IsWithin, script_in};
 
+use crate::cursor::ScriptCursor;
 use replay_due_events::{Start, Timetable, is_none_missing_before};
 use replay_state::{Config, ProgramContext, Ranks};
-use script::ScriptLine;
 
 /// What of a program events are judged by: its text, its timings, its ranks and ceilings, and how
 /// many routines it has.
@@ -24,39 +26,60 @@ pub struct Rules<'a> {
     pub routines: usize,
 }
 
+/// The tick before which the clock releases nobody from the first tick on at which a start event can
+/// be missing, where it releases nobody after the tick reached and before a tick.
+fn free_until(config: &Config<'_>, next_clock: u64) -> u64
+    ensures { (timings : List Timing) → IsClockFree timings (config.now.tick + 1) next_clock →
+        IsClockFree timings (due_from (config_of config.now)) result }
+{
+    if config.acted { next_clock } else { 0 }
+}
+
 impl<'a> Rules<'a> {
-    /// Whether no start event due before the tick is missing.
+    /// Whether no start event due before the tick is missing, where the clock is known to release
+    /// nobody after the tick reached and before a tick.
     pub(crate) fn is_none_missing(
         &self,
         config: &Config<'_>,
-        lines: &[ScriptLine],
+        script: &ScriptCursor<'_>,
         until: u64,
+        next_clock: u64,
     ) -> bool
         ghost program: { Program }
         requires table { IsTimetableOf program self.now.table }
         requires frames { FramesPass program }
         requires fits { Fits program (config_of config.now) }
         requires tick { config.now.tick < 2 ^ 61 }
-        ensures { (end : ℕ) → NoneMissing program (script_of lines.now end)
-            (config_of config.now) until ↔ IsTrue result }
+        requires script { IsAt config.now.tick script.now }
+        requires clock { IsClockFree self.now.table.timings.items (config.now.tick + 1)
+            next_clock }
+        ensures { NoneMissing program (script_in script.now) (config_of config.now) until ↔
+            IsTrue result }
     {
-        is_none_missing_before(&self.table, config, lines, until)
+        is_none_missing_before(
+            &self.table,
+            config,
+            script.up_to(until),
+            until,
+            free_until(config, next_clock),
+        )
     }
 
     /// The first start event that is due at the tick and has not come, if there is one.
     pub(crate) fn next_start(
         &self,
         config: &Config<'_>,
-        lines: &[ScriptLine],
+        script: &ScriptCursor<'_>,
         tick: u64,
     ) -> Option<Start>
         ghost program: { Program }
         requires table { IsTimetableOf program self.now.table }
         requires frames { FramesPass program }
-        ensures { (end : ℕ) → option_map (event_of tick) result ≡
-            first_in (due program (script_of lines.now end) (config_of config.now) tick) }
+        requires script { IsWithin tick script.now }
+        ensures { option_map (event_of tick) result ≡
+            first_in (due program (script_in script.now) (config_of config.now) tick) }
     {
-        self.table.first_due(config, lines, tick)
+        self.table.first_due(config, script.up_to(tick), tick)
     }
 
     /// Whether no ready process is taken before this one.

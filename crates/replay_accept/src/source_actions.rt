@@ -2,7 +2,7 @@
 //!
 //! Each leaves behind what the next action of its process says, and then has its effect.
 
-ghost use Rattle.std.specs.Prelude.{OnErr, OnOk, true, ℕ, ◌≡◌};
+ghost use Rattle.std.specs.Prelude.{OnErr, OnOk, true, ◌≡◌};
 ghost use Rattle.syntax_tree.specs.Placed.{placed, plain};
 ghost use Rattle.syntax_tree.specs.Plain.{Program};
 ghost use Rattle.source_semantics.specs.Config.{at_tick, enter as entered, leave as left};
@@ -10,33 +10,34 @@ ghost use Rattle.source_semantics.specs.Run.{asks_empty, broadcasts, ends, signa
 ghost use Rattle.source_semantics.specs.Source.{after_raise, effect, give_to, saved};
 ghost use Rattle.source_semantics.specs.Starts.{Script, device_value as value_at};
 ghost use Rattle.replay_state.specs.View.{config_of, next_of};
-ghost use Rattle.replay_due_events.specs.Timings.{script_of};
+ghost use Rattle.replay_accept.specs.Cursors.{IsWithin, script_in};
 ghost use Rattle.replay_state.specs.Texts.{IsText};
 
+use crate::cursor::ScriptCursor;
 use crate::device::device_value;
 use crate::effects::{Wanted, begin_wait, broadcast, signal};
 use crate::giving::{give, word_of};
 use crate::queue::{is_nobody_in, queue};
 use crate::saving::save;
 use replay_state::{Activity, Config, NextAction, ProgramContext, join, prepare, raise, set_doing};
-use script::ScriptLine;
 use std::alloc::AllocError;
 
 /// The process reads from the device.
 pub fn get<'a>(
     config: &mut Config<'a>,
-    lines: &[ScriptLine],
+    script: &ScriptCursor<'_>,
     tick: u64,
     process: usize,
     next: NextAction<'a>,
     device: usize,
 )
-    ensures { (end : ℕ) → config_of config.new ≡ give_to process
-        (value_at (script_of lines.now end) tick device)
+    requires { IsWithin tick script.now }
+    ensures { config_of config.new ≡ give_to process
+        (value_at (script_in script.now) tick device)
         (saved (at_tick (config_of config.old) tick true) process
         (next_of next.entry)) }
 {
-    let value = i64::from(device_value(lines, tick, device));
+    let value = i64::from(device_value(script, tick, device));
     save(config, tick, process, next);
     give(&mut config.jobs, process, value);
 }

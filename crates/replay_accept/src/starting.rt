@@ -16,7 +16,7 @@ use replay_state::{Activity, Config, ProcessState, release, time_out};
 use std::alloc::AllocError;
 
 /// Whether the act is a release.
-fn is_release(act: Act) -> bool
+pub fn is_release(act: Act) -> bool
     ensures { IsTrue result ↔ (act ≡ act_is.Release) }
 {
     match act {

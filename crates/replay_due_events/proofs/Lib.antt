@@ -6,3 +6,4 @@ pub mod Ranked
 pub mod Members
 pub mod Agreeing
 pub mod Nexting
+mod ClockFree

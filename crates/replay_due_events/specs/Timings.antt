@@ -1,6 +1,6 @@
 -- How the processes of a program are released, by number, and the start events that are due by
 -- that.
-use Rattle.std.specs.Prelude.{◌≡◌, ℕ, suc, ◌+◌, ◌-◌, ◌%◌, ◌<◌, Bool, false, cond, ◌&&◌, List, [], ◌∷◌, ◌++◌, Option, Some, None, nat_eq, nat_le, map, slice_get, flat_map, All}
+use Rattle.std.specs.Prelude.{◌≡◌, ℕ, suc, ◌+◌, ◌-◌, ◌%◌, ◌≤◌, ◌<◌, Bool, false, cond, ◌&&◌, List, [], ◌∷◌, ◌++◌, Option, Some, None, nat_eq, nat_le, map, slice_get, flat_map, All}
 use Rattle.base.specs.declared.event.Event.{Event}
 use Rattle.base.specs.declared.event.Act.TheVariants as act
 use Rattle.syntax_tree.specs.Plain.{Trigger, periodic, at_event, Program}
@@ -62,6 +62,10 @@ is_at e (timing_is.AtEvent own) = nat_eq own e
 abbrev pub is_clocked : ℕ → Timing → Bool
 is_clocked t (timing_is.Periodic frame first) = nat_le first t && nat_eq ((t - first) % frame) 0
 is_clocked t (timing_is.AtEvent own) = false
+
+-- from one tick on and before the other the clock releases nobody
+abbrev pub IsClockFree : List Timing → (from until : ℕ) → Type 0
+IsClockFree ts from until = (u k : ℕ) (x : Timing) → from ≤ u → u < until → slice_get ts k ≡ Some x → is_clocked u x ≡ false
 
 -- the releases by an event that have not come, of the processes from number k on
 abbrev pub released_by : List Job → ℕ → ℕ → ℕ → List Timing → List Event

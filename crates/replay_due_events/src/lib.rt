@@ -6,11 +6,13 @@
 //! what it means that an event is accepted (`specs/Accepts.antt`).
 #![tactic(auto)]
 
+mod clock;
 mod due_starts;
 pub mod next_due;
 mod no_overdue_start;
 mod timetable;
 
+pub use clock::next_clock_tick;
 pub use due_starts::{Start, by_event, has_acted, is_released_at};
 pub use no_overdue_start::is_none_missing_before;
 pub use timetable::{Timetable, Timing};

@@ -12,7 +12,7 @@ ghost use Rattle.source_semantics.specs.Names.{processes};
 ghost use Rattle.source_semantics.specs.Starts.{NoneMissing};
 ghost use Rattle.replay_due_events.specs.NextDue.{FramesPass, doing_due, due_from, is_after, line_due, lines_due, next_in_order, release_from};
 ghost use Rattle.replay_state.specs.View.{config_of, doing_of, jobs_of};
-ghost use Rattle.replay_due_events.specs.Timings.{FramesCount, IsTimetableOf, line_of, script_of, timings as timings_in};
+ghost use Rattle.replay_due_events.specs.Timings.{FramesCount, IsClockFree, IsTimetableOf, line_of, script_of, timings as timings_in};
 ghost use Rattle.replay_due_events.specs.Next.{timing_due, timings_due, jobs_due};
 
 use crate::{Timetable, Timing, by_event, is_released_at};
@@ -73,7 +73,7 @@ fn lines_are_after(
 }
 
 /// The first periodic release from a tick on.
-fn next_release(first: u32, frame: u32, from: u64) -> u64
+pub(crate) fn next_release(first: u32, frame: u32, from: u64) -> u64
     requires frame { 0 < frame }
     requires from { from < 2 ^ 62 }
     ensures next { result ≡ release_from first frame from }
@@ -128,6 +128,25 @@ fn releases_are_after(timings: &[Timing], jobs: &[ProcessState<'_>], from: u64, 
     true
 }
 
+/// The same, where the clock is known to release nobody before a tick.
+fn clock_is_after(
+    timings: &[Timing],
+    jobs: &[ProcessState<'_>],
+    from: u64,
+    until: u64,
+    free_until: u64,
+) -> bool
+    requires frames { FramesCount timings.now }
+    requires from { from < 2 ^ 62 }
+    requires free { IsClockFree timings.now from free_until }
+    ensures { result ≡ is_after until (timings_due (jobs_of jobs.now) from 0 timings.now) }
+{
+    if until <= free_until {
+        return true;
+    }
+    releases_are_after(timings, jobs, from, until)
+}
+
 /// Whether the process's wait does not time out from tick `from` on and before tick `until`.
 fn wait_is_after(doing: Activity, from: u64, until: u64) -> bool
     ensures { result ≡ is_after until (doing_due from (doing_of doing)) }
@@ -173,12 +192,20 @@ fn all_hold(first: bool, second: bool, third: bool) -> bool
 }
 
 /// Whether the next start event that is missing is not before the tick.
-fn is_next_after(table: &Timetable, config: &Config<'_>, lines: &[ScriptLine], until: u64) -> bool
+fn is_next_after(
+    table: &Timetable,
+    config: &Config<'_>,
+    lines: &[ScriptLine],
+    until: u64,
+    free_until: u64,
+) -> bool
     ghost program: { Program }
     requires table { IsTimetableOf program table.now }
     requires frames { FramesCount table.now.timings.items }
     requires jobs { length config.now.jobs.items ≡ length (processes program) }
     requires tick { config.now.tick < 2 ^ 61 }
+    requires free { IsClockFree table.now.timings.items (due_from (config_of config.now))
+        free_until }
     ensures { (end : ℕ) → result ≡ is_after until
         (next_in_order program (script_of lines.now end) (config_of config.now)) }
 {
@@ -186,27 +213,31 @@ fn is_next_after(table: &Timetable, config: &Config<'_>, lines: &[ScriptLine], u
     let timings = table.timings.as_slice();
     let jobs = config.jobs.as_slice();
     let by_lines = lines_are_after(timings, config, from, until, lines);
-    let by_clock = releases_are_after(timings, jobs, from, until);
+    let by_clock = clock_is_after(timings, jobs, from, until, free_until);
     let by_waits = waits_are_after(jobs, from, until);
     all_hold(by_lines, by_clock, by_waits)
 }
 
-/// Whether no start event due before the tick is missing.
+/// Whether no start event due before the tick is missing, where the clock is known to release nobody
+/// before a tick.
 pub fn is_none_missing_before(
     table: &Timetable,
     config: &Config<'_>,
     lines: &[ScriptLine],
     until: u64,
+    free_until: u64,
 ) -> bool
     ghost program: { Program }
     requires table { IsTimetableOf program table.now }
     requires frames { FramesPass program }
     requires jobs { length config.now.jobs.items ≡ length (processes program) }
     requires tick { config.now.tick < 2 ^ 61 }
+    requires free { IsClockFree table.now.timings.items (due_from (config_of config.now))
+        free_until }
     ensures { (end : ℕ) → NoneMissing program (script_of lines.now end)
         (config_of config.now) until ↔ IsTrue result }
 {
     crate::next_due::none_missing_is_one_comparison();
     crate::next_due::waits_stand_in_any_order();
-    is_next_after(table, config, lines, until)
+    is_next_after(table, config, lines, until, free_until)
 }

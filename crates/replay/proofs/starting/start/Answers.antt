@@ -12,7 +12,7 @@ returns c =
     let is : config ≡ start g = c.in_ok-config.ensures in
     let tick : config.tick ≡ 0 = ap (λ d. d.tick) is in
     record {
-      stands = record { rules = c.in_ok-rules.ensures.rules; fits = fits_at_start g config is; tick = omega (arith, tick) };
+      stands = record { rules = c.in_ok-rules.ensures.rules; fits = fits_at_start g config is; tick = omega (arith, tick); clock = λ u k x low high at. absurd (omega (arith, high)) };
       program = c.in_ok-rules.ensures.program;
       start = is ∙ ap start c.in_ok-rules.ensures.program;
     }

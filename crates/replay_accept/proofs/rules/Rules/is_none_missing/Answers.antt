@@ -1,8 +1,19 @@
-use Rattle.std.proofs.Common.{◌∙◌, sym}
+use Rattle.std.proofs.Common.{◌≡◌, ◌≤◌, ◌∙◌, ap, sym, arith}
+use Rattle.std.specs.Prelude.{IsTrue}
 use Rattle.std.proofs.lemmas.List.{length-map}
-use Rattle.replay_state.specs.View.{job_of}
+use Rattle.replay_state.specs.View.{config_of, job_of}
+use Rattle.replay_due_events.specs.Timings.{script_of}
+use Rattle.replay_accept.specs.Cursors.{script_in}
+use Rattle.replay_accept.proofs.Passing.{missing_alike}
 use Rattle.replay_accept.proofs.rules.Rules.is_none_missing.Goals as goal
 
 pub is_none_missing_before-requires : goal.is_none_missing_before-requires
 is_none_missing_before-requires g c =
-    (c.requires.0, (c.requires.1.0, (sym (length-map c.args.config.now.jobs.items job_of) ∙ c.requires.1.1.0.jobs, c.requires.1.1.1)))
+    (c.requires.0, (c.requires.1.0, (sym (length-map c.args.config.now.jobs.items job_of) ∙ c.requires.1.1.0.jobs, (c.requires.1.1.1.0, c.free_until.ensures c.args.self.now.table.timings.items c.requires.1.1.1.1.1))))
+
+pub returns : goal.returns
+returns g c =
+    let s = c.args.script.now in
+    missing_alike g.program (config_of c.args.config.now) (script_of c.up_to.result.now s.script.now.end) (script_in s) c.args.until (IsTrue c.is_none_missing_before.result)
+    (λ u low high. c.up_to.ensures.due g.program (config_of c.args.config.now) u (omega (arith, low, c.requires.1.1.1.1.0.reached)) (omega (arith, high)))
+    (c.is_none_missing_before.ensures s.script.now.end)

@@ -1,0 +1,11 @@
+use Rattle.std.proofs.Common.{arith}
+use Rattle.replay_state.specs.View.{config_of}
+use Rattle.replay_accept.specs.Cursors.{script_in}
+use Rattle.replay_accept.specs.Running.{program_of}
+use Rattle.replay_accept.proofs.Judging.{open_up_to}
+use Rattle.replay_accept.proofs.begin.is_open.Goals as goal
+
+pub returns : goal.returns
+returns c =
+    open_up_to (program_of c.args.rules.now) (script_in c.args.script.now) (config_of c.args.config.now) c.args.event.now c.is_none_missing.result (omega arith) (omega arith)
+    c.is_none_missing.ensures

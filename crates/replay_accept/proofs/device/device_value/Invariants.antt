@@ -1,8 +1,0 @@
-use Rattle.std.proofs.Common.{◌≡◌, drop, map}
-use Rattle.std.specs.Prelude.{pos}
-use Rattle.source_semantics.specs.Starts.{value_set}
-use Rattle.replay_due_events.specs.Timings.{line_of}
-use Rattle.replay_accept.proofs.device.device_value.Given as goal
-
-abbrev pub invariant-loop-line : goal.invariant-loop-line
-invariant-loop-line l = value_set l.tick l.device l.last (map line_of (drop l.line-index l.lines)) ≡ value_set l.tick l.device (pos 0) (map line_of l.lines)
