@@ -104,12 +104,12 @@ now_in_time g s c e before same = record { before_end = before; reached = omega 
 pub open_up_to : (g : Program) (s : Script) (c : Config) (e : Event) (b : Bool) → e.tick < s.end_tick → c.tick ≤ e.tick → NoneMissing g s c (e.tick + 1) ↔ IsTrue b → IsTrue b ↔ IsOpen g s c e
 open_up_to g s c e b before reached is = (
   λ h. (
-    let none : NoneMissing g s c (e.tick + 1) = is.1 h in
-    record {
-      in_time = record { before_end = before; reached = reached; none_missing = λ u low high. none u low (omega (arith, high)) };
-      none_due = none e.tick reached (omega arith);
-    }
-  ),
+      let none : NoneMissing g s c (e.tick + 1) = is.1 h in
+      record {
+        in_time = record { before_end = before; reached = reached; none_missing = λ u low high. none u low (omega (arith, high)) };
+        none_due = none e.tick reached (omega arith);
+      }
+      ),
   λ o. is.0 (λ u low high. elim (cases_lt u e.tick) [
     | inl lt ↦ o.in_time.none_missing u low lt
     | inr ge ↦ let same : e.tick ≡ u = omega (arith, ge, high) in subst (λ k. due g s c k ≡ []) same o.none_due

@@ -164,14 +164,14 @@ pub pass_one : (t done : ℕ) (lines : List ScriptLine) (words later : List ℤ)
     → ArePassed t done lines words → ArePassed t (done + 1) lines later
 pass_one t done lines words later l split past kept passed = record {
   releases = λ g c u low.
-    passed.releases g c u low
-    ∙ (ap (λ (ls : List ScriptLine). event_releases g c u (map line_of ls)) split ∙ releases_past g c u l (drop (done + 1) lines) (omega (arith, low, past)));
+      passed.releases g c u low
+      ∙ (ap (λ (ls : List ScriptLine). event_releases g c u (map line_of ls)) split ∙ releases_past g c u l (drop (done + 1) lines) (omega (arith, low, past)));
   words = λ u d low.
-    passed.words u d low
-    ∙ (
+      passed.words u d low
+      ∙ (
       ap (λ (ls : List ScriptLine). value_set u d (word d words) (map line_of ls)) split
       ∙ (value_past u d (word d words) l (drop (done + 1) lines) (omega (arith, low, past)) ∙ ap (λ (v : ℤ). value_set u d v (map line_of (drop (done + 1) lines))) (sym (kept d)))
-    );
+      );
 }
 
 pub pass_later : (t u done : ℕ) (lines : List ScriptLine) (words : List ℤ) → t ≤ u → ArePassed t done lines words → ArePassed u done lines words

@@ -140,13 +140,7 @@ impl<'s> ScriptCursor<'s> {
         ensures script { self.new.script ≡ self.old.script }
     {
         let lines = self.script.lines().as_slice();
-        pass_lines(
-            lines,
-            self.in_order,
-            &mut self.done,
-            &mut self.words,
-            tick,
-        );
+        pass_lines(lines, self.in_order, &mut self.done, &mut self.words, tick);
         self.reached = tick;
     }
 

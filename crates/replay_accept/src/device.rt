@@ -14,12 +14,7 @@ pub fn device_value(script: &ScriptCursor<'_>, tick: u64, device: usize) -> i32
     requires { IsWithin tick script.now }
     ensures { result ≡ value_at (script_in script.now) tick device }
 {
-    set_up_to(
-        script.up_to(tick),
-        tick,
-        device,
-        script.kept_word(device),
-    )
+    set_up_to(script.up_to(tick), tick, device, script.kept_word(device))
 }
 
 /// The value that these lines set last up to the tick, or the one before them.

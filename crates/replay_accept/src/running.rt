@@ -9,8 +9,8 @@ ghost use Rattle.replay_accept.specs.Cursors.{IsAt, script_in};
 ghost use Rattle.replay_accept.specs.Running.{AreRules, Stands, program_of};
 
 use crate::act_events::act_by;
-use crate::cursor::ScriptCursor;
 use crate::begin::{Begun, begin};
+use crate::cursor::ScriptCursor;
 use crate::rules::Rules;
 use base::Event;
 use replay_due_events::next_clock_tick;

@@ -30,6 +30,6 @@ pub returns-else-is_start-clause-begins : goal.returns-else-is_start-clause-begi
 returns-else-is_start-clause-begins c =
     let x = event_of c.args.event.now.tick c.in-Some.start in (
       not_first (program_of c.args.rules.now) (script_in c.args.script.now) (config_of c.args.config.now) c.args.event.now x c.in-Some.ensures
-      (λ h. let bad : true ≡ false = sym (c.is_start.ensures.1 h) ∙ c.if-is_start.false in absurd cc),
+          (λ h. let bad : true ≡ false = sym (c.is_start.ensures.1 h) ∙ c.if-is_start.false in absurd cc),
       refl,
     )

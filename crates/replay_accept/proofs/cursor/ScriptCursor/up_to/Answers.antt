@@ -11,8 +11,8 @@ returns-then-self-clause-due c = λ g d u low high.
     let s = c.args.self.now in
     due_alike g d u s.script.now.end c.lines_until.result.now (lines_of s)
     (
-      ap (λ (ls : List ScriptLine). event_releases g d u (map line_of ls)) (c.lines_until.ensures ∙ ap (until c.args.tick) c.coming-lines.ensures)
-      ∙ (releases_until g d u c.args.tick s.reached (drop s.done (lines_of s)) (c.requires.coming c.if-self.true) high ∙ sym (c.requires.passed.releases g d u low))
+    ap (λ (ls : List ScriptLine). event_releases g d u (map line_of ls)) (c.lines_until.ensures ∙ ap (until c.args.tick) c.coming-lines.ensures)
+    ∙ (releases_until g d u c.args.tick s.reached (drop s.done (lines_of s)) (c.requires.coming c.if-self.true) high ∙ sym (c.requires.passed.releases g d u low))
     )
 
 pub returns-then-self-clause-words : goal.returns-then-self-clause-words
