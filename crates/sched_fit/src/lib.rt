@@ -9,7 +9,9 @@
 
 pub mod fit_law;
 mod fitting;
+mod overhead;
 mod uncounted;
 
 pub use fitting::{Number, fit};
+pub use overhead::{overhead_fit, with_overhead};
 pub use uncounted::fit_of;
