@@ -1,5 +1,5 @@
 -- Tasks with an overhead.
-use Rattle.std.proofs.Common.{◌≡◌, ◌≤◌, ◌<◌, ◌+◌, ◌*◌, inl, inr, ℕ, zero, suc, List, [], ◌∷◌, All, get_or, length, map, ap, sym, subst, ◌∙◌, arith, refl}
+use Rattle.std.proofs.Common.{◌≡◌, ◌≤◌, ◌<◌, ◌+◌, ◌*◌, ◌↔◌, inl, inr, ℕ, zero, suc, List, [], ◌∷◌, All, get_or, length, map, ap, sym, subst, ◌∙◌, arith, refl}
 use Rattle.std.proofs.lemmas.Bool.{cases_lt}
 use Rattle.std.proofs.lemmas.List.Elements.{All-get_or, All-from_get_or}
 use Rattle.std.proofs.lemmas.List.Sorted.{IsNonDecreasingBy-from_default}
@@ -89,3 +89,9 @@ greatest ts x high next low fits fails = record {
     | inr le ↦ le
   ];
 }
+
+pub has_some : (ts : List Task) (over x : ℕ) → over ≤ 1000 → IsGreatestOverhead ts x → IsTimely (with_overhead ts over) ↔ (over ≤ x)
+has_some ts over x low fit = (λ timely. fit.greatest over low timely, λ less. falls ts over x less fit.fits)
+
+pub has_none : (ts : List Task) (over : ℕ) → (IsTimely (with_overhead ts 0) → ⊥) → IsTimely (with_overhead ts over) → ⊥
+has_none ts over none timely = none (falls ts 0 over (omega arith) timely)
