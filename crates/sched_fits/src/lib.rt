@@ -1,12 +1,15 @@
-//! The text that tells what fits.
+//! What fits of each process, as text.
 //!
-//! `specs/Lines.antt` is the text: the overhead that fits, and for each process its cost and its
-//! suspension with what fits in their places. It is a function of these numbers alone, and
-//! `fits_text` promises exactly that.
+//! `specs/Rows.antt` says what is told of a process: its cost and its suspension, and what fits in
+//! their places; `specs/Lines.antt` is the text, a function of these numbers and of the overhead
+//! alone. `process_fits` finds the numbers, `fits_text` writes the text.
 #![tactic(auto)]
 
+mod finding;
 mod lines;
 mod rows;
+pub mod text_law;
 
+pub use finding::process_fits;
 pub use lines::fits_text;
 pub use rows::{ProcessFit, SuspensionFit};

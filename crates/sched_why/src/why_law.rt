@@ -1,0 +1,12 @@
+//! The tasks of a program, with one overhead and another.
+//!
+//! The laws. These functions do nothing; their contracts are the laws.
+
+ghost use Rattle.sched_why.specs.WhyLaw.{OverheadsAreAdded, TasksInTimeAreProgramsInTime};
+
+/// The tasks of a program without an overhead, with one, are its tasks with this one; where they
+/// are in time, the program is.
+pub fn overheads_are_added()
+    ensures tasks { OverheadsAreAdded }
+    ensures in_time { TasksInTimeAreProgramsInTime }
+{}
