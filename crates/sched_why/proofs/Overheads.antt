@@ -1,5 +1,5 @@
 -- The tasks of a program with an overhead.
-use Rattle.std.proofs.Common.{◌≡◌, ◌≤◌, ◌<◌, ◌+◌, ◌-◌, ◌*◌, inl, inr, ℕ, zero, suc, List, length, ap, sym, subst, ◌∙◌, arith}
+use Rattle.std.proofs.Common.{◌≡◌, ◌≤◌, ◌<◌, ◌+◌, ◌-◌, ◌*◌, inl, inr, ℕ, zero, suc, List, [], ◌∷◌, length, ap, sym, subst, ◌∙◌, arith, refl}
 use Rattle.std.specs.Prelude.{slice_get, Some}
 use Rattle.std.proofs.lemmas.Bool.{cases_lt}
 use Rattle.std.proofs.Math.Nat.{mul-le-mul_right}
@@ -12,10 +12,15 @@ use Rattle.sched_response.specs.declared.tasks.Task.{Task}
 use Rattle.sched_response.specs.Demand.{task_at}
 use Rattle.sched_fit.specs.Overhead.{with_overhead}
 use Rattle.sched_fit.specs.Overhead as overhead
-use Rattle.sched_fit.proofs.Overheads.{as_many, task_with}
+use Rattle.sched_fit.proofs.Overheads.{as_many}
 use Rattle.sched_program.specs.Tasks.{with_dispatches, IsTaskOf}
 use Rattle.sched_why.specs.WhyLaw.{OverheadsAreAdded, TasksInTimeAreProgramsInTime}
 use Rattle.sched_why.proofs.Within.{level_within}
+
+task_with : (ts : List Task) (over k : ℕ) → k < length ts → task_at (with_overhead ts over) k ≡ overhead.with_dispatches over (task_at ts k)
+task_with [] over k below = absurd (omega (arith, below))
+task_with (t ∷ ts) over zero below = refl
+task_with (t ∷ ts) over (suc k) below = task_with ts over k (omega (arith, below))
 
 none_at_all : (w : ℕ) → 2 * 0 * (1 + w) ≡ 0
 none_at_all w = grind arith
