@@ -1,6 +1,6 @@
 -- The tasks of a program with an overhead.
 use Rattle.std.proofs.Common.{◌≡◌, ◌≤◌, ◌<◌, ◌+◌, ◌-◌, ◌*◌, inl, inr, ℕ, zero, suc, List, [], ◌∷◌, length, ap, sym, subst, ◌∙◌, arith, refl}
-use Rattle.std.specs.Prelude.{slice_get, Some}
+use Rattle.std.specs.Prelude.{Option, Some, None, slice_get}
 use Rattle.std.proofs.lemmas.Bool.{cases_lt}
 use Rattle.std.proofs.Math.Nat.{mul-le-mul_right}
 use Rattle.base.specs.Capped.{cap}
@@ -13,8 +13,9 @@ use Rattle.sched_response.specs.Demand.{task_at}
 use Rattle.sched_fit.specs.Overhead.{with_overhead}
 use Rattle.sched_fit.specs.Overhead as overhead
 use Rattle.sched_fit.proofs.Overheads.{as_many}
-use Rattle.sched_program.specs.Tasks.{with_dispatches, IsTaskOf}
-use Rattle.sched_why.specs.WhyLaw.{OverheadsAreAdded, TasksInTimeAreProgramsInTime}
+use Rattle.sched_slack.specs.Slack.{IsTimely}
+use Rattle.sched_program.specs.Tasks.{with_dispatches, AreTasksOf, IsInTime, IsTaskOf}
+use Rattle.sched_why.specs.WhyLaw.{HasOneTaskList, OverheadsAreAdded, OverheadsThatFitAreOfTheText, TasksInTimeAreProgramsInTime}
 use Rattle.sched_why.proofs.Within.{level_within}
 
 task_with : (ts : List Task) (over k : ℕ) → k < length ts → task_at (with_overhead ts over) k ≡ overhead.with_dispatches over (task_at ts k)
@@ -62,3 +63,14 @@ added g over ts are = record {
 
 pub in_time : TasksInTimeAreProgramsInTime
 in_time g over ts are timely = record { tasks = with_overhead ts over; are = added g over ts are; each = timely }
+
+timely_by : (g : Program) (ts : List Task) (over : ℕ) → HasOneTaskList g → AreTasksOf g 0 ts → IsInTime g over → IsTimely (with_overhead ts over)
+timely_by g ts over one are in_time = subst (λ (us : List Task). IsTimely us) (one over in_time.tasks (with_overhead ts over) in_time.are (added g over ts are)) in_time.each
+
+pub that_fit : OverheadsThatFitAreOfTheText
+that_fit g ts None one are none = λ in_time. none (timely_by g ts 0 one are in_time)
+that_fit g ts (Some over) one are fit = record {
+  in_range = fit.in_range;
+  fits = in_time g over ts are fit.fits;
+  greatest = λ other low timely. fit.greatest other low (timely_by g ts other one are timely);
+}
