@@ -1,8 +1,6 @@
 -- Rows whose text is known: a process that waits and one that signals, and one whose cost is past
 -- counting.
-use Rattle.std.specs.Prelude.{◌≡◌, ℕ, List, [], ◌∷◌, Option, Some, None, codes}
-use Rattle.sched_fits.specs.declared.rows.SuspensionFit.{SuspensionFit}
-use Rattle.sched_fits.specs.declared.rows.ProcessFit.{ProcessFit}
+use Rattle.std.specs.Prelude.{◌≡◌, [], ◌∷◌, Some, None, codes}
 use Rattle.sched_fits.specs.Lines.{fits_text}
 
 abbrev pub WaitIsShown : Type 0

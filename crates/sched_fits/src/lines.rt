@@ -24,10 +24,7 @@ fn add_optional(text: &mut Text, words: &str, number: Option<u64>) -> Result<(),
 
 /// Puts a suspension, and what fits in its place, at the end of a text.
 #[tactic(auto, unfolding(crate::specs::Lines::suspension_text))]
-fn add_suspension(
-    text: &mut Text,
-    suspension: Option<SuspensionFit>,
-) -> Result<(), AllocError>
+fn add_suspension(text: &mut Text, suspension: Option<SuspensionFit>) -> Result<(), AllocError>
     ensures { OnOk result (text.new ≡ text.old ++ suspension_text suspension) }
 {
     match suspension {

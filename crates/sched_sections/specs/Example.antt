@@ -1,6 +1,6 @@
 -- Levels whose text is known: a process that waits and one that signals, three of which one is held
 -- up in a monitor, two of which one is late, and one whose cost is past counting.
-use Rattle.std.specs.Prelude.{◌≡◌, ◌++◌, ℕ, List, [], ◌∷◌, Option, Some, None, codes}
+use Rattle.std.specs.Prelude.{◌≡◌, ℕ, List, [], ◌∷◌, Option, Some, None, codes}
 use Rattle.sched_sections.specs.declared.levels.Blocker.{Blocker}
 use Rattle.sched_sections.specs.declared.levels.Level.{Level}
 use Rattle.sched_sections.specs.Sections.{bounds_text}

@@ -14,4 +14,3 @@ pub mod text_law;
 
 pub use levels::{Blocker, Level};
 pub use sections::bounds_text;
-

@@ -1,11 +1,10 @@
 -- The tasks of a program with an overhead.
 use Rattle.std.proofs.Common.{◌≡◌, ◌≤◌, ◌<◌, ◌+◌, ◌-◌, ◌*◌, inl, inr, ℕ, zero, suc, List, [], ◌∷◌, length, ap, sym, subst, ◌∙◌, arith, refl}
-use Rattle.std.specs.Prelude.{Option, Some, None, slice_get}
+use Rattle.std.specs.Prelude.{Some, None}
 use Rattle.std.proofs.lemmas.Bool.{cases_lt}
 use Rattle.std.proofs.Math.Nat.{mul-le-mul_right}
 use Rattle.base.specs.Capped.{cap}
 use Rattle.syntax_tree.specs.Plain.{Process, Program}
-use Rattle.source_semantics.specs.Names.{processes}
 use Rattle.source_semantics.specs.Ranks.{rank}
 use Rattle.code_cost_spec.specs.Levels.{cost_of_process}
 use Rattle.sched_response.specs.declared.tasks.Task.{Task}

@@ -1,7 +1,6 @@
-use Rattle.std.proofs.Common.{◌≡◌, ◌≤◌, ◌<◌, ◌+◌, ◌-◌, ◌*◌, ◌/◌, ℕ, length, IsTrue, arith, refl}
-use Rattle.sched_slack.specs.Slack.{evaluations, IsTimely}
+use Rattle.std.proofs.Common.{◌<◌, ◌+◌, ◌-◌, ◌*◌, ◌/◌, length, IsTrue, arith}
+use Rattle.sched_slack.specs.Slack.{evaluations}
 use Rattle.sched_slack.proofs.Halving.{Pass, next_pass}
-use Rattle.sched_fit.specs.Overhead.{with_overhead}
 use Rattle.sched_fit.proofs.Overheads.{falls, greatest}
 use Rattle.sched_fit.proofs.overhead.greatest_overhead.Goals as goal
 

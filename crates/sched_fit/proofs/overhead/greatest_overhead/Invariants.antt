@@ -1,4 +1,4 @@
-use Rattle.std.proofs.Common.{◌≡◌, ◌-◌, ◌+◌, ◌*◌, ◌^◌, ◌≤◌, ◌<◌, ℕ, length}
+use Rattle.std.proofs.Common.{◌-◌, ◌+◌, ◌*◌, ◌^◌, ◌≤◌, ◌<◌, ℕ, length}
 use Rattle.sched_slack.specs.Slack.{evaluations, IsTimely}
 use Rattle.sched_fit.specs.Overhead.{with_overhead}
 use Rattle.sched_fit.proofs.overhead.greatest_overhead.Given as goal

@@ -1,4 +1,4 @@
-use Rattle.std.proofs.Common.{◌≡◌, ◌≤◌, ◌+◌, List, length, IsTrue, ◌↔◌, ap, subst, sym, ◌∙◌, arith}
+use Rattle.std.proofs.Common.{◌≡◌, List, length, IsTrue, ◌↔◌, ap, subst, ◌∙◌, arith}
 use Rattle.sched_response.specs.declared.tasks.Task.{Task}
 use Rattle.sched_slack.specs.Slack.{evaluations, IsTimely}
 use Rattle.sched_fit.proofs.Overheads.{evaluations_stay}
