@@ -1,8 +1,8 @@
-//! The tasks of a program, with one overhead and another.
+//! The tasks of a program, with one overhead and another, and the sums of their parts.
 //!
 //! The laws. These functions do nothing; their contracts are the laws.
 
-ghost use Rattle.sched_why.specs.WhyLaw.{OverheadsAreAdded, OverheadsThatFitAreOfTheText, TasksInTimeAreProgramsInTime};
+ghost use Rattle.sched_why.specs.WhyLaw.{OverheadsAreAdded, OverheadsThatFitAreOfTheText, SumsAreTheBounds, SumsWithoutABoundAreLate, TasksInTimeAreProgramsInTime};
 
 /// The tasks of a program without an overhead, with one, are its tasks with this one; where they
 /// are in time, the program is.
@@ -15,4 +15,11 @@ pub fn overheads_are_added()
 /// program, by its text.
 pub fn overheads_that_fit_are_of_the_text()
     ensures { OverheadsThatFitAreOfTheText }
+{}
+
+/// The sum that is shown of a process is its bound, where it has one and runs at all, and past the
+/// deadline where it has none.
+pub fn sums_are_the_bounds()
+    ensures bound { SumsAreTheBounds }
+    ensures late { SumsWithoutABoundAreLate }
 {}
