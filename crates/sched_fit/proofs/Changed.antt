@@ -1,10 +1,10 @@
 -- Tasks of which one number is changed.
-use Rattle.std.proofs.Common.{◌≡◌, ◌≤◌, ◌<◌, ◌+◌, inl, inr, ℕ, zero, suc, List, length, ap, sym, subst, ◌∙◌, arith, refl}
+use Rattle.std.proofs.Common.{◌≡◌, ◌≤◌, ◌<◌, ◌+◌, inl, inr, ℕ, List, length, ap, sym, subst, ◌∙◌, arith, refl}
 use Rattle.std.specs.Prelude.{slice_set}
 use Rattle.std.proofs.lemmas.Bool.{cases_eq}
 use Rattle.std.proofs.lemmas.List.{get_or-set_same, get_or-set_other, set-get_or, set-set, length-set}
 use Rattle.sched_response.specs.declared.tasks.Task.{Task}
-use Rattle.sched_response.specs.Demand.{task_at, deadline_at, with_run, with_susp}
+use Rattle.sched_response.specs.Demand.{task_at, deadline_at}
 use Rattle.sched_slack.specs.Slack.{evaluations, IsTimely}
 use Rattle.sched_fit.specs.declared.fitting.Number.{Number}
 use Rattle.sched_fit.specs.declared.fitting.Number.TheVariants.{Cost, Suspension}

@@ -1,5 +1,5 @@
 -- What the answers of the search for a failing level say, and what a bisection finds.
-use Rattle.std.proofs.Common.{◌≡◌, ◌≤◌, ◌<◌, ◌+◌, inl, inr, ℕ, List, length, Bool, true, false, Option, Some, None, IfSome, IfNone, IsTrue, ◌↔◌, ap, sym, subst, ◌∙◌, arith, refl}
+use Rattle.std.proofs.Common.{◌≡◌, ◌≤◌, ◌<◌, ◌+◌, inl, inr, ℕ, List, length, Bool, true, false, Option, Some, None, IfSome, IfNone, IsTrue, ◌↔◌, arith, refl}
 use Rattle.std.specs.Prelude.{is_some, not}
 use Rattle.std.proofs.lemmas.Bool.{cases_lt}
 use Rattle.sched_response.specs.declared.tasks.Task.{Task}

@@ -1,11 +1,11 @@
 -- Tasks that ask for less have the solutions of the others.
-use Rattle.std.proofs.Common.{◌≡◌, ◌≤◌, ◌<◌, ◌+◌, ◌*◌, inl, inr, ℕ, zero, suc, List, length, take, ap, ◌∙◌, arith, refl}
+use Rattle.std.proofs.Common.{◌≡◌, ◌≤◌, ◌<◌, ◌+◌, ◌*◌, ℕ, zero, suc, List, length, take, ap, ◌∙◌, arith, refl}
 use Rattle.std.specs.Int.{div_ceil}
 use Rattle.std.proofs.lemmas.List.Sums.{sum_by_more}
 use Rattle.std.proofs.Math.Nat.{mul-le-mul_left}
 use Rattle.sched_response.specs.declared.tasks.Task.{Task}
 use Rattle.sched_response.specs.Demand.{activation, asked, starts_in, demand_at, task_at, deadline_at, Solves}
-use Rattle.sched_slack.specs.Slack.{evaluations, evaluations_at, IsTimely}
+use Rattle.sched_slack.specs.Slack.{evaluations, IsTimely}
 
 abbrev pub nobody : Task
 nobody = record { frame = 0; deadline = 0; run = 0; susp = 0; waits = 0; block = 0 }

@@ -2,3 +2,4 @@ pub mod Less
 pub mod Changed
 pub mod Judged
 pub mod Laws
+pub mod Overheads

@@ -1,6 +1,6 @@
 -- What fits: the greatest number that can stand in the place of one number of a task while each
 -- level has a bound.
-use Rattle.std.specs.Prelude.{◌≡◌, ◌≤◌, ℕ, List, Option, Some, None}
+use Rattle.std.specs.Prelude.{◌≤◌, ℕ, List, Option, Some, None}
 use Rattle.sched_response.specs.declared.tasks.Task.{Task}
 use Rattle.sched_response.specs.Demand.{with_run, with_susp}
 use Rattle.sched_slack.specs.Slack.{IsTimely}

@@ -10,6 +10,7 @@ ghost use Rattle.sched_fit.specs.declared.fitting.Number.{Number};
 ghost use Rattle.sched_fit.specs.declared.fitting.Number.TheVariants.{Cost};
 ghost use Rattle.sched_fit.specs.Fit.{with_number, IsFit, IsGreatestFit};
 ghost use Rattle.sched_fit.specs.Numbers.{number_at};
+ghost use Rattle.sched_fit.specs.Overhead.{with_overhead, IsGreatestOverhead, IsOverheadFit};
 
 /// Where a number fits, each smaller one does.
 pub fn less_fits_too()
@@ -38,4 +39,13 @@ pub fn the_cost_that_fits_is_the_cost_and_the_slack()
     ensures { (ts : List Task) (level x spare : ℕ) → level < length ts → IsTimely ts →
         IsGreatestFit Cost ts level x → IsSlack ts level spare →
         x ≡ (task_at ts level).run + spare }
+{}
+
+/// Tasks are in time with an overhead exactly where it is at most the one that fits, and with none
+/// where none fits.
+pub fn tasks_in_time_have_the_overhead_that_fits()
+    ensures some { (ts : List Task) (over x : ℕ) → over ≤ 1000 → IsGreatestOverhead ts x →
+        IsTimely (with_overhead ts over) ↔ (over ≤ x) }
+    ensures none { (ts : List Task) (over : ℕ) → IsOverheadFit ts None →
+        ¬ IsTimely (with_overhead ts over) }
 {}

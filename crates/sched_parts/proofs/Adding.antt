@@ -1,10 +1,9 @@
 -- What the parts add up to.
-use Rattle.std.proofs.Common.{◌≡◌, ◌≤◌, ◌<◌, ◌+◌, ◌*◌, inl, inr, ℕ, zero, suc, List, length, take, ap, ◌∙◌, arith, refl, sym, subst}
+use Rattle.std.proofs.Common.{◌≡◌, ◌≤◌, ◌<◌, ◌+◌, ◌*◌, inl, inr, ℕ, zero, suc, List, length, take, ap, ◌∙◌, arith, refl}
 use Rattle.std.specs.Int.{div_ceil}
 use Rattle.std.proofs.lemmas.Bool.{cases_lt}
 use Rattle.std.proofs.lemmas.List.Sums.{sum_by_more}
 use Rattle.std.proofs.lemmas.List.Elements.{All-get_or}
-use Rattle.base.specs.Capped.{cap}
 use Rattle.sched_response.specs.declared.tasks.Task.{Task}
 use Rattle.sched_response.specs.Demand.{activation, asked, deadline_at, demand_at, exact_demand_at, task_at, AreTasks, IsTask, IsBound, Solves}
 use Rattle.sched_response.proofs.Rising.{demand_mono}

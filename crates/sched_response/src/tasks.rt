@@ -134,6 +134,14 @@ impl TaskSet {
         self.tasks[level].susp
     }
 
+    /// How often one activation of the level's task suspends itself, at most.
+    pub fn waits(&self, level: usize) -> u64
+        requires { level < length self.now }
+        ensures { result ≡ (task_at self.now level).waits }
+    {
+        self.tasks[level].waits
+    }
+
     /// Sets the ticks for which one activation of the level's task suspends itself, at most, and
     /// leaves all else as it is.
     pub fn set_susp(&mut self, level: usize, susp: u64)

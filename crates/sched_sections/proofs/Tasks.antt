@@ -1,7 +1,6 @@
 -- The tasks of levels.
-use Rattle.std.proofs.Common.{◌≡◌, ◌≤◌, ◌<◌, ◌+◌, ◌*◌, ℕ, zero, suc, List, [], ◌∷◌, All, get_or, length, take, ap, ◌∙◌, arith, refl, sym, subst}
+use Rattle.std.proofs.Common.{◌≡◌, ◌≤◌, ◌<◌, ◌+◌, ◌*◌, ℕ, zero, suc, List, [], ◌∷◌, All, get_or, length, take, ap, ◌∙◌, arith, refl, subst}
 use Rattle.std.specs.Prelude.{sum_by}
-use Rattle.std.specs.Int.{div_ceil}
 use Rattle.std.proofs.lemmas.List.{take_all}
 use Rattle.std.proofs.lemmas.List.Sums.{sum_by_more}
 use Rattle.std.proofs.lemmas.List.Elements.{All-get_or}
@@ -10,10 +9,10 @@ use Rattle.sched_response.proofs.Caps as caps
 use Rattle.sched_response.specs.declared.tasks.Task.{Task}
 use Rattle.sched_response.specs.Demand.{activation, demand_at, task_at, IsTask}
 use Rattle.sched_parts.specs.Load.{load, share}
-use Rattle.sched_parts.specs.Parts.{all_of_first, sum_of_parts}
+use Rattle.sched_parts.specs.Parts.{all_of_first}
 use Rattle.sched_parts.proofs.Adding.{capped}
 use Rattle.sched_sections.specs.declared.levels.Level.{Level}
-use Rattle.sched_sections.specs.Levels.{level_at, tasks_in}
+use Rattle.sched_sections.specs.Levels.{tasks_in}
 
 abbrev nobody : Task
 nobody = record { frame = 0; deadline = 0; run = 0; susp = 0; waits = 0; block = 0 }

@@ -1,2 +1,3 @@
 pub mod Levels
 pub mod Sections
+pub mod Example

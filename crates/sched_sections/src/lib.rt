@@ -10,7 +10,7 @@ mod levels;
 mod lines;
 mod sections;
 mod sums;
+pub mod text_law;
 
 pub use levels::{Blocker, Level};
 pub use sections::bounds_text;
-

@@ -1,2 +1,4 @@
 pub mod Blockers
 pub mod Levels
+pub mod Fits
+pub mod WhyLaw

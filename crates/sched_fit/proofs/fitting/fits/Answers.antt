@@ -1,6 +1,6 @@
-use Rattle.std.proofs.Common.{◌≡◌, ◌≤◌, ◌+◌, List, length, IsTrue, ◌↔◌, IfNone, IfSome, ap, subst, sym, ◌∙◌, arith}
+use Rattle.std.proofs.Common.{◌≡◌, List, length, IsTrue, ◌↔◌, ap, subst, ◌∙◌, arith}
 use Rattle.sched_response.specs.declared.tasks.Task.{Task}
-use Rattle.sched_slack.specs.Slack.{evaluations, IsFirstFailing, IsTimely}
+use Rattle.sched_slack.specs.Slack.{evaluations, IsTimely}
 use Rattle.sched_fit.specs.Fit.{with_number}
 use Rattle.sched_fit.proofs.Changed.{evaluations_stay, put_back}
 use Rattle.sched_fit.proofs.Judged.{judged}

@@ -1,4 +1,4 @@
-use Rattle.std.proofs.Common.{◌≡◌, ◌≤◌, ◌<◌, ◌+◌, ◌-◌, ◌*◌, ◌/◌, ℕ, List, length, IsTrue, ◌↔◌, ap, subst, sym, ◌∙◌, arith, refl}
+use Rattle.std.proofs.Common.{◌≡◌, ◌<◌, ◌+◌, ◌-◌, ◌*◌, ◌/◌, List, length, IsTrue, ap, subst, ◌∙◌, arith, refl}
 use Rattle.sched_response.specs.declared.tasks.Task.{Task}
 use Rattle.sched_slack.specs.Slack.{evaluations, IsTimely}
 use Rattle.sched_slack.proofs.Halving.{Pass, next_pass}
