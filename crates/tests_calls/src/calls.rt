@@ -57,6 +57,73 @@ pub fn call(
     call_with(alloc, line, program, script, NO_FAILURES)
 }
 
+/// What a call has to answer: its status, what it puts, and in how many pieces, where this is told.
+#[derive(Clone, Copy)]
+pub struct Answer<'a> {
+    pub status: u8,
+    pub put: &'a str,
+    pub puts: Option<u64>,
+}
+
+/// Fails where the call does not answer so, and tells what it answered.
+pub fn answers(
+    alloc: Global,
+    line: &str,
+    program: &[u8],
+    script: Option<&str>,
+    want: Answer<'_>,
+) -> Result<(), Fail> {
+    answers_with(alloc, line, program, script, NO_FAILURES, want)
+}
+
+/// The same, with failures.
+pub fn answers_with(
+    alloc: Global,
+    line: &str,
+    program: &[u8],
+    script: Option<&str>,
+    failures: Failures,
+    want: Answer<'_>,
+) -> Result<(), Fail> {
+    call_with(alloc, line, program, script, failures)?.answered(alloc, line, want)
+}
+
+/// The same of a call where I holds the image and S the script.
+pub fn answers_on_image(
+    alloc: Global,
+    line: &str,
+    image: &[u8],
+    script: &str,
+    want: Answer<'_>,
+) -> Result<(), Fail> {
+    call_on_image(alloc, line, image, script)?.answered(alloc, line, want)
+}
+
+/// What a call with status 0 puts.
+pub fn put_of(
+    alloc: Global,
+    line: &str,
+    program: &[u8],
+    script: Option<&str>,
+) -> Result<Vec<u8>, Fail> {
+    let CallResult { status, put, .. } = call(alloc, line, program, script)?;
+    if status == 0 {
+        return Ok(put);
+    }
+    Err(Fail::new(format_args!("{line}: status {status}")))
+}
+
+/// What I holds behind a call.
+pub fn image_of(
+    alloc: Global,
+    line: &str,
+    program: &[u8],
+    script: Option<&str>,
+) -> Result<Vec<u8>, Fail> {
+    let CallResult { image, .. } = call(alloc, line, program, script)?;
+    Ok(image.ok_or("no image")?)
+}
+
 /// The same, with failures.
 pub fn call_with(
     alloc: Global,
@@ -102,6 +169,64 @@ pub fn call_beside(
     files.place("S", script.as_bytes())?;
     files.place(name, bytes)?;
     made_call(alloc, line, files, failures)
+}
+
+/// What a call has to answer, put and leave behind: what P, S, I and J hold then, `None` where the
+/// file is missing.
+#[derive(Clone, Copy)]
+pub struct Left<'a> {
+    pub status: u8,
+    pub put: &'a str,
+    pub program: Option<&'a [u8]>,
+    pub script: Option<&'a [u8]>,
+    pub image: Option<&'a [u8]>,
+    pub migrated: Option<&'a [u8]>,
+}
+
+/// The file holds just these bytes, or is missing.
+fn holds(file: &Option<Vec<u8>>, want: Option<&[u8]>) -> bool {
+    match (file, want) {
+        (None, None) => true,
+        (Some(bytes), Some(want)) => bytes.as_slice() == want,
+        _ => false,
+    }
+}
+
+impl CallResult {
+    /// Fails where the call has another answer, and tells it.
+    pub fn answered(&self, alloc: Global, line: &str, want: Answer<'_>) -> Result<(), Fail> {
+        let pieces = want.puts.unwrap_or(self.puts);
+        let put = self.put.as_slice();
+        if self.status == want.status && put == want.put.as_bytes() && self.puts == pieces {
+            return Ok(());
+        }
+        let text = String::from_utf8_lossy(alloc, put)?;
+        Err(Fail::new(format_args!(
+            "{line}: status {}, in {} pieces: {}",
+            self.status,
+            self.puts,
+            text.as_str()
+        )))
+    }
+
+    /// Fails where the call came to anything else.
+    pub fn left(&self, line: &str, want: &Left<'_>) -> Result<(), Fail> {
+        if self.status != want.status || self.put.as_slice() != want.put.as_bytes() {
+            return Err(Fail::new(format_args!(
+                "{line}: status {}, {} bytes put",
+                self.status,
+                self.put.len()
+            )));
+        }
+        if holds(&self.program, want.program)
+            && holds(&self.script, want.script)
+            && holds(&self.image, want.image)
+            && holds(&self.migrated, want.migrated)
+        {
+            return Ok(());
+        }
+        Err(Fail::new(format_args!("{line}: files are otherwise")))
+    }
 }
 
 fn failing(alloc: Global, failures: Failures) -> Result<MemoryFiles, Fail> {

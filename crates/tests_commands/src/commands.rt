@@ -2,7 +2,7 @@
 
 use std::alloc::Global;
 use std::test::Fail;
-use tests_calls::{CallResult, Failures, NO_FAILURES, VALVE, call, call_with};
+use tests_calls::{Answer, Failures, NO_FAILURES, VALVE, answers, call_with};
 
 /// The valve with a comment and other blanks, and numbers with leading zeros.
 const COMMENTED: &str =
@@ -68,23 +68,14 @@ fn goes_whole(rt: HostRuntime) -> Result<(), Fail> {
         (TOO_SOON, "end 15\n", 3, TOO_SOON_REPORT, "", 1),
         (VALVE, "end 15", 5, "S1 1\n", "", 1),
     ];
-    for (program, script, want, report, log, pieces) in rows {
-        let CallResult {
+    for (program, script, status, report, log, pieces) in rows {
+        let put = format!(in alloc; "{report}{log}")?;
+        let want = Answer {
             status,
-            put,
-            puts,
-            image,
-            ..
-        } = call(alloc, "go P I S", program.as_bytes(), Some(script))?;
-        let text = format!(in alloc; "{report}{log}")?;
-        assert_eq!(rt; status, want, "{program}");
-        assert!(rt; put.as_slice() == text.as_bytes(), "{program}");
-        assert_eq!(rt; puts, pieces, "{program}");
-        assert_eq!(rt;
-            image.map(|bytes| bytes.len()),
-            if want == 0 { Some(142) } else { None },
-            "{program}"
-        );
+            put: put.as_str(),
+            puts: Some(pieces),
+        };
+        answers(alloc, "go P I S", program.as_bytes(), Some(script), want)?;
     }
     Ok(())
 }
@@ -118,20 +109,35 @@ fn checks_and_prints(rt: HostRuntime) -> Result<(), Fail> {
         ("check P 1001", VALVE, 1, "usage\n"),
         ("go P I S 01", VALVE, 1, "usage\n"),
     ];
-    for (line, program, want, text) in rows {
-        let CallResult {
+    for (line, program, status, put) in rows {
+        let want = Answer {
             status,
             put,
-            puts,
-            image,
-            ..
-        } = call(alloc, line, program.as_bytes(), Some("end 15\n"))?;
-        assert_eq!(rt; status, want, "{line}");
-        assert!(rt; put.as_slice() == text.as_bytes(), "{line}");
-        assert_eq!(rt; puts, 1, "{line}");
-        assert!(rt; image.is_none(), "{line}");
+            puts: Some(1),
+        };
+        answers(alloc, line, program.as_bytes(), Some("end 15\n"), want)?;
     }
     Ok(())
+}
+
+/// `go` of the valve, where something fails, has this status; this is put, and the image is stored
+/// or not.
+fn stops_at(
+    alloc: Global,
+    failures: Failures,
+    status: u8,
+    put: &str,
+    stores: bool,
+) -> Result<(), Fail> {
+    let program = VALVE.as_bytes();
+    let made = call_with(alloc, "go P I S", program, Some("end 15\n"), failures)?;
+    if made.status == status
+        && made.put.as_slice() == put.as_bytes()
+        && made.image.is_some() == stores
+    {
+        return Ok(());
+    }
+    Err(Fail::new(format_args!("status {}, wanted {status}", made.status)))
 }
 
 #[test]
@@ -141,20 +147,13 @@ fn fails_at_each_step(rt: HostRuntime) -> Result<(), Fail> {
     let whole = format!(in alloc; "{REPORT}{LOG}")?;
     let none = NO_FAILURES;
     let rows = [
-        ("first read", Failures { read: 1, ..none }, 6, "", false),
-        ("second read", Failures { read: 2, ..none }, 6, "", false),
-        ("write", Failures { write: 1, ..none }, 7, "", false),
-        ("report", Failures { put: 1, ..none }, 7, "", true),
-        ("first line", Failures { put: 2, ..none }, 7, REPORT, true),
+        (Failures { read: 1, ..none }, 6, "", false),
+        (Failures { read: 2, ..none }, 6, "", false),
+        (Failures { write: 1, ..none }, 7, "", false),
+        (Failures { put: 1, ..none }, 7, "", true),
+        (Failures { put: 2, ..none }, 7, REPORT, true),
+        (Failures { put: 3, ..none }, 7, release.as_str(), true),
         (
-            "second line",
-            Failures { put: 3, ..none },
-            7,
-            release.as_str(),
-            true,
-        ),
-        (
-            "none",
             Failures {
                 read: 3,
                 write: 2,
@@ -165,27 +164,15 @@ fn fails_at_each_step(rt: HostRuntime) -> Result<(), Fail> {
             true,
         ),
     ];
-    for (what, failures, want, text, stores) in rows {
-        let CallResult {
-            status,
-            put,
-            image,
-            ..
-        } = call_with(
-            alloc,
-            "go P I S",
-            VALVE.as_bytes(),
-            Some("end 15\n"),
-            failures,
-        )?;
-        assert_eq!(rt; status, want, "{what}");
-        assert!(rt; put.as_slice() == text.as_bytes(), "{what}");
-        assert_eq!(rt; image.is_some(), stores, "{what}");
+    for (failures, status, put, stores) in rows {
+        stops_at(alloc, failures, status, put, stores)?;
     }
-    let missing = call(alloc, "go P I S", VALVE.as_bytes(), None)?;
-    assert_eq!(rt; missing.status, 6);
-    assert_eq!(rt; missing.puts, 0);
-    Ok(())
+    let missing = Answer {
+        status: 6,
+        put: "",
+        puts: Some(0),
+    };
+    answers(alloc, "go P I S", VALVE.as_bytes(), None, missing)
 }
 
 /// A text of the greatest length, of this byte alone.
@@ -197,16 +184,22 @@ fn filled(alloc: Global, byte: u8) -> Result<Vec<u8>, Fail> {
     Ok(text)
 }
 
+/// What `print` answers to a text that is none, put as one piece.
+fn is_refused(alloc: Global, text: &[u8], put: &str) -> Result<(), Fail> {
+    let want = Answer {
+        status: 2,
+        put,
+        puts: Some(1),
+    };
+    answers(alloc, "print P", text, None, want)
+}
+
 #[test]
 fn refuses_a_byte_too_many(rt: HostRuntime) -> Result<(), Fail> {
     let alloc = rt.alloc();
-    let open = call(alloc, "print P", filled(alloc, b'(')?.as_slice(), None)?;
-    assert!(rt; open.put.as_slice() == b"E10 1:1\n".as_slice());
+    is_refused(alloc, filled(alloc, b'(')?.as_slice(), "E10 1:1\n")?;
     let mut text = filled(alloc, b' ')?;
-    let most = call(alloc, "print P", text.as_slice(), None)?;
-    assert!(rt; most.put.as_slice() == b"E10 1:1048577\n".as_slice());
+    is_refused(alloc, text.as_slice(), "E10 1:1048577\n")?;
     text.push(b' ')?;
-    let more = call(alloc, "print P", text.as_slice(), None)?;
-    assert!(rt; more.put.as_slice() == b"E4 1:1\n".as_slice());
-    Ok(())
+    is_refused(alloc, text.as_slice(), "E4 1:1\n")
 }

@@ -3,7 +3,7 @@
 use std::alloc::Global;
 use std::test::Fail;
 use tests_calls::{
-    Failures, NO_FAILURES, VALVE, VALVE_FIRST, VALVE_SECOND, call_beside, call_on_image,
+    Failures, Left, NO_FAILURES, VALVE, VALVE_FIRST, VALVE_SECOND, call_beside, call_on_image,
 };
 
 const SCRIPT: &str = "end 15\n";
@@ -166,15 +166,6 @@ fn first_lines(alloc: Global, text: &str, count: usize) -> Result<String, Fail> 
     Ok(front)
 }
 
-/// The file holds just these bytes, or is missing.
-fn holds(file: &Option<Vec<u8>>, want: Option<&[u8]>) -> bool {
-    match (file, want) {
-        (None, None) => true,
-        (Some(bytes), Some(want)) => bytes.as_slice() == want,
-        _ => false,
-    }
-}
-
 /// What the file of this name holds, which is missing unless the image is stored in it.
 fn stored_in<'a>(name: &str, stored: Option<&str>, image: &'a [u8]) -> Option<&'a [u8]> {
     if stored == Some(name) {
@@ -184,6 +175,29 @@ fn stored_in<'a>(name: &str, stored: Option<&str>, image: &'a [u8]) -> Option<&'
     }
 }
 
+/// One row of a call, where `first` is the image in K and `second` the one that is due.
+fn device_fails(
+    alloc: Global,
+    due: &Due,
+    row: &Row,
+    first: &[u8],
+    second: &[u8],
+) -> Result<(), Fail> {
+    let (device, status, count, stores) = *row;
+    let put = first_lines(alloc, due.text, count)?;
+    let stored = if stores { due.target } else { None };
+    let want = Left {
+        status,
+        put: put.as_str(),
+        program: Some(VALVE.as_bytes()),
+        script: Some(SCRIPT.as_bytes()),
+        image: stored_in("I", stored, second),
+        migrated: stored_in("J", stored, second),
+    };
+    let failures = failures_of(device);
+    call_beside(alloc, due.line, VALVE, SCRIPT, "K", first, failures)?.left(due.line, &want)
+}
+
 /// P holds the program, S the script and K an image of the first version; I and J are missing.
 #[test]
 fn each_device_call_fails_in_turn(rt: HostRuntime) -> Result<(), Fail> {
@@ -191,33 +205,8 @@ fn each_device_call_fails_in_turn(rt: HostRuntime) -> Result<(), Fail> {
     let first = hex::decode(alloc, VALVE_FIRST)?;
     let second = hex::decode(alloc, VALVE_SECOND)?;
     for due in CALLS {
-        for (number, &(device, status, count, stores)) in due.rows.iter().enumerate() {
-            let line = due.line;
-            let made = call_beside(
-                alloc,
-                line,
-                VALVE,
-                SCRIPT,
-                "K",
-                first.as_slice(),
-                failures_of(device),
-            )?;
-            let want = first_lines(alloc, due.text, count)?;
-            let stored = if stores { due.target } else { None };
-            let image = stored_in("I", stored, second.as_slice());
-            let migrated = stored_in("J", stored, second.as_slice());
-            assert_eq!(rt; made.status, status, "{line}: {number}");
-            assert!(rt; made.put.as_slice() == want.as_bytes(), "{line}: {number}");
-            assert!(rt;
-                holds(&made.program, Some(VALVE.as_bytes())),
-                "{line}: {number}"
-            );
-            assert!(rt;
-                holds(&made.script, Some(SCRIPT.as_bytes())),
-                "{line}: {number}"
-            );
-            assert!(rt; holds(&made.image, image), "{line}: {number}");
-            assert!(rt; holds(&made.migrated, migrated), "{line}: {number}");
+        for row in due.rows {
+            device_fails(alloc, due, row, first.as_slice(), second.as_slice())?;
         }
     }
     Ok(())
@@ -281,22 +270,18 @@ const REFUSALS: &[Refused] = &[
 #[test]
 fn refusals_come_before_later_failures(rt: HostRuntime) -> Result<(), Fail> {
     let alloc = rt.alloc();
-    for (number, &(line, program, script, device, status, put)) in REFUSALS.iter().enumerate() {
-        let made = call_beside(
-            alloc,
-            line,
-            program,
-            script,
-            "I",
-            b"RTEU".as_slice(),
-            failures_of(device),
-        )?;
-        assert_eq!(rt; made.status, status, "{number}");
-        assert!(rt; made.put.as_slice() == put.as_bytes(), "{number}");
-        assert!(rt; holds(&made.program, Some(program.as_bytes())), "{number}");
-        assert!(rt; holds(&made.script, Some(script.as_bytes())), "{number}");
-        assert!(rt; holds(&made.image, Some(b"RTEU".as_slice())), "{number}");
-        assert!(rt; holds(&made.migrated, None), "{number}");
+    for &(line, program, script, device, status, put) in REFUSALS {
+        let image = b"RTEU".as_slice();
+        let want = Left {
+            status,
+            put,
+            program: Some(program.as_bytes()),
+            script: Some(script.as_bytes()),
+            image: Some(image),
+            migrated: None,
+        };
+        let failures = failures_of(device);
+        call_beside(alloc, line, program, script, "I", image, failures)?.left(line, &want)?;
     }
     Ok(())
 }
@@ -337,13 +322,24 @@ const ONE_FILE: &[OneFile] = &[
     ("migrate I I", Device::Put(1), 0, "", Some("I")),
 ];
 
-/// The file holds what it held before, or the image where that is stored in it.
-fn is_kept(file: &Option<Vec<u8>>, before: &[u8], stored: bool, image: &[u8]) -> bool {
-    if stored {
-        holds(file, Some(image))
-    } else {
-        holds(file, Some(before))
-    }
+/// What the file of this name holds: what it held before, or the image where that is stored in it.
+fn kept<'a>(name: &str, before: &'a [u8], changed: Option<&str>, image: &'a [u8]) -> &'a [u8] {
+    if changed == Some(name) { image } else { before }
+}
+
+/// One such call, where `first` is the image in I and `second` the one that is due.
+fn name_one_file(alloc: Global, row: &OneFile, first: &[u8], second: &[u8]) -> Result<(), Fail> {
+    let (line, device, status, put, changed) = *row;
+    let want = Left {
+        status,
+        put,
+        program: Some(kept("P", VALVE.as_bytes(), changed, second)),
+        script: Some(kept("S", SCRIPT.as_bytes(), changed, second)),
+        image: Some(kept("I", first, changed, second)),
+        migrated: None,
+    };
+    let failures = failures_of(device);
+    call_beside(alloc, line, VALVE, SCRIPT, "I", first, failures)?.left(line, &want)
 }
 
 /// P holds the program, S the script and I the image of the first version.
@@ -352,32 +348,8 @@ fn two_words_name_one_file(rt: HostRuntime) -> Result<(), Fail> {
     let alloc = rt.alloc();
     let first = hex::decode(alloc, VALVE_FIRST)?;
     let second = hex::decode(alloc, VALVE_SECOND)?;
-    for (number, &(line, device, status, put, changed)) in ONE_FILE.iter().enumerate() {
-        let made = call_beside(
-            alloc,
-            line,
-            VALVE,
-            SCRIPT,
-            "I",
-            first.as_slice(),
-            failures_of(device),
-        )?;
-        let image = second.as_slice();
-        assert_eq!(rt; made.status, status, "{line}: {number}");
-        assert!(rt; made.put.as_slice() == put.as_bytes(), "{line}: {number}");
-        assert!(rt;
-            is_kept(&made.program, VALVE.as_bytes(), changed == Some("P"), image),
-            "{line}: {number}"
-        );
-        assert!(rt;
-            is_kept(&made.script, SCRIPT.as_bytes(), changed == Some("S"), image),
-            "{line}: {number}"
-        );
-        assert!(rt;
-            is_kept(&made.image, first.as_slice(), changed == Some("I"), image),
-            "{line}: {number}"
-        );
-        assert!(rt; holds(&made.migrated, None), "{line}: {number}");
+    for row in ONE_FILE {
+        name_one_file(alloc, row, first.as_slice(), second.as_slice())?;
     }
     Ok(())
 }
@@ -389,12 +361,15 @@ fn migrates_the_second_version(rt: HostRuntime) -> Result<(), Fail> {
     let second = hex::decode(alloc, VALVE_SECOND)?;
     assert_eq!(rt; second.len(), 142);
     for (line, target) in [("migrate I I", "I"), ("migrate I J", "J")] {
-        let made = call_on_image(alloc, line, second.as_slice(), "")?;
-        let migrated = stored_in("J", Some(target), second.as_slice());
-        assert_eq!(rt; made.status, 0, "{line}");
-        assert_eq!(rt; made.puts, 0, "{line}");
-        assert!(rt; holds(&made.image, Some(second.as_slice())), "{line}");
-        assert!(rt; holds(&made.migrated, migrated), "{line}");
+        let want = Left {
+            status: 0,
+            put: "",
+            program: None,
+            script: Some(b""),
+            image: Some(second.as_slice()),
+            migrated: stored_in("J", Some(target), second.as_slice()),
+        };
+        call_on_image(alloc, line, second.as_slice(), "")?.left(line, &want)?;
     }
     Ok(())
 }

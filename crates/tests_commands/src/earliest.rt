@@ -2,7 +2,7 @@
 
 use std::alloc::Global;
 use std::test::Fail;
-use tests_calls::{Failures, NO_FAILURES, call_with, lines};
+use tests_calls::{Answer, Failures, answers, answers_with, lines};
 
 /// Two processes that meet their deadlines by this dispatch, and not by ranks.
 const TWO: &str =
@@ -83,28 +83,27 @@ const ROWS: &[Row] = &[
 fn earliest_deadlines(rt: HostRuntime) -> Result<(), Fail> {
     let alloc = rt.alloc();
     for row in ROWS {
-        let program = row.program;
         let script = lines(alloc, row.script)?;
-        let made = call_with(
+        let put = lines(alloc, row.put)?;
+        let want = Answer {
+            status: row.status,
+            put: put.as_str(),
+            puts: None,
+        };
+        let program = row.program;
+        answers(
             alloc,
             row.line,
             program.as_bytes(),
             Some(script.as_str()),
-            NO_FAILURES,
+            want,
         )?;
-        assert_eq!(rt; made.status, row.status, "{program}");
-        let want = lines(alloc, row.put)?;
-        assert_eq!(rt;
-            String::from_utf8(made.put)?.as_str(),
-            want.as_str(),
-            "{program}"
-        );
     }
     Ok(())
 }
 
-/// Device calls that fail, by their numbers from 1, the status, and what is put, in lines.
-const FAILED: &[(Failures, u8, &str)] = &[
+/// Device calls that fail, by their numbers from 1, the status, and whether the report is put.
+const FAILED: &[(Failures, u8, bool)] = &[
     (
         Failures {
             read: 1,
@@ -112,7 +111,7 @@ const FAILED: &[(Failures, u8, &str)] = &[
             put: 0,
         },
         6,
-        "",
+        false,
     ),
     (
         Failures {
@@ -121,7 +120,7 @@ const FAILED: &[(Failures, u8, &str)] = &[
             put: 0,
         },
         6,
-        "",
+        false,
     ),
     (
         Failures {
@@ -130,7 +129,7 @@ const FAILED: &[(Failures, u8, &str)] = &[
             put: 1,
         },
         7,
-        "",
+        false,
     ),
     (
         Failures {
@@ -139,28 +138,28 @@ const FAILED: &[(Failures, u8, &str)] = &[
             put: 2,
         },
         7,
-        TWO_REPORT,
+        true,
     ),
 ];
 
 #[test]
 fn devices_fail_by_deadlines(rt: HostRuntime) -> Result<(), Fail> {
     let alloc = rt.alloc();
-    for (failures, status, bars) in FAILED {
-        let made = call_with(
+    let report = lines(alloc, TWO_REPORT)?;
+    for (failures, status, is_put) in FAILED {
+        let want = Answer {
+            status: *status,
+            put: if *is_put { report.as_str() } else { "" },
+            puts: None,
+        };
+        answers_with(
             alloc,
             "edf P S",
             TWO.as_bytes(),
             Some("end 60\n"),
             *failures,
+            want,
         )?;
-        assert_eq!(rt; made.status, *status);
-        let put = String::from_utf8(made.put)?;
-        if bars.is_empty() {
-            assert!(rt; put.as_str().is_empty());
-        } else {
-            assert_eq!(rt; put.as_str(), lines(alloc, bars)?.as_str());
-        }
     }
     Ok(())
 }

@@ -1,7 +1,7 @@
 //! The machine at a stop.
 
 use std::test::Fail;
-use tests_calls::{CallResult, VALVE, call, call_on_image, lines};
+use tests_calls::{Answer, VALVE, answers_on_image, image_of, lines};
 
 /// A counter in a monitor, and a process that holds two others up. Its code begins with ENTER, LDM,
 /// PUSH, ADD, STM, LEAVE and RET of the entry; CALL and END of l are at 7, those of u at 9.
@@ -130,19 +130,14 @@ const STOPS: &[Stop] = &[
 fn stops_are_told(rt: HostRuntime) -> Result<(), Fail> {
     let alloc = rt.alloc();
     for stop in STOPS {
-        let watch = stop.watch;
-        let CallResult { image, .. } = call(alloc, stop.compile, stop.program.as_bytes(), None)?;
-        let image = image.ok_or("no image")?;
-        let CallResult {
-            status,
-            put,
-            puts,
-            ..
-        } = call_on_image(alloc, watch, image.as_slice(), stop.script)?;
-        let want = lines(alloc, stop.put)?;
-        assert_eq!(rt; status, 0, "{watch}");
-        assert_eq!(rt; puts, 1, "{watch}");
-        assert_eq!(rt; String::from_utf8(put)?.as_str(), want.as_str(), "{watch}");
+        let image = image_of(alloc, stop.compile, stop.program.as_bytes(), None)?;
+        let put = lines(alloc, stop.put)?;
+        let want = Answer {
+            status: 0,
+            put: put.as_str(),
+            puts: Some(1),
+        };
+        answers_on_image(alloc, stop.watch, image.as_slice(), stop.script, want)?;
     }
     Ok(())
 }

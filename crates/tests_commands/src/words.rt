@@ -1,7 +1,8 @@
 //! Rows of words: those that are a command, whose first file is missing, and those that are none.
 
+use std::alloc::Global;
 use std::test::Fail;
-use tests_calls::call;
+use tests_calls::{Answer, answers};
 
 /// Words of each command; no file that they name is there.
 const COMMANDS: &[&str] = &[
@@ -77,22 +78,30 @@ const OTHERS: &[&str] = &[
     "-check p",
 ];
 
-#[test]
-fn words_of_commands_are_read(rt: HostRuntime) -> Result<(), Fail> {
-    for &line in COMMANDS {
-        let called = call(rt.alloc(), line, b"", None)?;
-        assert_eq!(rt; called.status, 6, "{line}");
-        assert!(rt; called.put.is_empty(), "{line}");
+/// Each line has this answer, where no file is there.
+fn have_answer(alloc: Global, rows: &[&str], want: Answer<'_>) -> Result<(), Fail> {
+    for line in rows {
+        answers(alloc, line, b"", None, want)?;
     }
     Ok(())
 }
 
 #[test]
+fn words_of_commands_are_read(rt: HostRuntime) -> Result<(), Fail> {
+    let unread = Answer {
+        status: 6,
+        put: "",
+        puts: None,
+    };
+    have_answer(rt.alloc(), COMMANDS, unread)
+}
+
+#[test]
 fn other_words_are_refused(rt: HostRuntime) -> Result<(), Fail> {
-    for &line in OTHERS {
-        let called = call(rt.alloc(), line, b"", None)?;
-        assert_eq!(rt; called.status, 1, "{line}");
-        assert!(rt; called.put.as_slice() == b"usage\n".as_slice(), "{line}");
-    }
-    Ok(())
+    let usage = Answer {
+        status: 1,
+        put: "usage\n",
+        puts: None,
+    };
+    have_answer(rt.alloc(), OTHERS, usage)
 }

@@ -1,9 +1,10 @@
 //! Images that were changed, cut, or made to be deep and wide, through the top call.
 
 use std::alloc::Global;
-use std::process::Abort;
 use std::test::Fail;
-use tests_calls::{CallResult, IDLE_FIRST, IDLE_SECOND, call_on_image, with_byte};
+use tests_calls::{
+    Answer, IDLE_FIRST, IDLE_SECOND, Left, answers_on_image, call_on_image, with_byte,
+};
 
 const SCRIPT: &str = "end 10\n";
 
@@ -90,46 +91,36 @@ const SECOND_CHANGED: &[Changed] = &[
     (103, 1, "I7 100"),
 ];
 
-/// Both `run` and `migrate` refuse the image with this line, put as one piece; no file changes.
-fn refuses<R: Abort>(rt: &R, alloc: Global, image: &[u8], fault: &str) -> Result<(), Fail> {
+/// Both `run` and `migrate` refuse the image with this line; no file changes.
+fn refuses(alloc: Global, image: &[u8], fault: &str) -> Result<(), Fail> {
     let line = format!(in alloc; "{fault}\n")?;
-    for words in ["run I S", "migrate I J"] {
-        let CallResult {
-            status,
-            put,
-            puts,
-            script,
-            image: held,
-            migrated,
-            ..
-        } = call_on_image(alloc, words, image, SCRIPT)?;
-        let text = String::from_utf8(put)?;
-        assert_eq!(rt; text.as_str(), line.as_str(), "{words}");
-        assert_eq!(rt; status, 4, "{words}: {fault}");
-        assert_eq!(rt; puts, 1, "{words}: {fault}");
-        assert!(rt;
-            held.ok_or("no image")?.as_slice() == image,
-            "{words}: {fault}"
-        );
-        assert!(rt;
-            script.ok_or("no script")?.as_slice() == SCRIPT.as_bytes(),
-            "{words}: {fault}"
-        );
-        assert!(rt; migrated.is_none(), "{words}: {fault}");
-    }
-    Ok(())
+    let want = Left {
+        status: 4,
+        put: line.as_str(),
+        program: None,
+        script: Some(SCRIPT.as_bytes()),
+        image: Some(image),
+        migrated: None,
+    };
+    call_on_image(alloc, "run I S", image, SCRIPT)?.left("run I S", &want)?;
+    call_on_image(alloc, "migrate I J", image, SCRIPT)?.left("migrate I J", &want)
 }
 
-fn refuses_changed<R: Abort>(
-    rt: &R,
-    alloc: Global,
-    digits: &str,
-    rows: &[Changed],
-) -> Result<(), Fail> {
+/// The image over the script puts this log.
+fn runs(alloc: Global, image: &[u8], script: &str, put: &str) -> Result<(), Fail> {
+    let want = Answer {
+        status: 0,
+        put,
+        puts: None,
+    };
+    answers_on_image(alloc, "run I S", image, script, want)
+}
+
+fn refuses_changed(alloc: Global, digits: &str, rows: &[Changed]) -> Result<(), Fail> {
     let image = hex::decode(alloc, digits)?;
     for &(at, value, fault) in rows {
         let bytes = with_byte(alloc, image.as_slice(), at, value)?;
-        refuses(rt, alloc, bytes.as_slice(), fault)?;
+        refuses(alloc, bytes.as_slice(), fault)?;
     }
     Ok(())
 }
@@ -137,8 +128,8 @@ fn refuses_changed<R: Abort>(
 #[test]
 fn one_byte_changed(rt: HostRuntime) -> Result<(), Fail> {
     let alloc = rt.alloc();
-    refuses_changed(&rt, alloc, IDLE_FIRST, FIRST_CHANGED)?;
-    refuses_changed(&rt, alloc, IDLE_SECOND, SECOND_CHANGED)
+    refuses_changed(alloc, IDLE_FIRST, FIRST_CHANGED)?;
+    refuses_changed(alloc, IDLE_SECOND, SECOND_CHANGED)
 }
 
 /// Both versions, and how many bytes they have.
@@ -151,18 +142,11 @@ fn cut_after_each_byte(rt: HostRuntime) -> Result<(), Fail> {
     for &(digits, length) in WHOLE {
         let image = hex::decode(alloc, digits)?;
         assert_eq!(rt; image.len(), length);
-        let CallResult { status, put, .. } = call_on_image(
-            alloc,
-            "run I S",
-            image.as_slice(),
-            SCRIPT,
-        )?;
-        assert_eq!(rt; status, 0);
-        assert!(rt; put.as_slice() == b"0 p release\n3 p end\n".as_slice());
+        runs(alloc, image.as_slice(), SCRIPT, "0 p release\n3 p end\n")?;
         let mut front = Vec::with_capacity(alloc, length)?;
         for (place, &byte) in image.iter().enumerate() {
             let fault = format!(in alloc; "I2 {place}")?;
-            refuses(&rt, alloc, front.as_slice(), fault.as_str())?;
+            refuses(alloc, front.as_slice(), fault.as_str())?;
             front.push(byte)?;
         }
     }
@@ -208,19 +192,25 @@ const TREES: &[(&str, &str, usize, &str, &str)] = &[
     ("00000001", "030000000000000000", 1, "", "I4 86"),
 ];
 
+/// Puts bytes, told by their digits, so many times.
+fn put_digits(alloc: Global, image: &mut Vec<u8>, digits: &str, times: usize) -> Result<(), Fail> {
+    let bytes = hex::decode(alloc, digits)?;
+    for _ in 0..times {
+        image.extend_from_slice(bytes.as_slice())?;
+    }
+    Ok(())
+}
+
 #[test]
 fn deep_and_wide_trees(rt: HostRuntime) -> Result<(), Fail> {
     let alloc = rt.alloc();
     for &(front, part, times, tail, fault) in TREES {
         let mut image = hex::decode(alloc, UP_TO_TREE)?;
         assert_eq!(rt; image.len(), 81);
-        image.extend_from_slice(hex::decode(alloc, front)?.as_slice())?;
-        let bytes = hex::decode(alloc, part)?;
-        for _ in 0..times {
-            image.extend_from_slice(bytes.as_slice())?;
-        }
-        image.extend_from_slice(hex::decode(alloc, tail)?.as_slice())?;
-        refuses(&rt, alloc, image.as_slice(), fault)?;
+        put_digits(alloc, &mut image, front, 1)?;
+        put_digits(alloc, &mut image, part, times)?;
+        put_digits(alloc, &mut image, tail, 1)?;
+        refuses(alloc, image.as_slice(), fault)?;
     }
     Ok(())
 }
@@ -356,20 +346,15 @@ const NESTS: &[(Nest, &str)] = &[
 fn loops_in_one_another(rt: HostRuntime) -> Result<(), Fail> {
     let alloc = rt.alloc();
     let deepest = nest_image(alloc, DEEPEST)?;
-    let CallResult { status, put, .. } = call_on_image(
+    runs(
         alloc,
-        "run I S",
         deepest.as_slice(),
         "end 1000\n",
+        "0 p release\n648 p end\n",
     )?;
-    assert_eq!(rt;
-        String::from_utf8(put)?.as_str(),
-        "0 p release\n648 p end\n"
-    );
-    assert_eq!(rt; status, 0);
     for &(nest, fault) in NESTS {
         let image = nest_image(alloc, nest)?;
-        refuses(&rt, alloc, image.as_slice(), fault)?;
+        refuses(alloc, image.as_slice(), fault)?;
     }
     Ok(())
 }
@@ -383,14 +368,12 @@ fn longer_than_an_image_may_be(rt: HostRuntime) -> Result<(), Fail> {
         image.push(0x52)?;
     }
     for fault in ["I1 0\n", "I9 8388608\n"] {
-        let CallResult { status, put, .. } = call_on_image(
-            alloc,
-            "run I S",
-            image.as_slice(),
-            SCRIPT,
-        )?;
-        assert_eq!(rt; status, 4, "{fault}");
-        assert!(rt; put.as_slice() == fault.as_bytes(), "{fault}");
+        let want = Answer {
+            status: 4,
+            put: fault,
+            puts: None,
+        };
+        answers_on_image(alloc, "run I S", image.as_slice(), SCRIPT, want)?;
         image.push(0x52)?;
     }
     Ok(())

@@ -3,8 +3,8 @@
 use std::alloc::Global;
 use std::test::Fail;
 use tests_calls::{
-    CallResult, Failures, IDLE_SECOND, ROWS, VALVE_SECOND, call, call_beside, call_on_image, lines,
-    with_byte,
+    CallResult, Failures, GoCase, IDLE_SECOND, Left, ROWS, VALVE_SECOND, call, call_beside,
+    call_on_image, image_of, lines, with_byte,
 };
 
 const SCRIPT: &str = "end 15\n";
@@ -17,17 +17,17 @@ const IDLE_TEXT: &str =
 const VALVE_TEXT: &str =
     "image a overhead 0\ndevice valve out\nprocess p periodic frame 15 deadline 15 first 0 rank 1 run 15 suspend 0 waits 0 block 0 bound 15 data 0 stack 1 locals 0 start 0\ntree line 2\nPUSH 7\nOUT 0\nEND\nend\n";
 
-/// The file holds just these bytes.
-fn is(file: &Option<Vec<u8>>, bytes: &[u8]) -> bool {
-    match file {
-        Some(held) => held.as_slice() == bytes,
-        None => false,
-    }
-}
-
-/// A call of `asm P I`, where P holds the text.
-fn assembled(alloc: Global, text: &[u8]) -> Result<CallResult, Fail> {
-    call(alloc, "asm P I", text, None)
+/// `asm P I` stores the image of the text.
+fn is_assembled(alloc: Global, text: &[u8], image: &[u8]) -> Result<(), Fail> {
+    let want = Left {
+        status: 0,
+        put: "",
+        program: Some(text),
+        script: None,
+        image: Some(image),
+        migrated: None,
+    };
+    call(alloc, "asm P I", text, None)?.left("asm P I", &want)
 }
 
 /// The text that `dis` stores of the image.
@@ -44,6 +44,14 @@ fn told(alloc: Global, image: &[u8]) -> Result<Vec<u8>, Fail> {
     Ok(migrated.ok_or("no text")?)
 }
 
+/// `dis` stores this text of the image.
+fn is_told(alloc: Global, image: &[u8], text: &[u8]) -> Result<(), Fail> {
+    if told(alloc, image)?.as_slice() == text {
+        return Ok(());
+    }
+    Err(Fail::new("the image has another text"))
+}
+
 #[test]
 fn texts_are_assembled(rt: HostRuntime) -> Result<(), Fail> {
     let alloc = rt.alloc();
@@ -53,15 +61,9 @@ fn texts_are_assembled(rt: HostRuntime) -> Result<(), Fail> {
     ];
     for (text, digits, length) in rows {
         let image = hex::decode(alloc, digits)?;
-        let made = assembled(alloc, text.as_bytes())?;
         assert_eq!(rt; image.len(), length);
-        assert_eq!(rt; made.status, 0, "{text}");
-        assert_eq!(rt; made.puts, 0, "{text}");
-        assert!(rt; is(&made.image, image.as_slice()), "{text}");
-        assert!(rt;
-            told(alloc, image.as_slice())?.as_slice() == text.as_bytes(),
-            "{text}"
-        );
+        is_assembled(alloc, text.as_bytes(), image.as_slice())?;
+        is_told(alloc, image.as_slice(), text.as_bytes())?;
     }
     Ok(())
 }
@@ -73,8 +75,7 @@ fn images_are_told_unverified(rt: HostRuntime) -> Result<(), Fail> {
     let image = hex::decode(alloc, IDLE_SECOND)?;
     let image = with_byte(alloc, image.as_slice(), 48, 3)?;
     let want = IDLE_TEXT.replace(alloc, "run 4", "run 3")?;
-    assert!(rt; told(alloc, image.as_slice())?.as_slice() == want.as_bytes());
-    Ok(())
+    is_told(alloc, image.as_slice(), want.as_bytes())
 }
 
 /// Words of the smallest text, others in their place, and what is put of that.
@@ -95,20 +96,25 @@ const FAULTY: &[(&str, &str, &str)] = &[
     ("process p", "event e\nprocess p", "A2 5\n"),
 ];
 
-/// The smallest text with other words in the place of some.
-fn refused(alloc: Global, right: &str, wrong: &str) -> Result<CallResult, Fail> {
+/// The smallest text with other words in the place of some is refused with this line, and no image
+/// is stored.
+fn is_refused(alloc: Global, right: &str, wrong: &str, put: &str) -> Result<(), Fail> {
     let text = IDLE_TEXT.replace(alloc, right, wrong)?;
-    assembled(alloc, text.as_bytes())
+    let want = Left {
+        status: 4,
+        put,
+        program: Some(text.as_bytes()),
+        script: None,
+        image: None,
+        migrated: None,
+    };
+    call(alloc, "asm P I", text.as_bytes(), None)?.left(wrong, &want)
 }
 
 #[test]
 fn faulty_texts_are_refused(rt: HostRuntime) -> Result<(), Fail> {
-    let alloc = rt.alloc();
     for &(right, wrong, put) in FAULTY {
-        let made = refused(alloc, right, wrong)?;
-        assert_eq!(rt; made.status, 4, "{wrong}");
-        assert!(rt; made.put.as_slice() == put.as_bytes(), "{wrong}");
-        assert!(rt; made.image.is_none(), "{wrong}");
+        is_refused(rt.alloc(), right, wrong, put)?;
     }
     Ok(())
 }
@@ -132,12 +138,20 @@ fn trees_that_are_too_deep_are_refused(rt: HostRuntime) -> Result<(), Fail> {
     let alloc = rt.alloc();
     for (count, put) in [(129, "V1 0 0\n"), (130, "A2 3\n"), (131, "A2 3\n")] {
         let line = loops(alloc, count)?;
-        let made = refused(alloc, "tree\n", line.as_str())?;
-        assert_eq!(rt; made.status, 4, "{count}");
-        assert!(rt; made.put.as_slice() == put.as_bytes(), "{count}");
-        assert!(rt; made.image.is_none(), "{count}");
+        is_refused(alloc, "tree\n", line.as_str(), put)?;
     }
     Ok(())
+}
+
+/// The image of a worked program.
+fn worked_image(alloc: Global, row: &GoCase) -> Result<Vec<u8>, Fail> {
+    let script = lines(alloc, row.script)?;
+    image_of(
+        alloc,
+        row.line,
+        row.program.as_bytes(),
+        Some(script.as_str()),
+    )
 }
 
 /// Each image of a worked program is there again after it was told.
@@ -146,19 +160,9 @@ fn worked_images_are_told_and_assembled(rt: HostRuntime) -> Result<(), Fail> {
     let alloc = rt.alloc();
     for row in ROWS {
         if row.status == 0 && row.line.starts_with("go") {
-            let program = row.program;
-            let script = lines(alloc, row.script)?;
-            let CallResult { image, .. } = call(
-                alloc,
-                row.line,
-                program.as_bytes(),
-                Some(script.as_str()),
-            )?;
-            let image = image.ok_or("no image")?;
+            let image = worked_image(alloc, row)?;
             let text = told(alloc, image.as_slice())?;
-            let again = assembled(alloc, text.as_slice())?;
-            assert_eq!(rt; again.status, 0, "{program}");
-            assert!(rt; is(&again.image, image.as_slice()), "{program}");
+            is_assembled(alloc, text.as_slice(), image.as_slice())?;
         }
     }
     Ok(())
@@ -178,24 +182,29 @@ const FAILING: &[(&str, u64, u64, u64, u8, bool)] = &[
     ("watch K S 5", 0, 0, 1, 7, false),
 ];
 
+fn device_fails(
+    alloc: Global,
+    line: &str,
+    image: &[u8],
+    failures: Failures,
+    status: u8,
+    stores: bool,
+) -> Result<(), Fail> {
+    let made = call_beside(alloc, line, IDLE_TEXT, SCRIPT, "K", image, failures)?;
+    let written = made.image.is_some() || made.migrated.is_some();
+    if made.status == status && made.put.is_empty() && written == stores {
+        return Ok(());
+    }
+    Err(Fail::new(format_args!("{line}: status {}, wanted {status}", made.status)))
+}
+
 #[test]
 fn devices_fail_in_turn(rt: HostRuntime) -> Result<(), Fail> {
     let alloc = rt.alloc();
     let image = hex::decode(alloc, VALVE_SECOND)?;
     for &(line, read, write, put, status, stores) in FAILING {
-        let made = call_beside(
-            alloc,
-            line,
-            IDLE_TEXT,
-            SCRIPT,
-            "K",
-            image.as_slice(),
-            Failures { read, write, put },
-        )?;
-        let written = made.image.is_some() || made.migrated.is_some();
-        assert_eq!(rt; made.status, status, "{line} {read} {write} {put}");
-        assert!(rt; made.put.is_empty(), "{line} {read} {write} {put}");
-        assert_eq!(rt; written, stores, "{line} {read} {write} {put}");
+        let failures = Failures { read, write, put };
+        device_fails(alloc, line, image.as_slice(), failures, status, stores)?;
     }
     Ok(())
 }

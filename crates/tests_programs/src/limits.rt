@@ -2,7 +2,7 @@
 
 use std::alloc::Global;
 use std::test::Fail;
-use tests_calls::{CallResult, call, lines};
+use tests_calls::{Answer, answers, lines};
 
 /// So many processes that do nothing, all released at tick 0.
 fn idle_processes(alloc: Global, count: u64, frame: u64) -> Result<String, Fail> {
@@ -55,16 +55,35 @@ fn all_released_at_one_tick(rt: HostRuntime) -> Result<(), Fail> {
         let line = format!(in alloc; "{} p{k} end\n", 4 * k + 3)?;
         want.push_str(line.as_str())?;
     }
-    let CallResult {
+    let answer = Answer {
+        status: 0,
+        put: want.as_str(),
+        puts: Some(129),
+    };
+    answers(
+        alloc,
+        "go P I S",
+        program.as_bytes(),
+        Some("end 256\n"),
+        answer,
+    )
+}
+
+/// So many idle processes of a frame have this answer.
+fn idle_answers(alloc: Global, count: u64, frame: u64, status: u8, put: &str) -> Result<(), Fail> {
+    let program = idle_processes(alloc, count, frame)?;
+    let answer = Answer {
         status,
         put,
-        puts,
-        ..
-    } = call(alloc, "go P I S", program.as_bytes(), Some("end 256\n"))?;
-    assert!(rt; put.as_slice() == want.as_bytes());
-    assert_eq!(rt; status, 0);
-    assert_eq!(rt; puts, 129);
-    Ok(())
+        puts: None,
+    };
+    answers(
+        alloc,
+        "go P I S",
+        program.as_bytes(),
+        Some("end 9\n"),
+        answer,
+    )
 }
 
 /// A tick less, and the last one is late; a process more, and there are too many.
@@ -72,19 +91,8 @@ fn all_released_at_one_tick(rt: HostRuntime) -> Result<(), Fail> {
 fn one_tick_less_or_one_process_more(rt: HostRuntime) -> Result<(), Fail> {
     let alloc = rt.alloc();
     let late = report_of_equals(alloc, 255, 4, 63, "code 64\nuntimely p63\n")?;
-    let rows = [(64, 255, 3, late.as_str()), (65, 256, 2, "E40 1:3007\n")];
-    for (count, frame, want, text) in rows {
-        let program = idle_processes(alloc, count, frame)?;
-        let CallResult { status, put, .. } = call(
-            alloc,
-            "go P I S",
-            program.as_bytes(),
-            Some("end 9\n"),
-        )?;
-        assert_eq!(rt; String::from_utf8(put)?.as_str(), text, "{count}");
-        assert_eq!(rt; status, want, "{count}");
-    }
-    Ok(())
+    idle_answers(alloc, 64, 255, 3, late.as_str())?;
+    idle_answers(alloc, 65, 256, 2, "E40 1:3007\n")
 }
 
 /// 64 events, each with a device to which its process puts a number.
@@ -100,39 +108,52 @@ fn putting_processes(alloc: Global) -> Result<String, Fail> {
     Ok(text)
 }
 
+/// The script: all events occur at tick 5, the last one first.
+fn all_at_once(alloc: Global) -> Result<String, Fail> {
+    let mut script = String::new(alloc);
+    for k in 0..64 {
+        let line = format!(in alloc; "5 event e{}\n", 63 - k)?;
+        script.push_str(line.as_str())?;
+    }
+    script.push_str("end 965\n")?;
+    Ok(script)
+}
+
+/// Its log.
+fn log_all_at_once(alloc: Global, log: &mut String) -> Result<(), Fail> {
+    for k in 0..64 {
+        let release = format!(in alloc; "5 p{} release\n", 63 - k)?;
+        log.push_str(release.as_str())?;
+    }
+    for k in 0_u64..64 {
+        let put = 15 * k + 15;
+        let end = 15 * k + 19;
+        let lines = format!(in alloc; "{put} p{k} put d{k} {k}\n{end} p{k} end\n")?;
+        log.push_str(lines.as_str())?;
+    }
+    Ok(())
+}
+
 /// The events occur at tick 5, the last one first; the processes run by their ranks.
 #[test]
 fn all_events_at_one_tick(rt: HostRuntime) -> Result<(), Fail> {
     let alloc = rt.alloc();
     let program = putting_processes(alloc)?;
-    let mut script = String::new(alloc);
+    let script = all_at_once(alloc)?;
     let mut want = report_of_equals(alloc, 960, 15, 64, "code 192\ntimely\n")?;
-    for k in 0_u64..64 {
-        let number = 63 - k;
-        let line = format!(in alloc; "5 event e{number}\n")?;
-        script.push_str(line.as_str())?;
-        let release = format!(in alloc; "5 p{number} release\n")?;
-        want.push_str(release.as_str())?;
-    }
-    script.push_str("end 965\n")?;
-    for k in 0_u64..64 {
-        let lines = format!(in alloc;
-            "{} p{k} put d{k} {k}\n{} p{k} end\n",
-            15 * k + 15,
-            15 * k + 19
-        )?;
-        want.push_str(lines.as_str())?;
-    }
-    let CallResult {
-        status,
-        put,
-        puts,
-        ..
-    } = call(alloc, "go P I S", program.as_bytes(), Some(script.as_str()))?;
-    assert!(rt; put.as_slice() == want.as_bytes());
-    assert_eq!(rt; status, 0);
-    assert_eq!(rt; puts, 193);
-    Ok(())
+    log_all_at_once(alloc, &mut want)?;
+    let answer = Answer {
+        status: 0,
+        put: want.as_str(),
+        puts: Some(193),
+    };
+    answers(
+        alloc,
+        "go P I S",
+        program.as_bytes(),
+        Some(script.as_str()),
+        answer,
+    )
 }
 
 /// In which order the routines of a chain stand in the text.
@@ -233,28 +254,29 @@ fn chain_text(
     Ok(text)
 }
 
+/// The chain has the answer of the row in this order too.
+fn chain_answers(alloc: Global, row: &Chain, order: Order) -> Result<(), Fail> {
+    let program = chain_text(alloc, order, row.routines, row.calls, row.frame)?;
+    let want = lines(alloc, row.put)?;
+    let script = if row.calls == 1 {
+        "end 5124\n"
+    } else {
+        "end 1\n"
+    };
+    let answer = Answer {
+        status: row.status,
+        put: want.as_str(),
+        puts: None,
+    };
+    answers(alloc, "go P I S", program.as_bytes(), Some(script), answer)
+}
+
 #[test]
 fn chains_of_routines(rt: HostRuntime) -> Result<(), Fail> {
     let alloc = rt.alloc();
     for row in CHAINS {
-        let want = lines(alloc, row.put)?;
-        let script = if row.calls == 1 {
-            "end 5124\n"
-        } else {
-            "end 1\n"
-        };
-        for order in [Order::CalledFirst, Order::CallerFirst] {
-            let program = chain_text(alloc, order, row.routines, row.calls, row.frame)?;
-            let CallResult { status, put, .. } = call(
-                alloc,
-                "go P I S",
-                program.as_bytes(),
-                Some(script),
-            )?;
-            let text = String::from_utf8(put)?;
-            assert_eq!(rt; text.as_str(), want.as_str());
-            assert_eq!(rt; status, row.status);
-        }
+        chain_answers(alloc, row, Order::CalledFirst)?;
+        chain_answers(alloc, row, Order::CallerFirst)?;
     }
     Ok(())
 }
@@ -267,9 +289,12 @@ fn chains_that_are_too_long(rt: HostRuntime) -> Result<(), Fail> {
     let alloc = rt.alloc();
     for &(routines, calls, fault) in TOO_LONG {
         let program = chain_text(alloc, Order::CalledFirst, routines, calls, 1_000_000_000)?;
-        let CallResult { status, put, .. } = call(alloc, "check P", program.as_bytes(), None)?;
-        assert_eq!(rt; String::from_utf8(put)?.as_str(), fault, "{routines}");
-        assert_eq!(rt; status, 2, "{routines}");
+        let answer = Answer {
+            status: 2,
+            put: fault,
+            puts: None,
+        };
+        answers(alloc, "check P", program.as_bytes(), None, answer)?;
     }
     Ok(())
 }
@@ -313,17 +338,21 @@ fn nested_loops(alloc: Global, depth: u64) -> Result<String, Fail> {
 #[test]
 fn loops_of_a_million_turns(rt: HostRuntime) -> Result<(), Fail> {
     let alloc = rt.alloc();
-    for &(depth, want, bars) in LOOPS {
+    for &(depth, status, bars) in LOOPS {
         let program = nested_loops(alloc, depth)?;
-        let CallResult { status, put, .. } = call(
+        let want = lines(alloc, bars)?;
+        let answer = Answer {
+            status,
+            put: want.as_str(),
+            puts: None,
+        };
+        answers(
             alloc,
             "go P I S",
             program.as_bytes(),
             Some("end 1\n"),
+            answer,
         )?;
-        let text = String::from_utf8(put)?;
-        assert_eq!(rt; text.as_str(), lines(alloc, bars)?.as_str(), "{depth}");
-        assert_eq!(rt; status, want, "{depth}");
     }
     Ok(())
 }

@@ -3,7 +3,9 @@
 
 use std::alloc::Global;
 use std::test::Fail;
-use tests_calls::{Failures, NO_FAILURES, call, call_with};
+use tests_calls::{
+    Answer, CallResult, Failures, Left, NO_FAILURES, answers, call, call_with, put_of,
+};
 
 /// The words, and how the line begins that is put.
 const LOADS: &[(&str, &str)] = &[
@@ -34,29 +36,43 @@ fn told(alloc: Global, log: &[u8]) -> Result<String, Fail> {
     Ok(format!(in alloc; "{lines} bytes {bytes} mark {mark}\n")?)
 }
 
+/// The line of a load, by what `check` and `go` put of its texts.
+fn load_line(alloc: Global, front: &str, program: &[u8], script: &str) -> Result<String, Fail> {
+    let report = put_of(alloc, "check P", program, None)?;
+    let went = put_of(alloc, "go P I S", program, Some(script))?;
+    let Some(log) = went.as_slice().get(report.len()..) else {
+        return Err(Fail::new("no log behind the report"));
+    };
+    let told = told(alloc, log)?;
+    Ok(format!(in alloc; "{front}{}", told.as_str())?)
+}
+
 /// The texts of a load are those of a timely program and of a script for it, and its line tells of
 /// the log that `go` puts behind the report; the same words make the same load.
+fn is_load(alloc: Global, line: &str, front: &str, made: &CallResult) -> Result<(), Fail> {
+    let program = text_of(&made.program);
+    let script = str::from_utf8(text_of(&made.script))?;
+    let put = load_line(alloc, front, program, script)?;
+    let want = Answer {
+        status: 0,
+        put: put.as_str(),
+        puts: Some(1),
+    };
+    made.answered(alloc, line, want)?;
+    answers(alloc, line, b"", None, want)?;
+    let printed = Answer {
+        put: str::from_utf8(program)?,
+        ..want
+    };
+    answers(alloc, "print P", program, None, printed)
+}
+
 #[test]
 fn loads_are_made(rt: HostRuntime) -> Result<(), Fail> {
     let alloc = rt.alloc();
     for &(line, front) in LOADS {
         let made = call(alloc, line, b"", None)?;
-        let again = call(alloc, line, b"", None)?;
-        assert_eq!(rt; made.status, 0, "{line}");
-        assert_eq!(rt; made.puts, 1, "{line}");
-        assert!(rt; made.put.as_slice() == again.put.as_slice(), "{line}");
-        let program = text_of(&made.program);
-        let script = String::from_utf8(Vec::from_slice(alloc, text_of(&made.script))?)?;
-        let report = call(alloc, "check P", program, None)?;
-        let went = call(alloc, "go P I S", program, Some(script.as_str()))?;
-        let printed = call(alloc, "print P", program, None)?;
-        assert_eq!(rt; report.status, 0, "{line}");
-        assert_eq!(rt; went.status, 0, "{line}");
-        assert!(rt; printed.put.as_slice() == program, "{line}");
-        assert!(rt; report.put.len() <= went.put.len(), "{line}");
-        let log = &went.put.as_slice()[report.put.len()..];
-        let want = format!(in alloc; "{front}{}", told(alloc, log)?)?;
-        assert!(rt; made.put.as_slice() == want.as_bytes(), "{line}");
+        is_load(alloc, line, front, &made)?;
     }
     Ok(())
 }
@@ -87,50 +103,62 @@ const FAILING: &[(Failures, u8, bool, bool)] = &[
 /// What P and S hold before a call.
 const BEFORE: &str = "as it was";
 
-/// The file holds the text if it is stored, and else what it held.
-fn is_kept(file: &Option<Vec<u8>>, text: &Option<Vec<u8>>, stored: bool) -> bool {
-    if stored {
-        text_of(file) == text_of(text)
-    } else {
-        text_of(file) == BEFORE.as_bytes()
-    }
+/// What a file holds: the text if it is stored, and else what it held.
+fn kept(text: &[u8], stored: bool) -> Option<&[u8]> {
+    Some(if stored { text } else { BEFORE.as_bytes() })
 }
 
-/// The line was put whole, or nothing was.
-fn is_put(put: &Vec<u8>, line: &Vec<u8>, whole: bool) -> bool {
-    if whole {
-        put.as_slice() == line.as_slice()
-    } else {
-        put.is_empty()
-    }
+/// One row, where `whole` is the call in which nothing fails.
+fn make_fails(
+    alloc: Global,
+    whole: &CallResult,
+    row: &(Failures, u8, bool, bool),
+) -> Result<(), Fail> {
+    let (failures, status, program, script) = *row;
+    let want = Left {
+        status,
+        put: if status == 0 {
+            str::from_utf8(whole.put.as_slice())?
+        } else {
+            ""
+        },
+        program: kept(text_of(&whole.program), program),
+        script: kept(text_of(&whole.script), script),
+        image: None,
+        migrated: None,
+    };
+    let line = "make 7 2 P S";
+    call_with(alloc, line, BEFORE.as_bytes(), Some(BEFORE), failures)?.left(line, &want)
 }
 
 #[test]
 fn each_device_call_of_make_fails_in_turn(rt: HostRuntime) -> Result<(), Fail> {
     let alloc = rt.alloc();
-    let before = BEFORE.as_bytes();
-    let whole = call(alloc, "make 7 2 P S", before, Some(BEFORE))?;
-    for &(failures, status, program, script) in FAILING {
-        let made = call_with(alloc, "make 7 2 P S", before, Some(BEFORE), failures)?;
-        assert_eq!(rt; made.status, status);
-        assert!(rt; is_put(&made.put, &whole.put, status == 0), "{status}");
-        assert!(rt; is_kept(&made.program, &whole.program, program), "{status}");
-        assert!(rt; is_kept(&made.script, &whole.script, script), "{status}");
+    let whole = call(alloc, "make 7 2 P S", BEFORE.as_bytes(), Some(BEFORE))?;
+    for row in FAILING {
+        make_fails(alloc, &whole, row)?;
     }
     Ok(())
 }
 
 /// The program is stored first: where both words are one, the script stands there.
+fn holds_the_script(alloc: Global, apart: &CallResult) -> Result<(), Fail> {
+    let want = Left {
+        status: 0,
+        put: str::from_utf8(apart.put.as_slice())?,
+        program: Some(text_of(&apart.script)),
+        script: Some(BEFORE.as_bytes()),
+        image: None,
+        migrated: None,
+    };
+    call(alloc, "make 7 2 P P", b"", Some(BEFORE))?.left("make 7 2 P P", &want)
+}
+
 #[test]
 fn one_file_holds_the_script(rt: HostRuntime) -> Result<(), Fail> {
     let alloc = rt.alloc();
     let apart = call(alloc, "make 7 2 P S", b"", None)?;
-    let made = call(alloc, "make 7 2 P P", b"", Some(BEFORE))?;
-    assert_eq!(rt; made.status, 0);
-    assert!(rt; made.put.as_slice() == apart.put.as_slice());
-    assert!(rt; text_of(&made.program) == text_of(&apart.script));
-    assert!(rt; text_of(&made.script) == BEFORE.as_bytes());
-    Ok(())
+    holds_the_script(alloc, &apart)
 }
 
 /// Words that are no load: a number of processes outside 1 to 64, a key of more than 64 bits, a zero
@@ -148,12 +176,16 @@ const NO_LOADS: &[&str] = &[
 
 #[test]
 fn other_words_make_nothing(rt: HostRuntime) -> Result<(), Fail> {
+    let want = Left {
+        status: 1,
+        put: "usage\n",
+        program: Some(BEFORE.as_bytes()),
+        script: None,
+        image: None,
+        migrated: None,
+    };
     for &line in NO_LOADS {
-        let made = call(rt.alloc(), line, BEFORE.as_bytes(), None)?;
-        assert_eq!(rt; made.status, 1, "{line}");
-        assert!(rt; made.put.as_slice() == b"usage\n".as_slice(), "{line}");
-        assert!(rt; text_of(&made.program) == BEFORE.as_bytes(), "{line}");
-        assert!(rt; made.script.is_none(), "{line}");
+        call(rt.alloc(), line, BEFORE.as_bytes(), None)?.left(line, &want)?;
     }
     Ok(())
 }

@@ -2,7 +2,10 @@
 
 use std::alloc::Global;
 use std::test::Fail;
-use tests_calls::{CallResult, NO_FAILURES, ROWS, VALVE, call, call_beside, call_on_image, lines};
+use tests_calls::{
+    Answer, CallResult, GoCase, NO_FAILURES, ROWS, VALVE, call_beside, call_on_image, image_of,
+    lines,
+};
 
 /// A script and a log of the program that opens a valve, both with their lines parted by bars, and
 /// what is answered and put.
@@ -89,15 +92,26 @@ fn replayed(alloc: Global, program: &str, script: &str, log: &[u8]) -> Result<Ca
     )
 }
 
+/// The log has this answer.
+fn is_judged(
+    alloc: Global,
+    program: &str,
+    script: &str,
+    log: &[u8],
+    want: Answer<'_>,
+) -> Result<(), Fail> {
+    replayed(alloc, program, script, log)?.answered(alloc, "replay P S L", want)
+}
+
 #[test]
 fn logs_are_judged(rt: HostRuntime) -> Result<(), Fail> {
-    let alloc = rt.alloc();
     for row in RECORDED {
-        let log = row.log;
-        let made = replayed(alloc, VALVE, row.script, log.as_bytes())?;
-        assert_eq!(rt; made.status, row.status, "{log}");
-        assert_eq!(rt; made.puts, 1, "{log}");
-        assert_eq!(rt; String::from_utf8(made.put)?.as_str(), row.put, "{log}");
+        let want = Answer {
+            status: row.status,
+            put: row.put,
+            puts: Some(1),
+        };
+        is_judged(rt.alloc(), VALVE, row.script, row.log.as_bytes(), want)?;
     }
     Ok(())
 }
@@ -113,28 +127,33 @@ fn count(text: &[u8]) -> u64 {
     lines
 }
 
+/// The log of a worked program over its script.
+fn worked_log(alloc: Global, row: &GoCase, script: &str) -> Result<Vec<u8>, Fail> {
+    let image = image_of(alloc, row.line, row.program.as_bytes(), Some(script))?;
+    let run = call_on_image(alloc, "run I S", image.as_slice(), script)?;
+    Ok(run.put)
+}
+
+/// The log of a worked program is that of a run, with as many events as it has lines.
+fn is_run(alloc: Global, row: &GoCase) -> Result<(), Fail> {
+    let script = lines(alloc, row.script)?;
+    let log = worked_log(alloc, row, script.as_str())?;
+    let put = format!(in alloc; "run {}\n", count(log.as_slice()))?;
+    let want = Answer {
+        status: 0,
+        put: put.as_str(),
+        puts: None,
+    };
+    is_judged(alloc, row.program, script.as_str(), log.as_slice(), want)
+}
+
 /// The log of each worked program that is timely is that of a run.
 #[test]
 fn logs_of_runs_are_runs(rt: HostRuntime) -> Result<(), Fail> {
-    let alloc = rt.alloc();
     for row in ROWS {
-        if row.status != 0 || !row.line.starts_with("go") {
-            continue;
+        if row.status == 0 && row.line.starts_with("go") {
+            is_run(rt.alloc(), row)?;
         }
-        let program = row.program;
-        let script = lines(alloc, row.script)?;
-        let gone = call(alloc, row.line, program.as_bytes(), Some(script.as_str()))?;
-        let image = gone.image.ok_or("no image")?;
-        let run = call_on_image(alloc, "run I S", image.as_slice(), script.as_str())?;
-        let made = replayed(alloc, program, script.as_str(), run.put.as_slice())?;
-        let events = count(run.put.as_slice());
-        let want = format!(in alloc; "run {events}\n")?;
-        assert_eq!(rt; made.status, 0, "{program}");
-        assert_eq!(rt;
-            String::from_utf8(made.put)?.as_str(),
-            want.as_str(),
-            "{program}"
-        );
     }
     Ok(())
 }

@@ -2,7 +2,7 @@
 
 use std::alloc::Global;
 use std::test::Fail;
-use tests_calls::{CallResult, call};
+use tests_calls::{Answer, answers, image_of};
 
 const IDLE: &str = "program a process p : periodic frame 10 begin end p end a";
 
@@ -23,11 +23,10 @@ fn hexadecimal(alloc: Global, bytes: &[u8]) -> Result<String, Fail> {
 #[test]
 fn stores_the_image(rt: HostRuntime) -> Result<(), Fail> {
     let alloc = rt.alloc();
-    let CallResult { image, .. } = call(alloc, "go P I S", IDLE.as_bytes(), Some("end 10\n"))?;
-    let bytes = image.ok_or("no image")?;
-    let want = IDLE_IMAGE.replace(alloc, " ", "")?;
+    let bytes = image_of(alloc, "go P I S", IDLE.as_bytes(), Some("end 10\n"))?;
     assert_eq!(rt; bytes.len(), 104);
-    assert!(rt; hexadecimal(alloc, bytes.as_slice())?.as_str() == want.as_str());
+    let digits = hexadecimal(alloc, bytes.as_slice())?;
+    assert!(rt; digits.as_str() == IDLE_IMAGE.replace(alloc, " ", "")?.as_str());
     Ok(())
 }
 
@@ -38,43 +37,52 @@ const FRAME: u64 = 3_500;
 
 const ACTIVATIONS: u64 = 40;
 
-#[test]
-fn logs_each_event_of_a_long_run(rt: HostRuntime) -> Result<(), Fail> {
-    let alloc = rt.alloc();
+const LONG_REPORT: &str =
+    "program a\nprocess p frame 3500 rank 1 cost 3304 suspend 0 waits 0 block 0 bound 3304 data 0 stack 1\ncode 601\ntimely\n";
+
+/// The program of the long run.
+fn long_program(alloc: Global) -> Result<String, Fail> {
     let mut body = String::new(alloc);
-    let mut log = String::new(alloc);
     for value in 0..PUTS {
         let put = format!(in alloc; " put d {value}")?;
         body.push_str(put.as_str())?;
     }
-    for number in 0..ACTIVATIONS {
-        let start = number * FRAME;
-        let release = format!(in alloc; "{start} p release\n")?;
-        log.push_str(release.as_str())?;
-        for value in 0..PUTS {
-            let tick = start + 11 * value + 10;
-            let line = format!(in alloc; "{tick} p put d {value}\n")?;
-            log.push_str(line.as_str())?;
-        }
-        let last = start + 11 * PUTS + 3;
-        let end = format!(in alloc; "{last} p end\n")?;
-        log.push_str(end.as_str())?;
-    }
-    let program = format!(in alloc;
+    Ok(format!(in alloc;
         "program a device d : out process p : periodic frame {FRAME} begin{body} end p end a"
-    )?;
+    )?)
+}
+
+/// The log of the activation that is released at this tick.
+fn log_activation(alloc: Global, log: &mut String, start: u64) -> Result<(), Fail> {
+    let release = format!(in alloc; "{start} p release\n")?;
+    log.push_str(release.as_str())?;
+    for value in 0..PUTS {
+        let line = format!(in alloc; "{} p put d {value}\n", start + 11 * value + 10)?;
+        log.push_str(line.as_str())?;
+    }
+    let end = format!(in alloc; "{} p end\n", start + 11 * PUTS + 3)?;
+    Ok(log.push_str(end.as_str())?)
+}
+
+#[test]
+fn logs_each_event_of_a_long_run(rt: HostRuntime) -> Result<(), Fail> {
+    let alloc = rt.alloc();
+    let mut want = String::from_str(alloc, LONG_REPORT)?;
+    for number in 0..ACTIVATIONS {
+        log_activation(alloc, &mut want, number * FRAME)?;
+    }
+    let program = long_program(alloc)?;
     let script = format!(in alloc; "end {}\n", ACTIVATIONS * FRAME)?;
-    let CallResult {
-        status,
-        put,
-        puts,
-        ..
-    } = call(alloc, "go P I S", program.as_bytes(), Some(script.as_str()))?;
-    let report =
-        "program a\nprocess p frame 3500 rank 1 cost 3304 suspend 0 waits 0 block 0 bound 3304 data 0 stack 1\ncode 601\ntimely\n";
-    let want = format!(in alloc; "{report}{log}")?;
-    assert_eq!(rt; status, 0);
-    assert!(rt; put.as_slice() == want.as_bytes());
-    assert_eq!(rt; puts, 1 + ACTIVATIONS * (PUTS + 2));
-    Ok(())
+    let answer = Answer {
+        status: 0,
+        put: want.as_str(),
+        puts: Some(1 + ACTIVATIONS * (PUTS + 2)),
+    };
+    answers(
+        alloc,
+        "go P I S",
+        program.as_bytes(),
+        Some(script.as_str()),
+        answer,
+    )
 }

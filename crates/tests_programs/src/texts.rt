@@ -3,9 +3,8 @@
 //! The answer to a text is that of `print`: `ok`, or its fault.
 
 use std::alloc::Global;
-use std::process::Abort;
 use std::test::Fail;
-use tests_calls::{CallResult, call};
+use tests_calls::{Answer, CallResult, answers, call};
 
 /// What stands before and behind the text of a row.
 struct Around {
@@ -437,42 +436,50 @@ const OPEN_TEXTS: &[(&str, &str)] = &[
     ("E10 1:70", "1 end end p end a"),
 ];
 
-/// Each text of the table has its answer, put as one piece.
-fn answers(
-    rt: &impl Abort,
-    alloc: Global,
-    around: &Around,
-    rows: &[(&str, &str)],
-) -> Result<(), Fail> {
+/// The text has its answer, put as one piece: its fault, or status 0.
+fn has_answer(alloc: Global, text: &str, answer: &str) -> Result<(), Fail> {
+    if answer == "ok" {
+        let CallResult { status, puts, .. } = call(alloc, "print P", text.as_bytes(), None)?;
+        return if status == 0 && puts == 1 {
+            Ok(())
+        } else {
+            Err(Fail::new(format_args!("status {status}: {text}")))
+        };
+    }
+    let line = format!(in alloc; "{answer}\n")?;
+    let want = Answer {
+        status: 2,
+        put: line.as_str(),
+        puts: Some(1),
+    };
+    answers(alloc, "print P", text.as_bytes(), None, want)
+}
+
+/// Each text of the table has its answer.
+fn have_answers(alloc: Global, around: &Around, rows: &[(&str, &str)]) -> Result<(), Fail> {
     let before = around.before;
     let after = around.after;
     for (answer, part) in rows {
         let text = format!(in alloc; "{before}{part}{after}")?;
-        let CallResult {
-            status,
-            put,
-            puts,
-            ..
-        } = call(alloc, "print P", text.as_bytes(), None)?;
-        if *answer == "ok" {
-            assert_eq!(rt; status, 0, "{part}");
-        } else {
-            let line = format!(in alloc; "{answer}\n")?;
-            assert_eq!(rt; status, 2, "{part}");
-            assert!(rt; put.as_slice() == line.as_bytes(), "{part}");
-        }
-        assert_eq!(rt; puts, 1, "{part}");
+        has_answer(alloc, text.as_str(), answer)?;
     }
     Ok(())
 }
 
+/// The tables, and what stands around their rows.
+const TABLES: &[(&Around, &[(&str, &str)])] = &[
+    (&NOTHING, TEXTS),
+    (&ASSIGNED, OPEN_TEXTS),
+    (&NOTHING, WHOLE),
+    (&IDLE, DECLARATIONS),
+    (&PROCESS, STATEMENTS),
+    (&ENTRY, ENTRY_STATEMENTS),
+];
+
 #[test]
 fn texts_have_their_answers(rt: HostRuntime) -> Result<(), Fail> {
-    let alloc = rt.alloc();
-    answers(&rt, alloc, &NOTHING, TEXTS)?;
-    answers(&rt, alloc, &ASSIGNED, OPEN_TEXTS)?;
-    answers(&rt, alloc, &NOTHING, WHOLE)?;
-    answers(&rt, alloc, &IDLE, DECLARATIONS)?;
-    answers(&rt, alloc, &PROCESS, STATEMENTS)?;
-    answers(&rt, alloc, &ENTRY, ENTRY_STATEMENTS)
+    for &(around, rows) in TABLES {
+        have_answers(rt.alloc(), around, rows)?;
+    }
+    Ok(())
 }
