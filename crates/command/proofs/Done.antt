@@ -1,5 +1,5 @@
 -- What a call that answers 0 has done.
-use Rattle.std.proofs.Common.{◌≡◌, ◌∙◌, ◌++◌, ℕ, List, Option, Some, None, Bool, true, false, refl, sym, subst, ap, arith, length}
+use Rattle.std.proofs.Common.{◌≡◌, ◌∙◌, ◌++◌, ◌≤◌, ℕ, List, Option, Some, None, Bool, true, false, refl, sym, subst, ap, arith, length}
 use Rattle.std.specs.Prelude.{IsSomeAnd}
 use Rattle.std.specs.Bool.{OnTrue}
 use Rattle.outside.specs.Outside.{Outside, Appends}
@@ -21,13 +21,15 @@ use Rattle.vm_law.specs.ScriptSuits.{ScriptsForImagesReadSuit, script_with}
 use Rattle.sched_table.specs.Report.{report_text}
 use Rattle.sched_table.specs.Json.{report_json}
 use Rattle.built_image.specs.Built.{IsBuilt, IsTimely}
-use Rattle.command_words.specs.Calls.{Call, go, check, compile, json, slack, print, run, migrate, asm, dis, watch, replay, edf}
+use Rattle.command_words.specs.Calls.{Call, over_of, go, check, compile, json, slack, print, run, migrate, asm, dis, watch, replay, edf}
 use Rattle.command_due.specs.Source.{IsWritten, IsTimelyText, Style, report_of}
 use Rattle.command_due.specs.Script.{run_of}
 use Rattle.command_due.specs.CommandsDue.{Outcome, stored, log, IsRefused, faulty, late, IsReportDue, report_refused, report_timely, IsPrintDue, print_faulty, printed, IsCompileDue, compile_refused, compiled, IsGoDue, go_refused, go_bad_script, went, IsImageFile, IsImageRefused, misread, invalid, IsRunDue, run_refused, run_bad_script, ran, IsMigrateDue, migrate_refused, migrated}
 use Rattle.command_due.specs.SpareDue.{IsSlackDue, slack_refused, slack_told}
 use Rattle.command_due.specs.AsmDue.{IsAsmDue, asm_faulty, asm_invalid, assembled, IsDisDue, dis_misread, disassembled}
 use Rattle.asm_law.specs.AsmLaws.{ImagesToldAreHeld}
+use Rattle.image_stored_law.specs.Stored.{ImagesReadAreHeldAgain}
+use Rattle.built_stored_law.specs.Stored.{BuiltImagesAreHeld}
 use Rattle.asm_format.specs.Text.{text_of as lines_told}
 use Rattle.command_due.specs.StopDue.{IsWatchDue, watch_refused, watch_bad_script, watched}
 use Rattle.command_words.specs.declared.stop.Breakpoint.{Breakpoint}
@@ -39,7 +41,7 @@ use Rattle.edf_correct.specs.FeasibleTexts.{FeasibleTextsKeepTheirWord}
 use Rattle.command_due.specs.Runs.{KeepsItsWord, BuiltImagesAreFaithful, IsAccepted}
 use Rattle.command_answers.specs.Files.{IsDue, target_of}
 use Rattle.command_answers.specs.Went.{IsWhole, Stores, Went}
-use Rattle.command_answers.specs.Promise.{HasGone, HasCompiled, HasReported, HasSpared, ReadsBack, HasPrinted, HasRun, HasMigrated, HasAssembled, HasDisassembled, HasWatched, HasReplayed, HasMetDeadlines, HasDone}
+use Rattle.command_answers.specs.Promise.{IsHeld, HasGone, HasCompiled, HasReported, HasSpared, ReadsBack, HasPrinted, HasRun, HasMigrated, HasAssembled, HasDisassembled, HasWatched, HasReplayed, HasMetDeadlines, HasDone}
 use Rattle.command_perform.proofs.Scripts.{same_lines}
 
 pub status_of : (o p : Outcome) → o ≡ p → o.status ≡ p.status
@@ -59,6 +61,10 @@ timely g over n built = record { image = n.image; shaped = built.shaped; each = 
 accepted : BuiltImagesAreFaithful → (over : ℕ) (held : Option (List ℕ)) (text : List ℕ) (n : NamedImage) → held ≡ Some text → (t : IsTimelyText over text n) → IsAccepted over held t.tree n
 accepted law over held text n is t =
     record { text = text; is_held = is; written = t.written; timely = timely t.tree over n t.built; built = t.built; faithful = law text t.tree over n t.written t.built }
+
+-- what is stored of it holds it
+held_by : BuiltImagesAreHeld → (over : ℕ) (text : List ℕ) (n : NamedImage) → over ≤ 1000 → IsTimelyText over text n → IsHeld n
+held_by law over text n low t = let h = law text t.tree over n low t.written t.built in record { raw = h.0; named = h.1; valid = h.2 }
 
 -- no refusal has status 0
 refused_zero : (show : Style) (over : ℕ) (text : List ℕ) (o : Outcome) → IsRefused show over text o → o.status ≡ 0 → ⊥
@@ -132,22 +138,23 @@ module _ (laws : Printing) (faithful : BuiltImagesAreFaithful) (before now : Out
     put = put_is before now o lines (text_of o _ same) put;
   }
 
-  compiled_whole : (over : ℕ) (program image : List ℕ) (text : List ℕ) → before.files.held program ≡ Some text → Stores o.image (Some image) before.files.held now.files.held
+  compiled_whole : BuiltImagesAreHeld → (over : ℕ) → over ≤ 1000 → (program image : List ℕ) (text : List ℕ) → before.files.held program ≡ Some text → Stores o.image (Some image) before.files.held now.files.held
       → IsCompileDue over text o → HasCompiled over program image before now
-  compiled_whole over program image text is kept (compile_refused r) = absurd (refused_zero report_text over text o r zero)
-  compiled_whole over program image text is kept (compiled n t same) = record {
+  compiled_whole law over low program image text is kept (compile_refused r) = absurd (refused_zero report_text over text o r zero)
+  compiled_whole law over low program image text is kept (compiled n t same) = record {
     tree = t.tree;
     built = n;
     accepted = accepted faithful over (before.files.held program) text n is t;
     is_stored = stored_bytes o.image (stored n) image before.files.held now.files.held (image_is o _ same) kept;
+    holds = held_by law over text n low t;
     put = put_is before now o (report_of report_text n) (text_of o _ same) put;
   }
 
-  gone : (over : ℕ) (program image script : List ℕ) → Stores o.image (Some image) before.files.held now.files.held
+  gone : BuiltImagesAreHeld → (over : ℕ) → over ≤ 1000 → (program image script : List ℕ) → Stores o.image (Some image) before.files.held now.files.held
       → IsGoDue over (before.files.held program) (before.files.held script) o → HasGone over program image script before now
-  gone over program image script kept (go_refused text is r) = absurd (refused_zero report_text over text o r zero)
-  gone over program image script kept (go_bad_script text other n fault is t that f same) = absurd (let five = status_of o _ same in omega (arith, five, zero))
-  gone over program image script kept (went text other n lines end is t that s same) = record {
+  gone law over low program image script kept (go_refused text is r) = absurd (refused_zero report_text over text o r zero)
+  gone law over low program image script kept (go_bad_script text other n fault is t that f same) = absurd (let five = status_of o _ same in omega (arith, five, zero))
+  gone law over low program image script kept (went text other n lines end is t that s same) = record {
     text = report_of report_text n ++ log n lines end;
     put = put_is before now o (report_of report_text n ++ log n lines end) (text_of o _ same) put;
     done = record {
@@ -162,6 +169,7 @@ module _ (laws : Printing) (faithful : BuiltImagesAreFaithful) (before now : Out
       is_stored = stored_bytes o.image (stored n) image before.files.held now.files.held (image_is o _ same) kept;
       is_put = refl;
     };
+    holds = held_by law over text n low t;
   }
 
   module _ (limits : ImagesReadHaveLimits) (safe : EveryValidImageIsSafeAndInTime) (suit : ScriptsForImagesReadSuit) where
@@ -269,15 +277,16 @@ module _ (laws : Printing) (faithful : BuiltImagesAreFaithful) (before now : Out
     keeps = word text n points feasible;
   }
 
-  migrated_whole : (image target : List ℕ) (bytes : List ℕ) → before.files.held image ≡ Some bytes → Stores o.image (Some target) before.files.held now.files.held
+  migrated_whole : ImagesReadAreHeldAgain → (image target : List ℕ) (bytes : List ℕ) → before.files.held image ≡ Some bytes → Stores o.image (Some target) before.files.held now.files.held
       → IsMigrateDue bytes o → HasMigrated image target before now
-  migrated_whole image target bytes is kept (migrate_refused r) = absurd (image_zero bytes o r zero)
-  migrated_whole image target bytes is kept (migrated raw file same) = record {
+  migrated_whole law image target bytes is kept (migrate_refused r) = absurd (image_zero bytes o r zero)
+  migrated_whole law image target bytes is kept (migrated raw file same) = record {
     bytes = bytes;
     held = is;
     raw = raw;
     valid = file;
     is_stored = stored_bytes o.image (stored (named_of raw)) target before.files.held now.files.held (image_is o _ same) kept;
+    again = λ are. let once : IsImageFile (stored (named_of raw)) raw = record { held = law bytes raw are file.held file.valid; valid = file.valid } in once;
   }
 
 -- what is due of what a file holds
@@ -285,35 +294,35 @@ of_held : (Due : List ℕ → Outcome → Type 0) (A : Type 0) (held : Option (L
 of_held Due A None o by due = absurd due
 of_held Due A (Some text) o by due = by text refl due
 
-module _ (laws : Printing) (faithful : BuiltImagesAreFaithful) (held : ImagesToldAreHeld) (limits : ImagesReadHaveLimits) (safe : EveryValidImageIsSafeAndInTime) (suit : ScriptsForImagesReadSuit) (word : FeasibleTextsKeepTheirWord) (before now : Outside) (o : Outcome)
+module _ (laws : Printing) (faithful : BuiltImagesAreFaithful) (held : ImagesToldAreHeld) (again : ImagesReadAreHeldAgain) (stores : BuiltImagesAreHeld) (limits : ImagesReadHaveLimits) (safe : EveryValidImageIsSafeAndInTime) (suit : ScriptsForImagesReadSuit) (word : FeasibleTextsKeepTheirWord) (before now : Outside) (o : Outcome)
     (zero : o.status ≡ 0) (put : Appends before.out.taken now.out.taken o.text) where
-  done : (call : Call) → IsDue call before.files.held o → Stores o.image (target_of call) before.files.held now.files.held → HasDone call before now
-  done (go program image script over) due kept = gone laws faithful before now o zero put over program image script kept due
-  done (check program over) due kept =
+  done : (call : Call) → over_of call ≤ 1000 → IsDue call before.files.held o → Stores o.image (target_of call) before.files.held now.files.held → HasDone call before now
+  done (go program image script over) low due kept = gone laws faithful before now o zero put stores over low program image script kept due
+  done (check program over) low due kept =
       of_held (IsReportDue report_text over) (HasReported report_text over program before now) (before.files.held program) o (λ text is d. reported laws faithful before now o zero put report_text over program text is d) due
-  done (compile program image over) due kept =
-      of_held (IsCompileDue over) (HasCompiled over program image before now) (before.files.held program) o (λ text is d. compiled_whole laws faithful before now o zero put over program image text is kept d) due
-  done (json program over) due kept =
+  done (compile program image over) low due kept =
+      of_held (IsCompileDue over) (HasCompiled over program image before now) (before.files.held program) o (λ text is d. compiled_whole laws faithful before now o zero put stores over low program image text is kept d) due
+  done (json program over) low due kept =
       of_held (IsReportDue report_json over) (HasReported report_json over program before now) (before.files.held program) o (λ text is d. reported laws faithful before now o zero put report_json over program text is d) due
-  done (slack program over) due kept =
+  done (slack program over) low due kept =
       of_held (IsSlackDue over) (HasSpared over program before now) (before.files.held program) o (λ text is d. spared laws faithful before now o zero put over program text is d) due
-  done (print program) due kept =
+  done (print program) low due kept =
       of_held IsPrintDue (HasPrinted program before now) (before.files.held program) o (λ text is d. printed_whole laws faithful before now o zero put program text is d) due
-  done (run image script) due kept = run_whole laws faithful before now o zero put limits safe suit image script due
-  done (migrate image target) due kept =
-      of_held IsMigrateDue (HasMigrated image target before now) (before.files.held image) o (λ bytes is d. migrated_whole laws faithful before now o zero put image target bytes is kept d) due
-  done (asm text image) due kept =
+  done (run image script) low due kept = run_whole laws faithful before now o zero put limits safe suit image script due
+  done (migrate image target) low due kept =
+      of_held IsMigrateDue (HasMigrated image target before now) (before.files.held image) o (λ bytes is d. migrated_whole laws faithful before now o zero put again image target bytes is kept d) due
+  done (asm text image) low due kept =
       of_held IsAsmDue (HasAssembled text image before now) (before.files.held text) o (λ lines is d. asm_whole laws faithful before now o zero put limits safe suit held text image lines is kept d) due
-  done (dis image text) due kept =
+  done (dis image text) low due kept =
       of_held IsDisDue (HasDisassembled image text before now) (before.files.held image) o (λ bytes is d. dis_whole laws faithful before now o zero put image text bytes is kept d) due
-  done (watch image script stop) due kept = watch_whole laws faithful before now o zero put stop image script due
-  done (replay program script log) due kept = replay_whole laws faithful before now o zero put program script log due
-  done (edf program script) due kept = edf_whole laws faithful before now o zero put word program script due
+  done (watch image script stop) low due kept = watch_whole laws faithful before now o zero put stop image script due
+  done (replay program script log) low due kept = replay_whole laws faithful before now o zero put program script log due
+  done (edf program script) low due kept = edf_whole laws faithful before now o zero put word program script due
 
-pub has_done : Printing → BuiltImagesAreFaithful → ImagesToldAreHeld → ImagesReadHaveLimits → EveryValidImageIsSafeAndInTime → ScriptsForImagesReadSuit → FeasibleTextsKeepTheirWord → (tells : Bool) (call : Call) (before now : Outside) (status : ℕ)
+pub has_done : Printing → BuiltImagesAreFaithful → ImagesToldAreHeld → ImagesReadAreHeldAgain → BuiltImagesAreHeld → ImagesReadHaveLimits → EveryValidImageIsSafeAndInTime → ScriptsForImagesReadSuit → FeasibleTextsKeepTheirWord → (tells : Bool) (call : Call) (before now : Outside) (status : ℕ) → over_of call ≤ 1000
     → Went tells call before now status → OnTrue tells (status ≡ 0 → HasDone call before now)
-has_done laws faithful held limits safe suit word true call before now status w = λ zero.
+has_done laws faithful held again stores limits safe suit word true call before now status low w = λ zero.
     let whole : IsWhole call before now status =
     w.whole ((λ six. absurd (omega (arith, zero, six))), (λ seven. absurd (omega (arith, zero, seven))), (λ eight. absurd (omega (arith, zero, eight)))) in
-    done laws faithful held limits safe suit word before now whole.outcome (sym whole.is ∙ zero) whole.put call whole.due whole.stored
-has_done laws faithful held limits safe suit word false call before now status w = tt
+    done laws faithful held again stores limits safe suit word before now whole.outcome (sym whole.is ∙ zero) whole.put call low whole.due whole.stored
+has_done laws faithful held again stores limits safe suit word false call before now status low w = tt

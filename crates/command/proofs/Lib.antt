@@ -5,6 +5,7 @@ pub mod Went
 pub mod Complete
 pub mod One
 pub mod Late
+pub mod Overheads
 pub mod Done
 pub mod Loads
 mod Settling

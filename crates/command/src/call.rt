@@ -16,15 +16,18 @@ ghost use Rattle.command.specs.Targets.{IsNoTarget};
 use crate::carry::carry_out;
 use asm_law::text_and_image::images_told_are_held;
 use built_image_law::one_image::timely_or_late;
+use built_stored_law::stored_programs::built_images_are_held;
 use command_answers::Status;
 use command_due_law::one_answer::{
     asm_is_one, compile_is_one, dis_is_one, go_is_one, migrate_is_one, print_is_one,
     reports_are_one, run_is_one, slack_is_one, watch_is_one, written_once, written_or_faulty,
 };
 use command_due_law::one_judgement::answers_of_texts_are_one;
+use command_words::words::overheads_are_decimal;
 use compiler_correct::faithful_images::built_images_are_faithful;
 use edf_correct::feasible_texts::feasible_texts_keep_their_word;
 use image_reader_law::images_read_are_in_their_ranges;
+use image_stored_law::stored_images::images_read_are_held_again;
 use outside::{Files, Sink};
 use std::alloc::Global;
 use syntax_printer::{reads_back, tokens_are_spelled};
@@ -126,6 +129,9 @@ pub fn rte<F: Files, O: Sink>(alloc: Global, words: &[String], files: &mut F, ou
     dis_is_one();
     watch_is_one();
     images_told_are_held();
+    images_read_are_held_again();
+    built_images_are_held();
+    overheads_are_decimal();
     feasible_texts_keep_their_word();
     answers_of_texts_are_one();
     written_or_faulty();

@@ -21,6 +21,7 @@ use Rattle.command_due.specs.CommandsDue.{IsImageFile, stored, log}
 use Rattle.command_due.specs.Runs.{KeepsItsWord, IsAccepted, IsUnsolved, IsDone}
 use Rattle.command_due.specs.Lines.{IsSlackText}
 use Rattle.image_reader.specs.Answer.{Holds}
+use Rattle.image_format.specs.FormatLaw.{AreBytes}
 use Rattle.asm_format.specs.Text.{text_of}
 use Rattle.command_due.specs.Texts.{IsTextOf}
 use Rattle.command_due.specs.StopDue.{IsStopText}
@@ -37,11 +38,18 @@ use Rattle.command_due.specs.EdfDue.{IsFeasibleText, IsJudgedText, IsUnfit, edf_
 use Rattle.command_due.specs.Report.{edf_report}
 use Rattle.command_answers.specs.Runs.{IsEdfRun}
 
+-- the bytes that are stored of an image hold it, and it is valid
+pub record IsHeld (n : NamedImage) : Type 0 where
+  pub raw : RawImage
+  pub named : named_of raw ≡ n
+  pub valid : IsImageFile (stored n) raw
+
 -- `go`: a program and a script are accepted, the image is stored, the report and the log are put
 pub record HasGone (over : ℕ) (program image script : List ℕ) (before now : Outside) : Type 0 where
   pub text : List ℕ
   pub put : Appends before.out.taken now.out.taken text
   pub done : IsDone over (before.files.held program) (before.files.held script) text (now.files.held image)
+  pub holds : IsHeld done.built
 
 -- `compile`: a program is accepted, its image is stored, its report is put
 pub record HasCompiled (over : ℕ) (program image : List ℕ) (before now : Outside) : Type 0 where
@@ -49,6 +57,7 @@ pub record HasCompiled (over : ℕ) (program image : List ℕ) (before now : Out
   pub built : NamedImage
   pub accepted : IsAccepted over (before.files.held program) tree built
   pub is_stored : now.files.held image ≡ Some (stored built)
+  pub holds : IsHeld built
   pub put : Appends before.out.taken now.out.taken (report_of report_text built)
 
 -- `check` and `json`: a program is accepted, its report is put
@@ -97,13 +106,15 @@ pub record HasRun (image script : List ℕ) (before now : Outside) : Type 0 wher
   pub put : Appends before.out.taken now.out.taken (log (named_of raw) lines end)
   pub keeps : KeepsItsWord raw.names (image_of raw)
 
--- `migrate`: an image is valid, and the same image is stored in the present version
+-- `migrate`: an image is valid, and the same image is stored in the present version: what is stored
+-- holds it again
 pub record HasMigrated (image target : List ℕ) (before now : Outside) : Type 0 where
   pub bytes : List ℕ
   pub held : before.files.held image ≡ Some bytes
   pub raw : RawImage
   pub valid : IsImageFile bytes raw
   pub is_stored : now.files.held target ≡ Some (stored (named_of raw))
+  pub again : AreBytes bytes → IsImageFile (stored (named_of raw)) raw
 
 -- `asm`: a text is that of an image, which is valid, and the bytes that hold it are stored; every run
 -- of it over a script for its names is in time and size

@@ -21,34 +21,34 @@ use Rattle.replay_law.proofs.Differing.{Differing}
 use Rattle.static_names.proofs.Scopes.{same-refl}
 
 -- a name is not found to be another than itself
-twice : (n k : Name) → same n k ≡ false → k ≡ n → ⊥
+pub twice : (n k : Name) → same n k ≡ false → k ≡ n → ⊥
 twice n k other e =
     let here : true ≡ false = sym (same-refl n) ∙ (ap (same n) (sym e) ∙ other) in
     cc
 
 -- ---- declarations
 
-abbrev process_called : Decl Place → Option Name
+abbrev pub process_called : Decl Place → Option Name
 process_called (process p) = Some p.name
 process_called _ = None
 
-abbrev monitor_called : Decl Place → Option Name
+abbrev pub monitor_called : Decl Place → Option Name
 monitor_called (monitor m) = Some m.name
 monitor_called _ = None
 
-abbrev device_called : Decl Place → Option Name
+abbrev pub device_called : Decl Place → Option Name
 device_called (device n q out) = Some n
 device_called _ = None
 
 -- the name that is picked of a declaration is its own
-abbrev PicksName : (Decl Place → Option Name) → Type 0
+abbrev pub PicksName : (Decl Place → Option Name) → Type 0
 PicksName f = (d : Decl Place) (n : Name) → f d ≡ Some n → (decl_name d).0 ≡ n
 
 -- a declaration of this name is among these
-abbrev Declares : List (Decl Place) → Name → Type 0
+abbrev pub Declares : List (Decl Place) → Name → Type 0
 Declares ds n = (d : Decl Place) × (In ds d × ((decl_name d).0 ≡ n))
 
-picked_in : (f : Decl Place → Option Name) → PicksName f → (ds : List (Decl Place)) (n : Name) → In (filter_map f ds) n → Declares ds n
+pub picked_in : (f : Decl Place → Option Name) → PicksName f → (ds : List (Decl Place)) (n : Name) → In (filter_map f ds) n → Declares ds n
 picked_in f picks [] n i = absurd i
 picked_in f picks (d ∷ ds) n i = by (f d) refl i (λ j. let p = picked_in f picks ds n j in (p.0, (inr p.1.0, p.1.1))) where
   by : (o : Option Name) → f d ≡ o → In (cons_option o (filter_map f ds)) n → (In (filter_map f ds) n → Declares (d ∷ ds) n) → Declares (d ∷ ds) n
@@ -56,7 +56,7 @@ picked_in f picks (d ∷ ds) n i = by (f d) refl i (λ j. let p = picked_in f pi
   by (Some x) is (inl same_name) later = (d, (inl refl, picks d x is ∙ same_name))
   by (Some x) is (inr j) later = later j
 
-picked_differ : (f : Decl Place → Option Name) → PicksName f → (ds : List (Decl Place)) → DeclsDiffer ds → Differing (filter_map f ds)
+pub picked_differ : (f : Decl Place → Option Name) → PicksName f → (ds : List (Decl Place)) → DeclsDiffer ds → Differing (filter_map f ds)
 picked_differ f picks [] differ = tt
 picked_differ f picks (d ∷ ds) differ = by (f d) refl (picked_differ f picks ds differ.1) where
   by : (o : Option Name) → f d ≡ o → Differing (filter_map f ds) → Differing (cons_option o (filter_map f ds))
@@ -70,7 +70,7 @@ picked_differ f picks (d ∷ ds) differ = by (f d) refl (picked_differ f picks d
 
 -- ---- the names of each kind
 
-processes_are : (ds : List (Decl Place)) → map (λ (p : plain_of.Process). p.name) (filter_map process_in (map plain_decl ds)) ≡ filter_map process_called ds
+pub processes_are : (ds : List (Decl Place)) → map (λ (p : plain_of.Process). p.name) (filter_map process_in (map plain_decl ds)) ≡ filter_map process_called ds
 processes_are [] = refl
 processes_are (constant n q c ∷ ds) = processes_are ds
 processes_are (device n q out ∷ ds) = processes_are ds
@@ -79,7 +79,7 @@ processes_are (routine r ∷ ds) = processes_are ds
 processes_are (monitor m ∷ ds) = processes_are ds
 processes_are (process p ∷ ds) = ap (λ l. p.name ∷ l) (processes_are ds)
 
-monitors_are : (ds : List (Decl Place)) → map (λ (m : plain_of.Monitor). m.name) (filter_map monitor_in (map plain_decl ds)) ≡ filter_map monitor_called ds
+pub monitors_are : (ds : List (Decl Place)) → map (λ (m : plain_of.Monitor). m.name) (filter_map monitor_in (map plain_decl ds)) ≡ filter_map monitor_called ds
 monitors_are [] = refl
 monitors_are (constant n q c ∷ ds) = monitors_are ds
 monitors_are (device n q out ∷ ds) = monitors_are ds
@@ -88,7 +88,7 @@ monitors_are (routine r ∷ ds) = monitors_are ds
 monitors_are (monitor m ∷ ds) = ap (λ l. m.name ∷ l) (monitors_are ds)
 monitors_are (process p ∷ ds) = monitors_are ds
 
-devices_are : (ds : List (Decl Place)) → map (λ (d : DeviceName). d.name) (filter_map named_device (map plain_decl ds)) ≡ filter_map device_called ds
+pub devices_are : (ds : List (Decl Place)) → map (λ (d : DeviceName). d.name) (filter_map named_device (map plain_decl ds)) ≡ filter_map device_called ds
 devices_are [] = refl
 devices_are (constant n q c ∷ ds) = devices_are ds
 devices_are (device n q out ∷ ds) = ap (λ l. n ∷ l) (devices_are ds)
@@ -97,7 +97,7 @@ devices_are (routine r ∷ ds) = devices_are ds
 devices_are (monitor m ∷ ds) = devices_are ds
 devices_are (process p ∷ ds) = devices_are ds
 
-process_picked : PicksName process_called
+pub process_picked : PicksName process_called
 process_picked (process p) n is = cc
 process_picked (constant k q c) n is = absurd cc
 process_picked (device k q out) n is = absurd cc
@@ -105,7 +105,7 @@ process_picked (event k q) n is = absurd cc
 process_picked (routine r) n is = absurd cc
 process_picked (monitor m) n is = absurd cc
 
-monitor_picked : PicksName monitor_called
+pub monitor_picked : PicksName monitor_called
 monitor_picked (monitor m) n is = cc
 monitor_picked (constant k q c) n is = absurd cc
 monitor_picked (device k q out) n is = absurd cc
@@ -113,7 +113,7 @@ monitor_picked (event k q) n is = absurd cc
 monitor_picked (routine r) n is = absurd cc
 monitor_picked (process p) n is = absurd cc
 
-device_picked : PicksName device_called
+pub device_picked : PicksName device_called
 device_picked (device k q out) n is = cc
 device_picked (constant k q c) n is = absurd cc
 device_picked (event k q) n is = absurd cc
@@ -131,7 +131,7 @@ differ_front (x ∷ xs) ys h = (λ e i. h.0 e (front xs e i), differ_front xs ys
   front (z ∷ zs) e (inl is) = inl is
   front (z ∷ zs) e (inr i) = inr (front zs e i)
 
-condition_in_scope : (ms : List (Member Place)) (n : Name) → In (filter_map condition_in (map plain_member ms)) n → (d : Declared) × In (map member_name ms) (n, d)
+pub condition_in_scope : (ms : List (Member Place)) (n : Name) → In (filter_map condition_in (map plain_member ms)) n → (d : Declared) × In (map member_name ms) (n, d)
 condition_in_scope [] n i = absurd i
 condition_in_scope (variable_member v ∷ ms) n i = let r = condition_in_scope ms n i in (r.0, inr r.1)
 condition_in_scope (condition_member k q ∷ ms) n (inl e) = ((member_name (condition_member k q)).1, inl (ap (λ (z : Name). (z, (member_name (condition_member k q)).1)) e))
@@ -148,7 +148,7 @@ members_differ (condition_member k q ∷ ms) differ = (
 -- ---- a program
 
 module _ (g : Prog Place) (found : NamesFound g) (listed : NamesListed g) where
-  declarations : DeclsDiffer g.decls
+  pub declarations : DeclsDiffer g.decls
   declarations =
       decls_differ (λ place. first (entries_at g.decls place)) (program_name g ∷ []) g.decls (closes g.close g.close_place g.name ∷ [])
       (λ n q t i. found.free n q t (in-contains (names g) (declares n q t) (inr i)))

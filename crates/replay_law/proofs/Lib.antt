@@ -1,9 +1,9 @@
 mod Tokens
 mod Identifiers
 pub mod Named
-mod Differing
-mod Declared
-mod Qualified
+pub mod Differing
+pub mod Declared
+pub mod Qualified
 pub mod Sound
 pub mod Codes
 pub mod Statements

@@ -1,0 +1,16 @@
+pub mod Numbers
+pub mod Trees
+pub mod Turns
+pub mod Instructions
+pub mod Nesting
+pub mod Levels
+pub mod Routines
+pub mod Rising
+pub mod Processes
+pub mod Fresh
+pub mod Declared
+pub mod Events
+pub mod Lists
+pub mod Named
+pub mod Whole
+pub mod Joined
