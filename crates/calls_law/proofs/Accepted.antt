@@ -17,19 +17,15 @@ use Rattle.command_due.specs.AsmDue.{keeps}
 use Rattle.command_due.specs.ReplayDue.{IsReplayDue, run_line}
 use Rattle.command_due.specs.Runs.{BuiltImagesAreFaithful, IsAccepted}
 use Rattle.command_due_law.specs.DueOnce.{CompileIsOne, MigrateIsOne, RunIsOne, TimelyTextsHaveOneImage}
+use Rattle.command_due_law.proofs.DueOnceScripts.{text_once}
 use Rattle.replay_law.specs.Once.{ReplayIsOne}
 use Rattle.replay_law.specs.ReplayLaws.{LogsOfAcceptedProgramsAreRuns, LogsOfRunsAreLogs, run_events}
 use Rattle.calls_law.specs.Due.{Goes, IsOnly, gone}
 use Rattle.calls_law.specs.Accepted.{CompileIsGo, CompileThenMigrateKeeps, CompileThenRunPutsTheFault, CompileThenRunPutsTheLog, GoIsCheckAndLog, GoThenMigrateKeeps, GoThenReplayCounts, GoThenRunPutsTheLog, IsGone, compiles, most_overhead}
 use Rattle.calls_law.proofs.Counted.{lines_are_events}
+use Rattle.calls_law.proofs.Outcomes.{image_once}
 
--- ---- parts of outcomes
-
-some_once : (bytes other : List ℕ) → Some bytes ≡ Some other → bytes ≡ other
-some_once bytes other same = cc
-
-image_once : (o p : Outcome) (bytes other : List ℕ) → o.image ≡ Some bytes → p.image ≡ Some other → o ≡ p → bytes ≡ other
-image_once o p bytes other one two same = some_once bytes other (sym one ∙ (ap (λ (x : Outcome). x.image) same ∙ two))
+-- ---- refusals
 
 -- no refusal has status 0
 refused_zero : (show : Style) (over : ℕ) (text : List ℕ) (o : Outcome) → IsRefused show over text o → o.status ≡ 0 → ⊥
@@ -73,10 +69,10 @@ started over program script outcome (go_bad_script text other n fault held timel
     let five = ap (λ (x : Outcome). x.status) same in absurd (omega (arith, five, zero))
 started over program script outcome (went text other n lines end held timely there says same) zero = record {
   n = n;
-  timely = subst (λ (t : List ℕ). IsTimelyText over t n) (some_once text program (sym held)) timely;
+  timely = subst (λ (t : List ℕ). IsTimelyText over t n) (text_once (Some program) text program held refl) timely;
   lines = lines;
   end = end;
-  says = subst (λ (t : List ℕ). IsScript n.names t lines end) (some_once other script (sym there)) says;
+  says = subst (λ (t : List ℕ). IsScript n.names t lines end) (text_once (Some script) other script there refl) says;
   is = same;
 }
 
@@ -186,9 +182,9 @@ compile_then_fault once law one over program script report image fault low compi
     by : IsGoDue over (Some program) (Some script) (bad_script fault) → IsOnly (IsRunDue (Some image) (Some script)) (bad_script fault)
     by (go_refused text held refused) = absurd (refused_five report_text over text fault refused)
     by (go_bad_script text other n bad held timely there is same) =
-        let own : IsTimelyText over program n = subst (λ (t : List ℕ). IsTimelyText over t n) (some_once text program (sym held)) timely in
+        let own : IsTimelyText over program n = subst (λ (t : List ℕ). IsTimelyText over t n) (text_once (Some program) text program held refl) timely in
         let images : n ≡ b.n = once over program n b.n own b.timely in
-        let of_script : IsScriptFault n script bad = subst (λ (t : List ℕ). IsScriptFault n t bad) (some_once other script (sym there)) is in
+        let of_script : IsScriptFault n script bad = subst (λ (t : List ℕ). IsScriptFault n t bad) (text_once (Some script) other script there refl) is in
         let due : IsRunDue (Some (stored b.n)) (Some script) (bad_script bad) = fault_due law over program b.n low b.timely script bad (subst (λ (x : NamedImage). IsScriptFault x script bad) images of_script) in
         let of_image : IsRunDue (Some image) (Some script) (bad_script bad) = subst (λ (x : List ℕ). IsRunDue (Some x) (Some script) (bad_script bad)) (sym b.image_is) due in
         run_is_only one image script (bad_script fault) (subst (λ (x : Outcome). IsRunDue (Some image) (Some script) x) (sym same) of_image)

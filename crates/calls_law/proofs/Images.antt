@@ -1,8 +1,8 @@
 -- Texts and bytes of images, one after the other.
-use Rattle.std.proofs.Common.{◌≡◌, ◌≤◌, ◌∙◌, ℕ, List, [], Option, Some, None, length, refl, sym, subst, ap}
+use Rattle.std.proofs.Common.{◌≡◌, ◌≤◌, ◌∙◌, ℕ, List, Some, length, refl, sym, subst, ap, arith}
 use Rattle.image.specs.Bytes.{Second, Version, bytes_of}
 use Rattle.image.specs.Named.{NamedImage}
-use Rattle.image.specs.Raw.{image_of, named_of}
+use Rattle.image.specs.Raw.{named_of}
 use Rattle.image.specs.declared.raw.RawImage.{RawImage}
 use Rattle.image_format.specs.FormatLaw.{AreBytes}
 use Rattle.image_reader.specs.Answer.{Holds, parts_of}
@@ -14,24 +14,22 @@ use Rattle.image_stored_law.proofs.Versions.{fits_again}
 use Rattle.asm_format.specs.Text.{text_of}
 use Rattle.assembler.specs.Faults.{longest_text}
 use Rattle.valid_image.specs.Valid.{IsValid, Shown, fault_of}
-use Rattle.command_due.specs.CommandsDue.{IsImageFile, IsImageRefused, IsMigrateDue, Outcome, image_fault_line, invalid, migrate_refused, migrated, misread, stored, told, valid_fault_line}
+use Rattle.command_due.specs.CommandsDue.{IsImageFile, IsMigrateDue, Outcome, image_fault_line, invalid, migrate_refused, migrated, misread, stored, told, valid_fault_line}
 use Rattle.command_due.specs.Texts.{IsTextOf}
 use Rattle.command_due.specs.AsmDue.{IsAsmDue, IsDisDue, asm_faulty, asm_invalid, assembled, dis_misread, disassembled, keeps, text_fault_line}
 use Rattle.asm_law.specs.AsmLaws.{ImagesToldAreHeld}
 use Rattle.command_due_law.specs.DueOnce.{AsmIsOne, DisIsOne, MigrateIsOne}
 use Rattle.command_due_law.proofs.DueOnceImages.{held_once, held_or_faulty}
 use Rattle.calls_law.specs.Due.{IsOnly}
+use Rattle.calls_law.proofs.Outcomes.{image_once}
 use Rattle.calls_law.specs.Images.{AsmThenDisKeeps, DisThenAsmIsMigrate, DisThenAsmKeepsTheSecond, MigrateKeepsTheSecond}
 
 -- nothing that is stored is a line of status 4
 not_told : (bytes line : List ℕ) → keeps bytes ≡ told 4 line → ⊥
-not_told bytes line same = let zero : 0 ≡ 4 = ap (λ (x : Outcome). x.status) same in absurd cc
-
-some_once : (bytes other : List ℕ) → Some bytes ≡ Some other → bytes ≡ other
-some_once bytes other same = cc
+not_told bytes line same = let zero : 0 ≡ 4 = ap (λ (x : Outcome). x.status) same in absurd (omega (arith, zero))
 
 same_bytes : (bytes other : List ℕ) → keeps bytes ≡ keeps other → bytes ≡ other
-same_bytes bytes other same = some_once bytes other (ap (λ (x : Outcome). x.image) same)
+same_bytes bytes other same = image_once (keeps bytes) (keeps other) bytes other refl refl same
 
 -- ---- `dis` and then `asm`
 

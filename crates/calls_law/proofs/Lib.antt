@@ -1,5 +1,7 @@
 pub mod Fitting
+pub mod Outcomes
 pub mod Images
 pub mod Counted
 pub mod Accepted
 pub mod Loads
+pub mod Printed

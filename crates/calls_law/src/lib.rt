@@ -8,5 +8,6 @@
 
 pub mod accepted_programs;
 pub mod generated_loads;
+pub mod printed_programs;
 pub mod stored_then_read;
 pub mod texts_and_images;

@@ -1,0 +1,40 @@
+//! Laws: what is due of calls on the text that `print` has put.
+//!
+//! `specs/Printed.antt` says so of a canonical text that is no longer than a text may be. Its tree is
+//! that of the first text, apart from places; that the rules hold of it too is no part of these laws.
+//! Nothing here can run.
+//!
+//! The laws.
+
+ghost use Rattle.calls_law.specs.Printed.{PrintThenPrintKeeps, PrintThenReportIsTheSame, PrintedTextsHaveTheTree};
+
+use command_due_law::one_answer::{reports_are_one, written_once};
+use front_end::one_tree;
+use syntax_printer::{reads_back, tokens_are_spelled};
+
+/// The text that `print` puts has the tree of the first, apart from places.
+pub fn printed_texts_have_the_tree()
+    ensures { PrintedTextsHaveTheTree }
+{
+    tokens_are_spelled();
+    reads_back();
+    written_once();
+}
+
+/// Where it has no fault, what is due of `check` and of `json` of it is due of the first: the same
+/// report, with the same status.
+pub fn print_then_report_is_the_same()
+    ensures { PrintThenReportIsTheSame }
+{
+    one_tree();
+    printed_texts_have_the_tree();
+    reports_are_one();
+}
+
+/// Where it has no fault, `print` puts the same bytes again.
+pub fn print_then_print_keeps()
+    ensures { PrintThenPrintKeeps }
+{
+    one_tree();
+    printed_texts_have_the_tree();
+}
