@@ -1,9 +1,8 @@
 -- No two names of an image are the same where the image may not have them so.
-use Rattle.std.proofs.Common.{◌≡◌, ◌∙◌, ◌||◌, ◌++◌, ◌⊎◌, inl, inr, Bool, true, false, cond, List, [], ◌∷◌, map, filter_map, Option, Some, None, is_some, refl, ap, sym, subst}
+use Rattle.std.proofs.Common.{◌≡◌, ◌∙◌, ◌||◌, ◌++◌, inl, inr, Bool, true, false, cond, List, [], ◌∷◌, map, filter_map, Option, Some, None, is_some, refl, ap, sym, subst}
 use Rattle.std.specs.List.{cons_option}
-use Rattle.syntax_tree.specs.Plain as plain_of
 use Rattle.syntax_tree.specs.Plain.{Name}
-use Rattle.syntax_tree.specs.Placed.{Member, Monitor, Decl, constant, device, event, routine, monitor, process, Prog, plain_decl, plain_member}
+use Rattle.syntax_tree.specs.Placed.{Monitor, Decl, constant, device, event, routine, monitor, process, Prog, plain_decl, plain_member}
 use Rattle.syntax_tree.specs.declared.place.Place.{Place}
 use Rattle.static_names.specs.declared.kind.Declared.{Declared}
 use Rattle.static_names.specs.Reach.{Names, Reach, first, same, Site}

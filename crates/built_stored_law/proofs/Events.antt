@@ -1,17 +1,14 @@
 -- The events of an image: each is of one process, and has its frame.
-use Rattle.std.proofs.Common.{◌≡◌, ◌≢◌, ◌≤◌, ◌<◌, ◌+◌, ◌&&◌, ◌||◌, ◌==◌, ◌++◌, ◌∙◌, inl, inr, not, ℕ, zero, suc, Bool, true, false, cond, List, [], ◌∷◌, length, map, filter_map, Option, Some, None, bytes_eq, arith, refl, ap, sym, subst}
-use Rattle.std.specs.Prelude.{Contains, count_by, flat_map, if◌then◌else◌, nat_eq, slice_get}
-use Rattle.std.specs.List.{list_any}
-use Rattle.std.proofs.lemmas.Bool.{cases_Bool, eq-eqb, eqb-true, ne_eqb}
+use Rattle.std.proofs.Common.{◌≡◌, ◌≤◌, ◌<◌, ◌+◌, ◌&&◌, ◌==◌, ◌∙◌, inl, inr, not, ℕ, zero, suc, Bool, true, false, cond, List, [], ◌∷◌, map, filter_map, Some, bytes_eq, arith, refl, ap, sym, subst}
+use Rattle.std.specs.Prelude.{Contains, count_by, if◌then◌else◌, nat_eq, slice_get}
+use Rattle.std.proofs.lemmas.Bool.{cases_Bool, eq-eqb, ne_eqb}
 use Rattle.std.proofs.lemmas.List.Sums.{sum_by-cons}
-use Rattle.std.proofs.lemmas.Option.{slice_get_within}
 use Rattle.base.proofs.Members.{at_front, behind, front_or_behind, none_in}
 use Rattle.machine_isa.specs.declared.instr.Instr.{Instr}
 use Rattle.syntax_tree.specs.Plain as tree
 use Rattle.syntax_tree.specs.Plain.{Name, Trigger, periodic, at_event, Declaration, constant, device, event, routine, monitor, process, Program}
 use Rattle.source_semantics.specs.Names.{event_in, event_number, frame_of, place_of, processes}
 use Rattle.machine_semantics.specs.Image.{Process}
-use Rattle.image_reader.specs.Grammar as g
 use Rattle.image_reader.specs.File as f
 use Rattle.built_image.specs.Named.{frame_released, is_released_by}
 use Rattle.code_names_law.proofs.Numbers.{name_is, name_same}

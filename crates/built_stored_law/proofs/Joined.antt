@@ -1,5 +1,5 @@
 -- The bytes that are stored of a program hold its image.
-use Rattle.std.proofs.Common.{◌≡◌, ◌≤◌, ◌+◌, ◌∙◌, ℕ, zero, suc, Bool, true, List, [], ◌∷◌, ◌++◌, length, map, filter_map, Some, arith, refl, sym, subst, ap}
+use Rattle.std.proofs.Common.{◌≡◌, ◌≤◌, ◌+◌, ◌∙◌, ℕ, suc, Bool, true, List, [], ◌∷◌, ◌++◌, length, map, filter_map, arith, refl, sym, subst, ap}
 use Rattle.std.specs.Prelude.{All, replicate, slice_get}
 use Rattle.std.specs.List.{zip}
 use Rattle.std.proofs.lemmas.List.{length-map, map-append}
@@ -11,15 +11,13 @@ use Rattle.syntax_tree.specs.Plain as plain_of
 use Rattle.syntax_tree.specs.Plain.{Declaration, Name, Program, constant, device, event, routine, monitor, process}
 use Rattle.syntax_tree.specs.declared.place.Place.{Place}
 use Rattle.source_semantics.specs.Names.{conditions_of, event_in, monitors, processes}
-use Rattle.machine_semantics.specs.Image as image
 use Rattle.machine_semantics.specs.Image.{Image, Monitor, Process, Routine}
-use Rattle.image.specs.Bytes.{Second, bytes_of}
+use Rattle.image.specs.Bytes.{Second}
 use Rattle.image.specs.Named.{NamedImage}
 use Rattle.image.specs.Raw.{image_of, monitor_of, named_of, process_of, routine_of}
 use Rattle.image.specs.declared.names.ConditionName.{ConditionName}
 use Rattle.image.specs.declared.names.DeviceName.{DeviceName}
 use Rattle.image.specs.declared.names.EventName.{EventName}
-use Rattle.image.specs.declared.names.ImageNames.{ImageNames}
 use Rattle.image.specs.declared.raw.RawImage.{RawImage}
 use Rattle.image.specs.declared.raw.RawMonitor.{RawMonitor}
 use Rattle.image.specs.declared.raw.RawProcess.{RawProcess}
@@ -29,7 +27,7 @@ use Rattle.image_reader.specs.File as f
 use Rattle.image_reader.proofs.Zips.{firsts, seconds}
 use Rattle.valid_image.specs.Valid.{IsValid}
 use Rattle.built_image.specs.Built.{IsBuilt}
-use Rattle.built_image.specs.Named.{frame_released, named_conditions, named_device, named_event, names_of}
+use Rattle.built_image.specs.Named.{named_conditions, named_device, named_event, names_of}
 use Rattle.built_valid_law.specs.Made.{BuiltImagesAreMade}
 use Rattle.built_valid_law.specs.Ready.{BuiltImagesAreReady, IsReady}
 use Rattle.built_valid_law.proofs.Counts.{Counted, counted, named_in}
@@ -40,7 +38,6 @@ use Rattle.checked_law.specs.Small.{ProgramsThatKeepSizesAreSmall}
 use Rattle.code_cost_spec.specs.Levels.{code_length}
 use Rattle.code_measures.specs.Whole.{CodeHasItsLength}
 use Rattle.code_spec.specs.Compiled.{IsCodeOf, condition_monitors, device_direction}
-use Rattle.codegen_spec.specs.Parts.{program_made}
 use Rattle.command_due.specs.CommandsDue.{IsImageFile, stored}
 use Rattle.static_names.specs.Resolved.{IsNamed, IsRead}
 use Rattle.static_semantics.specs.Places.{NamesFound}
@@ -53,7 +50,7 @@ use Rattle.image_stored_law.proofs.Fitting.{fit}
 use Rattle.built_stored_law.specs.Stored.{BuiltImagesAreHeld, BuiltImagesAreRanged, IsRanged}
 use Rattle.built_stored_law.proofs.Declared.{events_are, events_differ}
 use Rattle.built_stored_law.proofs.Events.{frames_are}
-use Rattle.built_stored_law.proofs.Lists.{back_map, same_map}
+use Rattle.built_stored_law.proofs.Lists.{back_map}
 use Rattle.built_stored_law.proofs.Whole as whole
 use Rattle.built_stored_law.proofs.Whole.{activation_fits_of}
 

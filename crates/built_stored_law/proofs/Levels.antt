@@ -5,7 +5,7 @@ use Rattle.base.proofs.Members.{front_or_behind, none_in}
 use Rattle.syntax_tree.specs.Plain as plain_of
 use Rattle.syntax_tree.specs.Placed.{Stmt, assign, assign_entry, assign_empty, perform, perform_entry, when, when_else, loop, exit_when, get, put, wait, signal, broadcast, except, assert, Stmts, no_stmts, stmts, Routine, Handler, Decl, constant, device, event, routine, monitor, process, Prog, plain, plain_decl, plain_handler, plain_process, plain_routine, plain_stmt, plain_stmts, optional}
 use Rattle.syntax_tree.specs.declared.place.Place.{Place}
-use Rattle.syntax.specs.Words.{Tok, toks_of}
+use Rattle.syntax.specs.Words.{Tok}
 use Rattle.syntax.specs.ExprGrammar.{Each}
 use Rattle.syntax.specs.StmtGrammar.{IsStmt, AreStmts}
 use Rattle.syntax.specs.Grammar.{IsDecl, IsEntry, IsHandler, IsRoutine}

@@ -1,5 +1,5 @@
 -- Lists side by side, and lists of things that are in their ranges.
-use Rattle.std.proofs.Common.{◌≡◌, ◌≤◌, ◌<◌, ◌+◌, ◌&&◌, ◌||◌, ◌==◌, ◌++◌, ◌∙◌, ◌⊎◌, inl, inr, ℕ, zero, suc, Bool, true, false, List, [], ◌∷◌, length, map, Option, Some, None, arith, refl, ap, sym, subst}
+use Rattle.std.proofs.Common.{◌≡◌, ◌<◌, ◌+◌, ◌||◌, ◌==◌, ◌++◌, ◌∙◌, ◌⊎◌, inl, inr, ℕ, zero, suc, Bool, true, false, List, [], ◌∷◌, length, map, Some, arith, refl, ap, sym, subst}
 use Rattle.std.specs.Prelude.{All, if◌then◌else◌, nat_eq, slice_get}
 use Rattle.std.specs.List.{list_any, zip}
 use Rattle.std.proofs.lemmas.Bool.{eq-eqb, ne_eqb}
@@ -7,7 +7,6 @@ use Rattle.std.proofs.lemmas.List.Elements.{All-head, All-tail}
 use Rattle.machine_semantics.specs.Image.{Process}
 use Rattle.image_format.specs.Format.{Format, each_is}
 use Rattle.image_format.proofs.Booleans.{together}
-use Rattle.image_reader.specs.Grammar as g
 use Rattle.image_reader.specs.File as f
 use Rattle.wellformed_names_law.proofs.Members.{In}
 

@@ -1,5 +1,5 @@
 -- The names of an image that is built are in their ranges.
-use Rattle.std.proofs.Common.{◌≡◌, ◌≤◌, ◌<◌, ◌+◌, ◌++◌, ◌∙◌, inl, inr, ℕ, zero, suc, true, List, [], ◌∷◌, length, map, filter_map, arith, refl, ap, sym, subst}
+use Rattle.std.proofs.Common.{◌≡◌, ◌≤◌, ◌<◌, ◌+◌, ◌++◌, inl, inr, ℕ, suc, true, List, [], ◌∷◌, length, map, filter_map, arith, refl, ap, sym, subst}
 use Rattle.std.specs.Prelude.{All}
 use Rattle.std.proofs.lemmas.List.{append-nil}
 use Rattle.std.proofs.lemmas.List.Elements.{All-head, All-tail}
@@ -7,7 +7,7 @@ use Rattle.syntax_tree.specs.Plain as plain_of
 use Rattle.syntax_tree.specs.Plain.{Name, Declaration, Program}
 use Rattle.syntax_tree.specs.Placed.{Monitor, Decl, constant, device, event, routine, monitor, process, Prog, plain, plain_decl, plain_member, plain_monitor}
 use Rattle.syntax_tree.specs.declared.place.Place.{Place}
-use Rattle.source_semantics.specs.Names.{condition_in, conditions_of, device_in, event_in, monitor_in, monitors, processes}
+use Rattle.source_semantics.specs.Names.{condition_in, conditions_of, device_in, event_in, monitor_in, monitors}
 use Rattle.image.specs.declared.names.ConditionName.{ConditionName}
 use Rattle.image.specs.declared.names.DeviceName.{DeviceName}
 use Rattle.image_format.specs.Format.{each_is}
@@ -138,7 +138,7 @@ module _ (g' : Prog Place) (found : NamesFound g') (listed : NamesListed g') (id
       let facts = condition_facts (λ n. IsIdentifier n × NoneOf n taken) 0 g'.decls (λ m j n has. (
         all_in IsIdentifier (conditions_of (plain_monitor m)) n (all_in MonitorIsNamed (monitors p) (plain_monitor m) ids.of_monitors (monitor_in_plain g'.decls m j)).conditions has,
         subst (λ (ns : List Name). NoneOf n ns) (sym are)
-        (none_of_both n before_monitors (monitors_of g') (first_three n (condition_no_program g' found listed m j n has) (condition_no_devices g' found listed m j n has) (condition_no_events g' found listed m j n has)) (condition_no_monitors g' found listed m j n has)),
+            (none_of_both n before_monitors (monitors_of g') (first_three n (condition_no_program g' found listed m j n has) (condition_no_devices g' found listed m j n has) (condition_no_events g' found listed m j n has)) (condition_no_monitors g' found listed m j n has)),
       )) c i in
       let low = facts.1 in
       (facts.0.0, facts.0.1, omega (arith, low, many)))

@@ -1,13 +1,12 @@
 -- The fields of a process are in their ranges.
-use Rattle.std.proofs.Common.{◌≡◌, ◌≤◌, ◌<◌, ◌+◌, ◌&&◌, ◌||◌, ◌==◌, ◌∙◌, not, ℕ, zero, suc, Bool, true, false, List, [], ◌∷◌, length, map, Option, Some, None, arith, refl, sym, subst, ap}
+use Rattle.std.proofs.Common.{◌≡◌, ◌≤◌, ◌<◌, ◌+◌, ◌&&◌, ◌||◌, ◌==◌, not, ℕ, Bool, true, false, List, [], ◌∷◌, length, Option, Some, None, arith, refl, sym, subst, ap}
 use Rattle.std.specs.Prelude.{nat_le, nat_lt, nat_eq, slice_get, sum_by}
 use Rattle.std.specs.List.{list_any}
-use Rattle.std.proofs.lemmas.Bool.{lt-ltb, eq-eqb}
+use Rattle.std.proofs.lemmas.Bool.{lt-ltb}
 use Rattle.std.proofs.lemmas.Option.{slice_get_within}
 use Rattle.machine_isa.specs.declared.instr.Instr.{Instr}
 use Rattle.syntax_tree.specs.Plain as tree
-use Rattle.syntax_tree.specs.Plain.{Constant, Handler, Program}
-use Rattle.source_semantics.specs.Names.{count_value}
+use Rattle.syntax_tree.specs.Plain.{Handler, Program}
 use Rattle.machine_semantics.specs.Trees.{Nil, Segs, size}
 use Rattle.machine_semantics.specs.Image.{Image, Process}
 use Rattle.image.specs.Bytes.{Second}
@@ -26,8 +25,7 @@ use Rattle.valid_image_law.proofs.Passing.{handler_stands, stack_fits}
 use Rattle.valid_image_law.proofs.Ranking.{ranked}
 use Rattle.valid_image_law.proofs.Shapes.{ProcessShaped, process_shaped}
 use Rattle.valid_image_law.proofs.Tests.{passed}
-use Rattle.code_spec.specs.Compiled.{EmitsHandler, ascending, process_scope}
-use Rattle.code_spec.specs.Layout.{loops}
+use Rattle.code_spec.specs.Compiled.{EmitsHandler, process_scope}
 use Rattle.code_spec.specs.Segments.{stmts_segs}
 use Rattle.codegen_law.proofs.Counts.{one_low}
 use Rattle.wellformed.specs.WellFormed.{OptionalFits}

@@ -1,12 +1,12 @@
 -- The numbers of a handler rise, and are such as a handler may take.
-use Rattle.std.proofs.Common.{◌≡◌, ◌≤◌, ◌<◌, ◌∙◌, ◌||◌, ◌&&◌, ◌++◌, inl, inr, ℕ, zero, suc, Bool, true, false, cond, ℤ, pos, negsuc, List, [], ◌∷◌, length, map, get_or, refl, sym, ap, arith}
-use Rattle.std.specs.Prelude.{All, AllPairs, nat_le, nat_lt}
+use Rattle.std.proofs.Common.{◌≡◌, ◌≤◌, ◌<◌, ◌∙◌, ◌||◌, ◌&&◌, ◌++◌, inl, inr, ℕ, suc, Bool, true, false, cond, ℤ, pos, negsuc, List, [], ◌∷◌, length, map, get_or, refl, ap, arith}
+use Rattle.std.specs.Prelude.{All, AllPairs, nat_le}
 use Rattle.std.proofs.lemmas.Bool.{cases_lt, leb-true, leb-false, lt-ltb}
 use Rattle.std.proofs.lemmas.List.Elements.{All-head, All-tail}
 use Rattle.base.specs.Words.{within}
 use Rattle.syntax_tree.specs.Plain.{Constant, Program}
 use Rattle.source_semantics.specs.Names.{as_count, constant_value, count_value}
-use Rattle.image_format.specs.Format.{checked, each_is, is_fine, u16, unless}
+use Rattle.image_format.specs.Format.{checked, each_is, is_fine, u16}
 use Rattle.image_format.proofs.Booleans.{together}
 use Rattle.image_reader.specs.Grammar as g
 use Rattle.image_reader.proofs.Rising.{above_last}

@@ -1,5 +1,5 @@
 -- The fields of a routine are in their ranges.
-use Rattle.std.proofs.Common.{◌≡◌, ◌≤◌, ◌<◌, ◌+◌, ◌&&◌, ◌||◌, ◌==◌, ◌∙◌, inl, inr, ℕ, zero, suc, Bool, true, false, List, [], ◌∷◌, length, take, Option, Some, None, arith, refl, sym, subst, ap}
+use Rattle.std.proofs.Common.{◌≡◌, ◌≤◌, ◌<◌, ◌+◌, ◌&&◌, ℕ, zero, suc, Bool, true, false, List, [], ◌∷◌, length, take, Option, Some, None, arith, refl, sym, subst}
 use Rattle.std.specs.Prelude.{cond, nat_eq, nat_le, nat_lt, slice_get}
 use Rattle.std.proofs.lemmas.Bool.{lt-ltb, eqb-true}
 use Rattle.std.proofs.lemmas.Option.{slice_get_within}
@@ -13,7 +13,7 @@ use Rattle.image_format.specs.TreeFormat.{in_image, tree_format, u32_within}
 use Rattle.image_format.proofs.Booleans.{together}
 use Rattle.image_reader.specs.declared.counts.Counts.{Counts}
 use Rattle.image_reader.specs.Grammar as g
-use Rattle.valid_image.specs.Found.{Found, ended, is_return, tree_found}
+use Rattle.valid_image.specs.Found.{ended, is_return, tree_found}
 use Rattle.valid_image.specs.Tables.{count, known, known_of, monitor_of}
 use Rattle.valid_image.specs.Valid.{HasLimits, HasOwner, IsValid, Operands, Shape, Sizes}
 use Rattle.valid_image_law.proofs.Exact.{ended_is}

@@ -1,5 +1,5 @@
 -- The trees of a valid image that nest within the limit have their numbers in range.
-use Rattle.std.proofs.Common.{◌≡◌, ◌≤◌, ◌<◌, ◌+◌, ◌&&◌, ◌^◌, ℕ, zero, suc, Bool, true, List, length, Option, Some, None, pos, refl, sym, arith}
+use Rattle.std.proofs.Common.{◌≡◌, ◌≤◌, ◌<◌, ◌+◌, ◌&&◌, ◌^◌, ℕ, zero, suc, true, List, length, Option, Some, None, pos, refl, arith}
 use Rattle.std.specs.Prelude.{nat_eq, nat_lt, slice_get}
 use Rattle.std.proofs.lemmas.Bool.{and_parts, eqb-true, lt-ltb, ltb-true}
 use Rattle.std.proofs.lemmas.Option.{slice_get_within}
@@ -8,7 +8,7 @@ use Rattle.machine_isa.specs.declared.instr.Instr.TheVariants as i
 use Rattle.machine_semantics.specs.Trees.{Seg, Line, Fork, Rep, Call, Stay, Wait, Exit, Segs, Nil, Cons, size, size_of}
 use Rattle.image_format.specs.Format.{Format}
 use Rattle.image_format.specs.TreeBytes.{row}
-use Rattle.image_format.specs.TreeFormat.{in_image, line_count, seg_format, seg_is, segs_is, tree_format, turns_count, u16_below}
+use Rattle.image_format.specs.TreeFormat.{in_image, seg_format, seg_is, segs_is, tree_format, turns_count, u16_below}
 use Rattle.image_format.proofs.Booleans.{together}
 use Rattle.valid_image.specs.Found.{Found, Known, arms, call, entry, found, founds, is_call, is_enter, is_jump, is_jump_zero, is_leave, is_repeat, is_repeats, loop, tree_found}
 use Rattle.valid_image_law.proofs.Tests.{called, chained, forked, looped, passed, repeats_is, stayed}

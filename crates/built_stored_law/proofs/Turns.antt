@@ -1,11 +1,10 @@
 -- Each loop of a valid image has at most 1,000,000 turns.
-use Rattle.std.proofs.Common.{◌≡◌, ◌≤◌, ◌<◌, ◌+◌, ◌-◌, ◌∙◌, inl, inr, ℕ, pos, true, length, Some, arith, ap, subst}
-use Rattle.std.specs.Prelude.{◌&&◌, None, nat_le, map, slice_get}
+use Rattle.std.proofs.Common.{◌≡◌, ◌≤◌, ◌<◌, ◌+◌, ◌-◌, inl, inr, ℕ, pos, true, length, Some, arith, subst}
+use Rattle.std.specs.Prelude.{None, nat_le, map, slice_get}
 use Rattle.std.proofs.lemmas.Bool.{and_parts, cases_lt, leb-true}
 use Rattle.std.proofs.lemmas.List.{length-append, length-map}
 use Rattle.std.proofs.lemmas.Option.{slice_get_within}
 use Rattle.base.proofs.Lists.{some_at}
-use Rattle.machine_isa.specs.declared.instr.Instr.{Instr}
 use Rattle.machine_isa.specs.declared.instr.Instr.TheVariants as i
 use Rattle.machine_semantics.specs.Image.{Image}
 use Rattle.valid_image.specs.Operands.{Whose, bad_operand, is_between, whose_process, whose_routine}

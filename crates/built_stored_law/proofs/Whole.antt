@@ -1,6 +1,6 @@
 -- The fields of the image that is built of a program are in their ranges.
 use Rattle.std.proofs.Common.{◌≡◌, ◌≤◌, ◌<◌, ◌+◌, ◌++◌, ◌&&◌, ◌∙◌, ◌⊎◌, inl, inr, ℕ, zero, suc, true, ℤ, pos, negsuc, List, [], ◌∷◌, length, map, filter_map, bytes_eq, Option, Some, None, arith, refl, ap, sym, subst}
-use Rattle.std.specs.Prelude.{All, Contains, int_le, nat_eq, nat_le, slice_get, sum_by}
+use Rattle.std.specs.Prelude.{All, Contains, int_le, nat_eq, slice_get, sum_by}
 use Rattle.std.specs.List.{list_any, zip}
 use Rattle.std.proofs.lemmas.Bool.{and_parts, leb-true}
 use Rattle.std.proofs.lemmas.List.{append-nil, length-map}
@@ -9,7 +9,6 @@ use Rattle.std.proofs.lemmas.List.Sums.{sum_by-cons}
 use Rattle.std.proofs.lemmas.Option.{get_or_from_slice_get, slice_get_within}
 use Rattle.base.proofs.Lists.{one_some, some_at}
 use Rattle.base.specs.Words.{within}
-use Rattle.machine_isa.specs.declared.instr.Instr.{Instr}
 use Rattle.machine_isa.specs.Bytes.{HasWords}
 use Rattle.syntax_tree.specs.Plain as plain_of
 use Rattle.syntax_tree.specs.Plain.{Constant, Name, Trigger, periodic, at_event, event, Program}
@@ -17,10 +16,10 @@ use Rattle.syntax_tree.specs.Placed.{Prog, plain}
 use Rattle.syntax_tree.specs.declared.place.Place.{Place}
 use Rattle.source_semantics.specs.Names.{as_count, constant_value, event_in, event_number, monitors, processes}
 use Rattle.source_semantics.specs.Starts.{first_of}
-use Rattle.machine_semantics.specs.Image.{Image, Monitor, Process, Routine}
+use Rattle.machine_semantics.specs.Image.{Image, Monitor, Process}
 use Rattle.machine_semantics.specs.Run.{words_of}
 use Rattle.image.specs.Bytes.{Second}
-use Rattle.image_format.specs.Format.{each_is, u16, u32}
+use Rattle.image_format.specs.Format.{u16, u32}
 use Rattle.image_format.specs.TreeFormat.{u16_within, u32_within}
 use Rattle.image_format.proofs.Booleans.{together}
 use Rattle.image_reader.specs.declared.counts.Counts.{Counts}
@@ -46,7 +45,6 @@ use Rattle.checked_law.specs.Ready.{IsImageMade}
 use Rattle.checked_law.specs.Small.{KeepsSizes}
 use Rattle.checked_law.proofs.SmallLemmas.{not_over}
 use Rattle.checked_law.proofs.Texts.{IsPlainOf, plain_of_placed}
-use Rattle.codegen_law.proofs.Counts.{one_low}
 use Rattle.front_end.specs.Source.{IsTreeOf}
 use Rattle.static_semantics.specs.Places.{NamesFound}
 use Rattle.static_semantics.specs.Mirrors.{NamesListed}
@@ -56,7 +54,7 @@ use Rattle.replay_law.specs.Words.{IsIdentifier, MonitorIsNamed, NamesAreIdentif
 use Rattle.replay_law.proofs.Declared.{monitors_are, monitors_differ, processes_are, processes_differ}
 use Rattle.replay_law.proofs.Differing.{Differing}
 use Rattle.image_stored_law.proofs.Fitting.{Fits}
-use Rattle.built_stored_law.proofs.Declared.{events_are, events_differ, events_of, monitors_no_devices, monitors_no_events, monitors_no_program, monitors_of, processes_no_devices, processes_no_events, processes_no_monitors, processes_no_program, processes_of}
+use Rattle.built_stored_law.proofs.Declared.{events_are, events_differ, monitors_no_devices, monitors_no_events, monitors_no_program, monitors_of, processes_no_devices, processes_no_events, processes_no_monitors, processes_no_program, processes_of}
 use Rattle.built_stored_law.proofs.Events.{among, declares, event_at, one_hit, one_place, some_hit}
 use Rattle.built_stored_law.proofs.Fresh.{NoneOf, each_fits, none_of_both}
 use Rattle.built_stored_law.proofs.Fresh as fresh

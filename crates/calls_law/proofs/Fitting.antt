@@ -3,12 +3,11 @@ use Rattle.std.proofs.Common.{◌≡◌, ◌++◌, ◌∙◌, ℕ, List, [], Som
 use Rattle.std.specs.Prelude.{Option}
 use Rattle.image.specs.Named.{NamedImage}
 use Rattle.image.specs.Raw.{named_of}
-use Rattle.image.specs.declared.raw.RawImage.{RawImage}
 use Rattle.sched_table.specs.Report.{report_text}
 use Rattle.script.specs.declared.script.ScriptLine.{ScriptLine}
 use Rattle.script.specs.Scripts.{IsScript}
 use Rattle.command_due.specs.Source.{report_of}
-use Rattle.command_due.specs.CommandsDue.{IsImageFile, IsMigrateDue, IsRunDue, Outcome, log, migrated, ran, stored, told}
+use Rattle.command_due.specs.CommandsDue.{IsImageFile, IsRunDue, Outcome, log, migrated, ran, stored, told}
 use Rattle.command_due_law.specs.DueOnce.{MigrateIsOne, RunIsOne}
 use Rattle.command_answers.specs.Promise.{IsHeld}
 use Rattle.calls_law.specs.Calls.{MigrateAfterGo, RunAfterCompile, RunAfterGo}

@@ -6,7 +6,7 @@ use Rattle.sched_table.specs.Report.{report_text}
 use Rattle.script.specs.declared.script.ScriptLine.{ScriptLine}
 use Rattle.script.specs.Scripts.{IsScript}
 use Rattle.command_due.specs.Source.{report_of}
-use Rattle.command_due.specs.CommandsDue.{IsMigrateDue, IsRunDue, Outcome, log, stored, told}
+use Rattle.command_due.specs.CommandsDue.{IsMigrateDue, IsRunDue, Outcome, log, told}
 use Rattle.command_answers.specs.Promise.{HasCompiled, HasGone}
 
 -- The law: after `go`, where the script is what it was, `run` of the image and the script is to

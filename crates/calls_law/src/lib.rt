@@ -1,4 +1,4 @@
-//! Laws of two calls with their files in between: they fit together.
+//! Laws: two calls with their files in between: they fit together.
 //!
 //! What is due of a call on what an earlier one has put and stored: `texts_and_images` for `dis`,
 //! `asm` and `migrate`; `accepted_programs` for `run`, `migrate` and `replay` behind `go` and

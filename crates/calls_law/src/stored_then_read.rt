@@ -1,7 +1,7 @@
 //! Laws: what is due of a call on the image that an earlier call has stored.
 //!
-//! The clauses of the earlier call say that the bytes which it stored hold its image; what is due of
-//! the later call is one. Nothing here can run.
+//! The clauses of the earlier call say that the bytes which it stored hold its image, and what is
+//! due of the later call is one. Nothing here can run.
 //!
 //! The laws.
 
@@ -9,8 +9,8 @@ ghost use Rattle.calls_law.specs.Calls.{MigrateAfterGo, RunAfterCompile, RunAfte
 
 use command_due_law::one_answer::{migrate_is_one, run_is_one};
 
-/// `run` of the image that `go` stored, over the same script, is to answer 0 and to put the log that
-/// `go` has put behind its report.
+/// `run` of the image that `go` stored, over the same script, is to answer 0 and to put the log
+/// that `go` has put behind its report.
 pub fn run_after_go()
     ensures { RunAfterGo }
 {

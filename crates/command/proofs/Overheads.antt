@@ -1,9 +1,10 @@
 -- The overhead of a command is at most 1,000 ticks.
 use Rattle.std.proofs.Common.{◌≡◌, ◌≤◌, ℕ, Bool, true, false, List, [], ◌∷◌, Option, Some, None, bytes_eq, codes, arith, refl, subst}
-use Rattle.std.specs.Prelude.{if◌then◌else◌, option_map}
+use Rattle.std.specs.Prelude.{String, if◌then◌else◌, map, option_map, string_bytes}
+use Rattle.std.specs.Global.{Global}
 use Rattle.command_words.specs.declared.stop.Breakpoint.{Breakpoint}
 use Rattle.command_words.specs.Calls.{Call, asm, check, compile, dis, edf, go, json, migrate, over_of, print, replay, run, slack, watch}
-use Rattle.command_words.specs.Words.{asm_row, check_row, compile_row, dis_row, edf_row, go_row, json_row, last_overhead, migrate_row, print_row, replay_row, row_of, run_row, slack_row, stop_of, watch_row}
+use Rattle.command_words.specs.Words.{IsCommand, asm_row, check_row, compile_row, dis_row, edf_row, go_row, json_row, last_overhead, migrate_row, print_row, replay_row, row_of, run_row, slack_row, stop_of, watch_row}
 use Rattle.command_words.specs.WordsLaws.{OverheadsAreDecimal}
 
 same_call : (c d : Call) → Some c ≡ Some d → over_of c ≤ 1000 → over_of d ≤ 1000
@@ -100,7 +101,7 @@ watch_low (a ∷ b ∷ []) call is = absurd cc
 watch_low (a ∷ b ∷ c ∷ []) call is = stopped_low a b (stop_of c) call is
 watch_low (a ∷ b ∷ c ∷ d ∷ rest) call is = absurd cc
 
-pub over_low : OverheadsAreDecimal → (words : List (List ℕ)) (call : Call) → row_of words ≡ Some call → over_of call ≤ 1000
+over_low : OverheadsAreDecimal → (words : List (List ℕ)) (call : Call) → row_of words ≡ Some call → over_of call ≤ 1000
 over_low law [] call is = absurd cc
 over_low law (word ∷ words) call is =
     either_row (bytes_eq word (codes "go")) (go_row words) _ call (go_low law words call) (λ r0.
@@ -116,3 +117,6 @@ over_low law (word ∷ words) call is =
     either_row (bytes_eq word (codes "watch")) (watch_row words) _ call (watch_low words call) (λ r10.
     either_row (bytes_eq word (codes "replay")) (replay_row words) _ call (replay_low words call) (λ r11.
     either_row (bytes_eq word (codes "edf")) (edf_row words) None call (edf_low words call) (λ none. absurd cc) r11) r10) r9) r8) r7) r6) r5) r4) r3) r2) r1) r0) is
+
+pub command_low : OverheadsAreDecimal → (words : List (String Global)) (call : Call) → IsCommand words call → over_of call ≤ 1000
+command_low law words call is = over_low law (map string_bytes words) call is.row

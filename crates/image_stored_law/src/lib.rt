@@ -1,4 +1,4 @@
-//! Laws of images that are stored: valid images are short, and their bytes hold them.
+//! Laws: a valid image is short, and its bytes of version 2 hold it.
 //!
 //! What is stored of an image are its bytes of the second version. `specs/Stored.antt` says of a
 //! valid image, its fields in their ranges, that these are no more bytes than an image may have,

@@ -3,7 +3,7 @@ use Rattle.std.proofs.lemmas.Bool.{cases_eq}
 use Rattle.command_answers.specs.Acts.{number_of}
 use Rattle.command.proofs.Complete.{completes}
 use Rattle.command.proofs.Done.{has_done}
-use Rattle.command.proofs.Overheads.{over_low}
+use Rattle.command.proofs.Overheads.{command_low}
 use Rattle.command.proofs.Late.{refused_for_time}
 use Rattle.command.proofs.One.{refused}
 use Rattle.command.proofs.call.rte.Goals as goal
@@ -16,7 +16,7 @@ pub returns-clause-done : goal.returns-clause-done
 returns-clause-done g c = λ call is.
     has_done (record { spelled = c.tokens_are_spelled.ensures; tokens_of = c.reads_back.ensures.tokens; tree_of = c.reads_back.ensures.tree })
     c.built_images_are_faithful.ensures c.images_told_are_held.ensures c.images_read_are_held_again.ensures c.built_images_are_held.ensures c.images_read_are_in_their_ranges.ensures.limits c.every_valid_image_is_safe_and_in_time.ensures c.scripts_suit.ensures.held c.feasible_texts_keep_their_word.ensures
-    g.F.Files.tells call _ _ _ (over_low c.overheads_are_decimal.ensures _ call is.row) (c.carry_out.ensures.went call is)
+    g.F.Files.tells call _ _ _ (command_low c.overheads_are_decimal.ensures _ call is) (c.carry_out.ensures.went call is)
 
 -- status 3, by what is due
 pub returns-clause-late : goal.returns-clause-late
