@@ -1,6 +1,7 @@
 -- Calls on the text that `print` has put.
-use Rattle.std.proofs.Common.{◌≡◌, ◌≢◌, ◌≤◌, ◌∙◌, ℕ, List, length, refl, sym, subst, ap, arith}
+use Rattle.std.proofs.Common.{◌≡◌, ◌≢◌, ◌≤◌, ◌∙◌, ◌⊎◌, ℕ, List, length, inl, inr, refl, sym, subst, ap, arith}
 use Rattle.syntax.specs.declared.token.Token.{Token}
+use Rattle.syntax.specs.Lex.{HasOneList, HasTokensOrFault}
 use Rattle.syntax.specs.Tokens.{longest_text, tokens}
 use Rattle.syntax_tree.specs.declared.place.Place.{Place}
 use Rattle.syntax_tree.specs.Placed.{Prog, plain}
@@ -10,15 +11,19 @@ use Rattle.syntax_printer.specs.Canonical.{canonical}
 use Rattle.syntax_printer.specs.ReadBack.{AreSpelled, HasTree, IsPrinted}
 use Rattle.front_end.specs.Source.{IsTreeOf}
 use Rattle.image.specs.Named.{NamedImage}
+use Rattle.front_end.specs.Program.{IsMisnamed, IsMisruled, of_names, of_rules, of_text}
 use Rattle.front_end.specs.ProgramLaws.{HasOneTree}
+use Rattle.front_end.proofs.Texts.{HasTreeOrFault, tree_or_fault}
 use Rattle.load_text_law.proofs.Plain.{plain-bare}
+use Rattle.built_image_law.specs.Limits.{StacksAreInLimits}
 use Rattle.built_image.specs.Built.{IsBuilt, IsLate}
 use Rattle.built_image.specs.Shown.{IsTableOf}
-use Rattle.command_due.specs.Source.{IsLateText, IsTimelyText, IsWritten, Style, late_report}
+use Rattle.command_due.specs.Source.{IsLateText, IsTextFault, IsTimelyText, IsWritten, Style, late_report, of_program, of_size}
 use Rattle.command_due.specs.CommandsDue.{IsPrintDue, IsRefused, IsReportDue, Outcome, faulty, late, print_faulty, printed, report_refused, report_timely, told}
 use Rattle.command_due_law.specs.DueOnce.{ReportsAreOne, WrittenOnce}
 use Rattle.calls_law.specs.Due.{IsOnly}
-use Rattle.calls_law.specs.Printed.{HasSameTree, PrintThenPrintKeeps, PrintThenReportIsTheSame, PrintedTextsHaveTheTree, Prints}
+use Rattle.calls_law.specs.Printed.{HasSameTree, PrintThenPrintKeeps, PrintThenReportIsTheSame, PrintedTextsBreakRulesOnly, PrintedTextsHaveTheTree, Prints}
+use Rattle.calls_law.proofs.Sizes.{sizes_kept}
 
 -- the laws of the canonical text
 pub record Printing : Type 0 where
@@ -53,25 +58,25 @@ module _ (one : HasOneTree) (trees : PrintedTextsHaveTheTree) (text other : List
   first : Source text other
   first = source text other p.prints
 
-  -- a program of the other text is that of the first, apart from places
-  same_bare : (h : Prog Place) → IsWritten other h → bare h ≡ bare first.g
-  same_bare h written =
+  -- a tree of the other text is that of the first, apart from places
+  same_bare : (h : Prog Place) → IsTreeOf other h → bare h ≡ bare first.g
+  same_bare h is =
       let t = trees text other first.g p first.written in
-      ap (λ (x : Prog Place). bare x) (one other h t.tree written.program.tree t.is) ∙ t.same
+      ap (λ (x : Prog Place). bare x) (one other h t.tree is t.is) ∙ t.same
 
-  same_plain : (h : Prog Place) → IsWritten other h → plain h ≡ plain first.g
-  same_plain h written = sym (plain-bare h) ∙ (ap plain (same_bare h written) ∙ plain-bare first.g)
+  same_plain : (h : Prog Place) → IsTreeOf other h → plain h ≡ plain first.g
+  same_plain h is = sym (plain-bare h) ∙ (ap plain (same_bare h is) ∙ plain-bare first.g)
 
   timely_too : (over : ℕ) (n : NamedImage) → IsTimelyText over other n → IsTimelyText over text n
   timely_too over n t = record {
     tree = first.g;
     written = first.written;
-    built = subst (λ (x : plain_of.Program). IsBuilt x over n) (same_plain t.tree t.written) t.built;
+    built = subst (λ (x : plain_of.Program). IsBuilt x over n) (same_plain t.tree t.written.program.tree) t.built;
   }
 
   late_too : (show : Style) (over : ℕ) (report : List ℕ) → IsLateText show over other report → IsLateText show over text report
   late_too show over report l =
-      let same = same_plain l.tree l.written in
+      let same = same_plain l.tree l.written.program.tree in
       record {
         tree = first.g;
         written = first.written;
@@ -89,7 +94,19 @@ module _ (one : HasOneTree) (trees : PrintedTextsHaveTheTree) (text other : List
   prints_again : (outcome : Outcome) → outcome.status ≢ 2 → IsPrintDue other outcome → outcome ≡ told 0 other
   prints_again outcome sound (print_faulty number place fault same) = absurd (sound (ap (λ (x : Outcome). x.status) same))
   prints_again outcome sound (printed h written same) =
-      same ∙ (ap (λ (x : List ℕ). told 0 x) (ap canonical (same_bare h written)) ∙ ap (λ (x : List ℕ). told 0 x) (sym first.is))
+      same ∙ (ap (λ (x : List ℕ). told 0 x) (ap canonical (same_bare h written.program.tree)) ∙ ap (λ (x : List ℕ). told 0 x) (sym first.is))
+
+  -- a fault of it is none of its spelling, its grammar or its size
+  faults : HasTreeOrFault → StacksAreInLimits → (number : ℕ) (place : Place) → IsTextFault other number place → IsMisnamed other number place ⊎ IsMisruled other number place
+  faults apart stacks number place (of_program (of_text fault)) =
+      let t = trees text other first.g p first.written in absurd (apart other t.tree number place t.is fault)
+  faults apart stacks number place (of_program (of_names m)) = inl m
+  faults apart stacks number place (of_program (of_rules m)) = inr m
+  faults apart stacks number place (of_size h is large) =
+      absurd (sizes_kept stacks first.g h (same_plain h is.tree) first.written.fits number place large.broken)
+
+pub rules_only : HasOneTree → PrintedTextsHaveTheTree → HasOneList → HasTokensOrFault → StacksAreInLimits → PrintedTextsBreakRulesOnly
+rules_only one trees one_list tokens_apart stacks text other number place p fault = faults one trees text other p (tree_or_fault one_list tokens_apart) stacks number place fault
 
 pub report_is_same : HasOneTree → PrintedTextsHaveTheTree → ReportsAreOne → PrintThenReportIsTheSame
 report_is_same one trees only show over text other outcome p due sound =

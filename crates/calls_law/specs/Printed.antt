@@ -1,11 +1,12 @@
 -- What is due of calls on the text that `print` has put.
-use Rattle.std.specs.Prelude.{◌≡◌, ◌≢◌, ◌≤◌, ℕ, List, length}
+use Rattle.std.specs.Prelude.{◌≡◌, ◌≢◌, ◌≤◌, ◌⊎◌, ℕ, List, length}
 use Rattle.syntax.specs.Tokens.{longest_text}
 use Rattle.syntax_tree.specs.declared.place.Place.{Place}
 use Rattle.syntax_tree.specs.Placed.{Prog}
 use Rattle.syntax_tree.specs.Bare.{bare}
 use Rattle.front_end.specs.Source.{IsTreeOf}
-use Rattle.command_due.specs.Source.{IsWritten, Style}
+use Rattle.front_end.specs.Program.{IsMisnamed, IsMisruled}
+use Rattle.command_due.specs.Source.{IsTextFault, IsWritten, Style}
 use Rattle.command_due.specs.CommandsDue.{IsPrintDue, IsReportDue, Outcome, told}
 use Rattle.calls_law.specs.Due.{IsOnly}
 
@@ -23,6 +24,13 @@ pub record HasSameTree (text : List ℕ) (g : Prog Place) : Type 0 where
 -- The law: the text that is put has the tree of the first, apart from places.
 abbrev pub PrintedTextsHaveTheTree : Type 0
 PrintedTextsHaveTheTree = (text other : List ℕ) (g : Prog Place) → Prints text other → IsWritten text g → HasSameTree other g
+
+-- The law: if it has a fault, this is of a rule for names or of a static rule: of its length, its
+-- spelling, its grammar and its size it has none.
+abbrev pub PrintedTextsBreakRulesOnly : Type 0
+PrintedTextsBreakRulesOnly =
+    (text other : List ℕ) (number : ℕ) (place : Place) → Prints text other → IsTextFault other number place
+    → IsMisnamed other number place ⊎ IsMisruled other number place
 
 -- The law: where it has no fault, what is due of `check` and of `json` of it is due of the first.
 abbrev pub PrintThenReportIsTheSame : Type 0
