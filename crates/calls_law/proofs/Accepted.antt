@@ -1,7 +1,6 @@
 -- Calls on what `go` and `compile` have put and stored.
-use Rattle.std.proofs.Common.{◌≡◌, ◌≤◌, ◌++◌, ◌∙◌, ℕ, List, [], ◌∷◌, Option, Some, length, refl, sym, subst, ap, arith}
+use Rattle.std.proofs.Common.{◌≡◌, ◌≤◌, ◌++◌, ◌∙◌, ℕ, List, [], ◌∷◌, Some, length, refl, sym, subst, ap, arith}
 use Rattle.image.specs.Named.{NamedImage}
-use Rattle.image.specs.Raw.{named_of}
 use Rattle.sched_table.specs.Report.{report_text}
 use Rattle.script.specs.declared.script.ScriptLine.{ScriptLine}
 use Rattle.script.specs.declared.fault.ScriptFault.{ScriptFault}
@@ -12,7 +11,7 @@ use Rattle.built_image.specs.Named.{names_of}
 use Rattle.built_stored_law.specs.Stored.{BuiltImagesAreHeld}
 use Rattle.command.specs.Due.{lines_in}
 use Rattle.command_due.specs.Source.{IsTimelyText, Style, report_of}
-use Rattle.command_due.specs.CommandsDue.{IsCompileDue, IsGoDue, IsImageFile, IsMigrateDue, IsRefused, IsReportDue, IsRunDue, IsScriptFault, Outcome, bad_script, compile_refused, compiled, done, faulty, go_bad_script, go_refused, late, log, migrated, ran, report_refused, report_timely, run_bad_script, stored, told, went}
+use Rattle.command_due.specs.CommandsDue.{IsCompileDue, IsGoDue, IsMigrateDue, IsRefused, IsReportDue, IsRunDue, IsScriptFault, Outcome, bad_script, compile_refused, compiled, done, faulty, go_bad_script, go_refused, late, log, migrated, ran, report_refused, report_timely, run_bad_script, stored, told, went}
 use Rattle.command_due.specs.AsmDue.{keeps}
 use Rattle.command_due.specs.ReplayDue.{IsReplayDue, run_line}
 use Rattle.command_due.specs.Runs.{BuiltImagesAreFaithful, IsAccepted}
@@ -21,7 +20,7 @@ use Rattle.command_due_law.proofs.DueOnceScripts.{text_once}
 use Rattle.replay_law.specs.Once.{ReplayIsOne}
 use Rattle.replay_law.specs.ReplayLaws.{LogsOfAcceptedProgramsAreRuns, LogsOfRunsAreLogs, run_events}
 use Rattle.calls_law.specs.Due.{Goes, IsOnly, gone}
-use Rattle.calls_law.specs.Accepted.{CompileIsGo, CompileThenMigrateKeeps, CompileThenRunPutsTheFault, CompileThenRunPutsTheLog, GoIsCheckAndLog, GoThenMigrateKeeps, GoThenReplayCounts, GoThenRunPutsTheLog, IsGone, compiles, most_overhead}
+use Rattle.calls_law.specs.Accepted.{CompileIsGo, CompileThenMigrateKeeps, CompileThenRunPutsTheFault, CompileThenRunPutsTheLog, GoIsCheckAndLog, GoThenMigrateKeeps, GoThenReplayCounts, GoThenRunPutsTheLog, compiles, most_overhead}
 use Rattle.calls_law.proofs.Counted.{lines_are_events}
 use Rattle.calls_law.proofs.Outcomes.{image_once}
 
@@ -179,6 +178,7 @@ compile_then_fault once law one over program script report image fault low compi
   where
     b : Built over program image
     b = built over program report image compiling
+
     by : IsGoDue over (Some program) (Some script) (bad_script fault) → IsOnly (IsRunDue (Some image) (Some script)) (bad_script fault)
     by (go_refused text held refused) = absurd (refused_five report_text over text fault refused)
     by (go_bad_script text other n bad held timely there is same) =

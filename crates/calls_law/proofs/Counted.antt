@@ -1,13 +1,12 @@
 -- A log has a line for each event.
-use Rattle.std.proofs.Common.{◌≡◌, ◌+◌, ◌++◌, ◌∙◌, ℕ, suc, List, [], ◌∷◌, length, refl, sym, ap, arith, append_assoc}
+use Rattle.std.proofs.Common.{◌≡◌, ◌+◌, ◌++◌, ◌∙◌, ℕ, suc, List, [], ◌∷◌, length, refl, ap, arith}
 use Rattle.std.specs.Prelude.{All, cond, nat_eq}
-use Rattle.std.proofs.lemmas.List.{append-nil}
 use Rattle.std.proofs.lemmas.List.Sums.{sum_by-cons}
 use Rattle.std.proofs.lemmas.List.Elements.{All-head, All-tail}
 use Rattle.base.specs.declared.event.Event.{Event}
 use Rattle.text_fields.specs.Fields.{Lacks}
 use Rattle.image.specs.declared.names.ImageNames.{ImageNames}
-use Rattle.event_log.specs.Line.{line_of, log_of}
+use Rattle.event_log.specs.Line.{log_of}
 use Rattle.event_log.specs.Logs.{IsLog, IsTold}
 use Rattle.event_log.specs.Parts.{spelled}
 use Rattle.event_log.proofs.Reading.{line_then, spelled_feed}

@@ -13,8 +13,8 @@ use Rattle.image_stored_law.proofs.Held.{ranged}
 use Rattle.image_stored_law.proofs.Versions.{fits_again}
 use Rattle.asm_format.specs.Text.{text_of}
 use Rattle.assembler.specs.Faults.{longest_text}
-use Rattle.valid_image.specs.Valid.{IsValid, Shown, fault_of}
-use Rattle.command_due.specs.CommandsDue.{IsImageFile, IsMigrateDue, Outcome, image_fault_line, invalid, migrate_refused, migrated, misread, stored, told, valid_fault_line}
+use Rattle.valid_image.specs.Valid.{IsValid, fault_of}
+use Rattle.command_due.specs.CommandsDue.{IsMigrateDue, Outcome, image_fault_line, invalid, migrate_refused, migrated, misread, stored, told, valid_fault_line}
 use Rattle.command_due.specs.Texts.{IsTextOf}
 use Rattle.command_due.specs.AsmDue.{IsAsmDue, IsDisDue, asm_faulty, asm_invalid, assembled, dis_misread, disassembled, keeps, text_fault_line}
 use Rattle.asm_law.specs.AsmLaws.{ImagesToldAreHeld}

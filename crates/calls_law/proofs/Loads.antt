@@ -1,19 +1,15 @@
 -- `go` on what `make` has stored.
-use Rattle.std.proofs.Common.{◌≡◌, ◌≢◌, ◌+◌, ◌*◌, ◌∙◌, ℕ, true, List, Some, length, refl, sym, ap}
-use Rattle.std.specs.Prelude.{◌/◌}
-use Rattle.outside.specs.Outside.{Outside}
+use Rattle.std.proofs.Common.{◌∙◌, ℕ, Some, length, refl, ap}
 use Rattle.sched_table.specs.Report.{report_text}
-use Rattle.command_words.specs.Calls.{Load}
 use Rattle.load.specs.Program.{program_text}
 use Rattle.load.specs.Script.{script_text}
 use Rattle.load.specs.Summary.{mark_of, summary}
 use Rattle.command_due.specs.Source.{report_of}
 use Rattle.command_due.specs.CommandsDue.{IsGoDue, log, report_timely, stored, went}
 use Rattle.command_due_law.specs.DueOnce.{GoIsOne}
-use Rattle.command.specs.Due.{IsSummary, lines_in}
-use Rattle.command.specs.Made.{Made}
+use Rattle.command.specs.Due.{lines_in}
 use Rattle.calls_law.specs.Due.{gone}
-use Rattle.calls_law.specs.Loads.{GoesAsPut, GoesAsTold, LoadsGoAsTold, MakeThenGoIsAsTold}
+use Rattle.calls_law.specs.Loads.{LoadsGoAsTold, MakeThenGoIsAsTold}
 
 pub loads_go : GoIsOne → LoadsGoAsTold
 loads_go one key count line s =

@@ -1,5 +1,5 @@
 -- Calls on the text that `print` has put.
-use Rattle.std.proofs.Common.{◌≡◌, ◌≢◌, ◌≤◌, ◌∙◌, ◌⊎◌, ℕ, List, length, inl, inr, refl, sym, subst, ap, arith}
+use Rattle.std.proofs.Common.{◌≡◌, ◌≢◌, ◌≤◌, ◌∙◌, ◌⊎◌, ℕ, List, length, inl, inr, sym, subst, ap, arith}
 use Rattle.syntax.specs.declared.token.Token.{Token}
 use Rattle.syntax.specs.Lex.{HasOneList, HasTokensOrFault}
 use Rattle.syntax.specs.Tokens.{longest_text, tokens}
@@ -19,10 +19,9 @@ use Rattle.built_image_law.specs.Limits.{StacksAreInLimits}
 use Rattle.built_image.specs.Built.{IsBuilt, IsLate}
 use Rattle.built_image.specs.Shown.{IsTableOf}
 use Rattle.command_due.specs.Source.{IsLateText, IsTextFault, IsTimelyText, IsWritten, Style, late_report, of_program, of_size}
-use Rattle.command_due.specs.CommandsDue.{IsPrintDue, IsRefused, IsReportDue, Outcome, faulty, late, print_faulty, printed, report_refused, report_timely, told}
+use Rattle.command_due.specs.CommandsDue.{IsPrintDue, IsReportDue, Outcome, faulty, late, print_faulty, printed, report_refused, report_timely, told}
 use Rattle.command_due_law.specs.DueOnce.{ReportsAreOne, WrittenOnce}
-use Rattle.calls_law.specs.Due.{IsOnly}
-use Rattle.calls_law.specs.Printed.{HasSameTree, PrintThenPrintKeeps, PrintThenReportIsTheSame, PrintedTextsBreakRulesOnly, PrintedTextsHaveTheTree, Prints}
+use Rattle.calls_law.specs.Printed.{PrintThenPrintKeeps, PrintThenReportIsTheSame, PrintedTextsBreakRulesOnly, PrintedTextsHaveTheTree, Prints}
 use Rattle.calls_law.proofs.Sizes.{sizes_kept}
 
 -- the laws of the canonical text

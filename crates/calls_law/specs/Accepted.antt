@@ -1,6 +1,5 @@
 -- What is due of calls on what `go` and `compile` have put and stored.
 use Rattle.std.specs.Prelude.{◌≡◌, ◌≤◌, ℕ, List, Some, length}
-use Rattle.sched_table.specs.Report.{report_text}
 use Rattle.event_log.specs.Logs.{longest_text}
 use Rattle.script.specs.declared.fault.ScriptFault.{ScriptFault}
 use Rattle.command_due.specs.CommandsDue.{IsCompileDue, IsGoDue, IsMigrateDue, IsRunDue, Outcome, bad_script, told}

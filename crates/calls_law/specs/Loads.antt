@@ -1,5 +1,5 @@
 -- What is due of `go` on what `make` has stored.
-use Rattle.std.specs.Prelude.{◌≡◌, ◌≢◌, ◌+◌, ◌*◌, ◌/◌, ℕ, true, List, Option, Some, length}
+use Rattle.std.specs.Prelude.{◌≡◌, ◌≢◌, ◌+◌, ◌*◌, ◌/◌, ℕ, true, List, Some, length}
 use Rattle.outside.specs.Outside.{Outside, Appends}
 use Rattle.command_words.specs.Calls.{Load}
 use Rattle.load.specs.Program.{program_text}

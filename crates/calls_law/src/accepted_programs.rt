@@ -8,7 +8,9 @@
 ghost use Rattle.calls_law.specs.Accepted.{CompileIsGo, CompileThenMigrateKeeps, CompileThenRunPutsTheFault, CompileThenRunPutsTheLog, GoIsCheckAndLog, GoThenMigrateKeeps, GoThenReplayCounts, GoThenRunPutsTheLog};
 
 use built_stored_law::stored_programs::built_images_are_held;
-use command_due_law::one_answer::{compile_is_one, migrate_is_one, run_is_one, timely_texts_have_one_image};
+use command_due_law::one_answer::{
+    compile_is_one, migrate_is_one, run_is_one, timely_texts_have_one_image,
+};
 use compiler_correct::faithful_images::built_images_are_faithful;
 use replay_law::accepted_logs::{logs_of_accepted_programs_are_runs, logs_of_runs_are_logs};
 use replay_law::one_judgement::replay_is_one;

@@ -1,8 +1,8 @@
 //! Laws: what is due of calls on the text that `print` has put.
 //!
-//! `specs/Printed.antt` says so of a canonical text that is no longer than a text may be. Its tree is
-//! that of the first text, apart from places, so it has no fault but of rules; that the rules hold of
-//! it too is no part of these laws.
+//! `specs/Printed.antt` says so of a canonical text that is no longer than a text may be. Its tree
+//! is that of the first text, apart from places, so it has no fault but of rules; that the rules
+//! hold of it too is no part of these laws.
 //! Nothing here can run.
 //!
 //! The laws.

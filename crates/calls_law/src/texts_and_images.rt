@@ -1,7 +1,7 @@
 //! Laws: the text of an image and its bytes lead to each other.
 //!
-//! `specs/Images.antt` says what is due of `asm` after `dis`, of `dis` after `asm`, and of `migrate`.
-//! Nothing here can run.
+//! `specs/Images.antt` says what is due of `asm` behind `dis`, of `dis` behind `asm`, and of
+//! `migrate`. Nothing here can run.
 //!
 //! The laws.
 
