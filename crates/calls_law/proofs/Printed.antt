@@ -1,5 +1,5 @@
 -- Calls on the text that `print` has put.
-use Rattle.std.proofs.Common.{◌≡◌, ◌≢◌, ◌≤◌, ◌∙◌, ◌⊎◌, ℕ, List, length, inl, inr, sym, subst, ap, arith}
+use Rattle.std.proofs.Common.{◌≡◌, ◌≢◌, ◌≤◌, ◌∙◌, ◌⊎◌, ℕ, List, Option, Some, length, inl, inr, refl, sym, subst, ap, arith}
 use Rattle.syntax.specs.declared.token.Token.{Token}
 use Rattle.syntax.specs.Lex.{HasOneList, HasTokensOrFault}
 use Rattle.syntax.specs.Tokens.{longest_text, tokens}
@@ -19,9 +19,11 @@ use Rattle.built_image_law.specs.Limits.{StacksAreInLimits}
 use Rattle.built_image.specs.Built.{IsBuilt, IsLate}
 use Rattle.built_image.specs.Shown.{IsTableOf}
 use Rattle.command_due.specs.Source.{IsLateText, IsTextFault, IsTimelyText, IsWritten, Style, late_report, of_program, of_size}
-use Rattle.command_due.specs.CommandsDue.{IsPrintDue, IsReportDue, Outcome, faulty, late, print_faulty, printed, report_refused, report_timely, told}
-use Rattle.command_due_law.specs.DueOnce.{ReportsAreOne, WrittenOnce}
-use Rattle.calls_law.specs.Printed.{PrintThenPrintKeeps, PrintThenReportIsTheSame, PrintedTextsBreakRulesOnly, PrintedTextsHaveTheTree, Prints}
+use Rattle.command_due.specs.CommandsDue.{IsGoDue, IsPrintDue, IsRefused, IsReportDue, Outcome, faulty, go_bad_script, go_refused, late, print_faulty, printed, report_refused, report_timely, told, went}
+use Rattle.command_due_law.specs.DueOnce.{GoIsOne, ReportsAreOne, WrittenOnce}
+use Rattle.command_due_law.proofs.DueOnceScripts.{text_once}
+use Rattle.sched_table.specs.Report.{report_text}
+use Rattle.calls_law.specs.Printed.{PrintThenGoIsTheSame, PrintThenPrintKeeps, PrintThenReportIsTheSame, PrintedTextsBreakRulesOnly, PrintedTextsHaveTheTree, Prints}
 use Rattle.calls_law.proofs.Sizes.{sizes_kept}
 
 -- the laws of the canonical text
@@ -85,10 +87,25 @@ module _ (one : HasOneTree) (trees : PrintedTextsHaveTheTree) (text other : List
         shown = l.shown ∙ ap (λ (x : plain_of.Program). late_report show x l.table) same;
       }
 
+  refusals : (show : Style) (over : ℕ) (outcome : Outcome) → outcome.status ≢ 2 → IsRefused show over other outcome → IsRefused show over text outcome
+  refusals show over outcome sound (faulty number place fault same) = absurd (sound (ap (λ (x : Outcome). x.status) same))
+  refusals show over outcome sound (late report l same) = late report (late_too show over report l) same
+
   reports : (show : Style) (over : ℕ) (outcome : Outcome) → outcome.status ≢ 2 → IsReportDue show over other outcome → IsReportDue show over text outcome
-  reports show over outcome sound (report_refused (faulty number place fault same)) = absurd (sound (ap (λ (x : Outcome). x.status) same))
-  reports show over outcome sound (report_refused (late report l same)) = report_refused (late report (late_too show over report l) same)
+  reports show over outcome sound (report_refused refused) = report_refused (refusals show over outcome sound refused)
   reports show over outcome sound (report_timely n t same) = report_timely n (timely_too over n t) same
+
+  -- what is held of the other text
+  held_is : (t : List ℕ) → Some other ≡ Some t → t ≡ other
+  held_is t held = text_once (Some other) t other held refl
+
+  goes : (over : ℕ) (script : Option (List ℕ)) (outcome : Outcome) → outcome.status ≢ 2 → IsGoDue over (Some other) script outcome → IsGoDue over (Some text) script outcome
+  goes over script outcome sound (go_refused t held refused) =
+      go_refused text refl (refusals report_text over outcome sound (subst (λ (x : List ℕ). IsRefused report_text over x outcome) (held_is t held) refused))
+  goes over script outcome sound (go_bad_script t s n fault held timely there bad same) =
+      go_bad_script text s n fault refl (timely_too over n (subst (λ (x : List ℕ). IsTimelyText over x n) (held_is t held) timely)) there bad same
+  goes over script outcome sound (went t s n lines end held timely there says same) =
+      went text s n lines end refl (timely_too over n (subst (λ (x : List ℕ). IsTimelyText over x n) (held_is t held) timely)) there says same
 
   prints_again : (outcome : Outcome) → outcome.status ≢ 2 → IsPrintDue other outcome → outcome ≡ told 0 other
   prints_again outcome sound (print_faulty number place fault same) = absurd (sound (ap (λ (x : Outcome). x.status) same))
@@ -111,6 +128,11 @@ pub report_is_same : HasOneTree → PrintedTextsHaveTheTree → ReportsAreOne �
 report_is_same one trees only show over text other outcome p due sound =
     let own : IsReportDue show over text outcome = reports one trees text other p show over outcome sound due in
     record { is = own; only = λ another also. only show over text another outcome also own }
+
+pub go_is_same : HasOneTree → PrintedTextsHaveTheTree → GoIsOne → PrintThenGoIsTheSame
+go_is_same one trees only over text other script outcome p due sound =
+    let own : IsGoDue over (Some text) script outcome = goes one trees text other p over script outcome sound due in
+    record { is = own; only = λ another also. only over (Some text) script another outcome also own }
 
 pub print_again : HasOneTree → PrintedTextsHaveTheTree → PrintThenPrintKeeps
 print_again one trees text other outcome p due sound = prints_again one trees text other p outcome sound due

@@ -1,5 +1,5 @@
 -- What is due of calls on the text that `print` has put.
-use Rattle.std.specs.Prelude.{◌≡◌, ◌≢◌, ◌≤◌, ◌⊎◌, ℕ, List, length}
+use Rattle.std.specs.Prelude.{◌≡◌, ◌≢◌, ◌≤◌, ◌⊎◌, ℕ, List, Option, Some, length}
 use Rattle.syntax.specs.Tokens.{longest_text}
 use Rattle.syntax_tree.specs.declared.place.Place.{Place}
 use Rattle.syntax_tree.specs.Placed.{Prog}
@@ -7,7 +7,7 @@ use Rattle.syntax_tree.specs.Bare.{bare}
 use Rattle.front_end.specs.Source.{IsTreeOf}
 use Rattle.front_end.specs.Program.{IsMisnamed, IsMisruled}
 use Rattle.command_due.specs.Source.{IsTextFault, IsWritten, Style}
-use Rattle.command_due.specs.CommandsDue.{IsPrintDue, IsReportDue, Outcome, told}
+use Rattle.command_due.specs.CommandsDue.{IsGoDue, IsPrintDue, IsReportDue, Outcome, told}
 use Rattle.calls_law.specs.Due.{IsOnly}
 
 -- `print` of the text puts another, which is no longer than a text may be
@@ -37,6 +37,12 @@ abbrev pub PrintThenReportIsTheSame : Type 0
 PrintThenReportIsTheSame =
     (show : Style) (over : ℕ) (text other : List ℕ) (outcome : Outcome) → Prints text other → IsReportDue show over other outcome → outcome.status ≢ 2
     → IsOnly (IsReportDue show over text) outcome
+
+-- The law: so is what is due of `go`, over any script: the same report, log and image.
+abbrev pub PrintThenGoIsTheSame : Type 0
+PrintThenGoIsTheSame =
+    (over : ℕ) (text other : List ℕ) (script : Option (List ℕ)) (outcome : Outcome) → Prints text other → IsGoDue over (Some other) script outcome
+    → outcome.status ≢ 2 → IsOnly (IsGoDue over (Some text) script) outcome
 
 -- The law: and `print` puts it again.
 abbrev pub PrintThenPrintKeeps : Type 0

@@ -7,10 +7,10 @@
 //!
 //! The laws.
 
-ghost use Rattle.calls_law.specs.Printed.{PrintThenPrintKeeps, PrintThenReportIsTheSame, PrintedTextsBreakRulesOnly, PrintedTextsHaveTheTree};
+ghost use Rattle.calls_law.specs.Printed.{PrintThenGoIsTheSame, PrintThenPrintKeeps, PrintThenReportIsTheSame, PrintedTextsBreakRulesOnly, PrintedTextsHaveTheTree};
 
 use built_image_law::number_limits::stacks_are_in_limits;
-use command_due_law::one_answer::{reports_are_one, written_once};
+use command_due_law::one_answer::{go_is_one, reports_are_one, written_once};
 use front_end::one_tree;
 use syntax::{one_fault, one_list};
 use syntax_printer::{reads_back, tokens_are_spelled};
@@ -43,6 +43,15 @@ pub fn print_then_report_is_the_same()
     one_tree();
     printed_texts_have_the_tree();
     reports_are_one();
+}
+
+/// So is what is due of `go`, over any script: the same report, the same log and the same image.
+pub fn print_then_go_is_the_same()
+    ensures { PrintThenGoIsTheSame }
+{
+    one_tree();
+    printed_texts_have_the_tree();
+    go_is_one();
 }
 
 /// Where it has no fault, `print` puts the same bytes again.
