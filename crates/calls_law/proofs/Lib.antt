@@ -1,1 +1,8 @@
 pub mod Fitting
+pub mod Outcomes
+pub mod Images
+pub mod Counted
+pub mod Accepted
+pub mod Loads
+pub mod Sizes
+pub mod Printed

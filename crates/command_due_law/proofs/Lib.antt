@@ -1,6 +1,6 @@
 mod DueOnceFirsts
 pub mod Texts
-mod DueOnceImages
+pub mod DueOnceImages
 pub mod DueOnceScripts
 mod Commands
 mod Spares

@@ -27,7 +27,7 @@ held short law raw whole ranged valid =
     }
 
 -- what was read has its fields in their ranges
-ranged : (bytes : List ℕ) (version : Version) (ps : f.Parts) → AreBytes bytes → f.read_file bytes ≡ Ok ((version, ps), []) → f.image_format.is (version, ps) ≡ true
+pub ranged : (bytes : List ℕ) (version : Version) (ps : f.Parts) → AreBytes bytes → f.read_file bytes ≡ Ok ((version, ps), []) → f.image_format.is (version, ps) ≡ true
 unfolding f.read_file
 ranged bytes version ps are is = by (nat_lt f.longest (length bytes)) is where
   by : (b : Bool) → (if b then Err (fault 9 (length bytes - f.longest)) else f.whole_read bytes) ≡ Ok ((version, ps), []) → f.image_format.is (version, ps) ≡ true

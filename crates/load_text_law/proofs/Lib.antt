@@ -13,6 +13,6 @@ pub mod Processes
 mod Joined
 mod Reach
 pub mod Numbers
-mod Plain
+pub mod Plain
 pub mod Lists
 pub mod Lengths
