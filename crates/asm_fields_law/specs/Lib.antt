@@ -1,0 +1,4 @@
+pub mod Notes
+pub mod Layout
+pub mod Places
+pub mod LinesLaw

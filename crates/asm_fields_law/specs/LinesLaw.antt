@@ -1,0 +1,32 @@
+-- The laws: which line of a text has which fault.
+use Rattle.std.specs.Prelude.{◌≡◌, ◌≤◌, ◌<◌, ◌↔◌, ◌⊎◌, ℕ, List, length}
+use Rattle.assembler.specs.Faults.{IsFaultOf, longest_text}
+use Rattle.assembler.specs.Sections.{line_at, owners_in}
+use Rattle.asm_fields_law.specs.Layout.{Layout, text}
+use Rattle.asm_fields_law.specs.Places.{Behind, LacksForm, IsWrongLine}
+
+-- the line behind some right lines, where such a fault stands
+pub record StandsAt (Fault : Layout → List ℕ → Type 0) (bytes : List ℕ) (line : ℕ) : Type 0 where
+  pub few : length bytes ≤ longest_text
+  pub l : Layout
+  pub rest : List ℕ
+  pub behind : Behind (text (owners_in bytes)) bytes l rest
+  pub is : Fault l rest
+  pub place : line ≡ line_at bytes (length rest)
+
+-- A1 exactly at the first line that is not right, where it has no form of its place
+abbrev pub LacksOfFormAreA1 : Type 0
+LacksOfFormAreA1 = (bytes : List ℕ) (line : ℕ) → IsFaultOf bytes 1 line ↔ StandsAt LacksForm bytes line
+
+-- A2 exactly at the first line that is not right, where it has its form and something of it is
+-- wrong, for which its image would have I4, I5 or I8
+abbrev pub WrongLinesAreA2 : Type 0
+WrongLinesAreA2 = (bytes : List ℕ) (line : ℕ) → IsFaultOf bytes 2 line ↔ StandsAt IsWrongLine bytes line
+
+-- A3 exactly where the text is too long, on line 0
+abbrev pub LongTextsAreA3 : Type 0
+LongTextsAreA3 = (bytes : List ℕ) (line : ℕ) → IsFaultOf bytes 3 line ↔ ((longest_text < length bytes) × (line ≡ 0))
+
+-- there are no other faults
+abbrev pub NoOtherFaults : Type 0
+NoOtherFaults = (bytes : List ℕ) (number line : ℕ) → IsFaultOf bytes number line → (number ≡ 1) ⊎ ((number ≡ 2) ⊎ (number ≡ 3))
