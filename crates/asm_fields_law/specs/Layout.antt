@@ -41,7 +41,7 @@ kept low high None = 0
 kept low high (Some n) = if nat_le low n && nat_le n high then n else 0
 
 -- a number behind these bytes
-abbrev pub field : List ℕ → (low high : ℕ) → (ℕ → Layout) → Layout
+unfoldable pub field : List ℕ → (low high : ℕ) → (ℕ → Layout) → Layout
 field label low high next = word label (numeral (λ n. note (ranged low high n) (next (kept low high n))))
 
 abbrev pub fresh_name : (taken : List (List ℕ)) → (List ℕ → Layout) → Layout
