@@ -1,3 +1,4 @@
 pub mod Table
 pub mod Walks
 pub mod Reading
+pub mod Refusing
