@@ -2,3 +2,5 @@ pub mod Table
 pub mod Walks
 pub mod Reading
 pub mod Refusing
+pub mod Lines
+pub mod Trees
