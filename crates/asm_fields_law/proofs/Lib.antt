@@ -4,3 +4,4 @@ pub mod Reading
 pub mod Refusing
 pub mod Lines
 pub mod Trees
+pub mod Processes

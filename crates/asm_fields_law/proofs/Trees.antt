@@ -63,7 +63,7 @@ module _ (one : Front → Read Seg) (m : Layout → Layout) (skips : Skips one m
   some_segments (suc n) k s =
       two_choices _ _ _ _ s _ _ _ refl (pass _ m (l.segments m n k) _ _ skips (λ head. pass _ (l.segments m n) k _ _ (some_segments n) (λ rest s. refl)) s)
 
-so_many : (m : ℕ → Layout) (s : Front) → told (left m) s ≡ told (m (length s.rest)) s
+pub so_many : (m : ℕ → Layout) (s : Front) → told (left m) s ≡ told (m (length s.rest)) s
 unfolding told
 so_many m s = refl
 
