@@ -5,3 +5,7 @@ pub mod Refusing
 pub mod Lines
 pub mod Trees
 pub mod Processes
+pub mod Ones
+pub mod Rows
+pub mod Whole
+pub mod Laws

@@ -23,7 +23,7 @@ use Rattle.asm_fields_law.proofs.Trees.{skip_field, a_cost, a_tree_line, so_many
 abbrev pub event_in : (kind event : ℕ) → List ℕ
 event_in kind event = if kind == 0 then [] else event ∷ []
 
-abbrev released : ℕ × (ℕ × (ℕ × (ℕ × ℕ))) → List ℕ
+abbrev pub released : ℕ × (ℕ × (ℕ × (ℕ × ℕ))) → List ℕ
 released x = event_in x.0 x.1.1.1.1
 
 a_periodic : (k : List ℕ → Layout) (s : Front)
@@ -95,7 +95,7 @@ a_handler_tree monitors (x ∷ xs) k s = pass _ (l.tree_line monitors) k _ _ (a_
 
 -- ---- the process
 
-abbrev seen : (ℕ × (ℕ × (ℕ × (ℕ × ℕ)))) × ((ℕ × (ℕ × (ℕ × (ℕ × (ℕ × ℕ))))) × ((ℕ × (ℕ × (ℕ × ℕ))) × (ℕ × List ℕ))) → List ℕ × List ℕ
+abbrev pub seen : (ℕ × (ℕ × (ℕ × (ℕ × ℕ)))) × ((ℕ × (ℕ × (ℕ × (ℕ × (ℕ × ℕ))))) × ((ℕ × (ℕ × (ℕ × ℕ))) × (ℕ × List ℕ))) → List ℕ × List ℕ
 seen x = (released x.0, x.1.1.1.1)
 
 some_fields : (events : ℕ) (used : List ℕ) → Reads (p.fields_read events used) seen (λ k. l.release events used (λ e. l.time (l.room (l.handler (λ ns. ends (k (e, ns)))))))

@@ -202,17 +202,15 @@ unfoldable pub rows : {B : Type 0} → (start : List ℕ) → (one : List B → 
 rows start one line earlier zero next = choice start (note too_many (line earlier)) (next earlier)
 rows start one line earlier (suc n) next = choice start (one earlier (λ x. rows start one line (earlier ++ x ∷ []) n next)) (next earlier)
 
-abbrev pub last : Layout
-last = word (codes "end") (ends finish)
-
 -- instructions up to the last line
-unfoldable pub instructions : (most : ℕ) → Layout
-instructions zero = choice (codes "end\n") last (note too_many (instruction done))
-instructions (suc n) = choice (codes "end\n") last (instruction (instructions n))
+unfoldable pub instructions : (most : ℕ) → Layout → Layout
+instructions zero next = choice (codes "end\n") next (note too_many (instruction done))
+instructions (suc n) next = choice (codes "end\n") next (instruction (instructions n next))
 
-abbrev pub code : (is_complete : Bool) → Layout
-code true = instructions 65535
-code false = choice (codes "end\n") (note lacks_process (word (codes "end") (ends done))) (note lacks_process (instruction done))
+-- the line behind the processes is wrong where they lack one
+abbrev pub code : (is_complete : Bool) → Layout → Layout
+code true next = instructions 65535 next
+code false next = choice (codes "end\n") (note lacks_process done) (note lacks_process (instruction done))
 
 -- ---- all
 
@@ -230,8 +228,8 @@ abbrev pub routines : (owners monitors : ℕ) → Layout → Layout
 routines owners monitors next =
     rows {B = ℕ} (codes "routine ") (λ earlier k. routine owners monitors (k 0)) (λ earlier. routine_line owners monitors done) [] 512 (λ all. next)
 
-abbrev pub work : (owners monitors events : ℕ) → (taken : List (List ℕ)) → Layout
-work owners monitors events taken = routines owners monitors (processes monitors events taken (λ all. code (is_complete events all)))
+abbrev pub work : (owners monitors events : ℕ) → (taken : List (List ℕ)) → Layout → Layout
+work owners monitors events taken next = routines owners monitors (processes monitors events taken (λ all. code (is_complete events all) next))
 
 abbrev pub conditions : (taken : List (List ℕ)) → (monitors : ℕ) → (List ConditionName → Layout) → Layout
 conditions taken monitors next = rows (codes "condition ") (condition taken monitors) (λ earlier. condition taken monitors earlier (λ x. done)) [] 256 next
@@ -246,11 +244,18 @@ abbrev pub devices : (taken : List (List ℕ)) → (List (List ℕ) → Layout) 
 devices taken next = rows (codes "device ") (λ earlier. device (taken ++ earlier)) (λ earlier. device (taken ++ earlier) (λ x. done)) [] 64 next
 
 -- the monitors, and all that follows
-abbrev pub guarded : (owners events : ℕ) → (taken : List (List ℕ)) → Layout
-guarded owners events taken =
-    monitors taken (λ ms. conditions (taken ++ ms) (length ms) (λ all. work owners (length ms) events (taken ++ ms)))
+abbrev pub guarded : (owners events : ℕ) → (taken : List (List ℕ)) → Layout → Layout
+guarded owners events taken next =
+    monitors taken (λ ms. conditions (taken ++ ms) (length ms) (λ all. work owners (length ms) events (taken ++ ms) next))
+
+-- the devices, the events, and all that follows
+abbrev pub named : (owners : ℕ) → (program : List ℕ) → Layout → Layout
+named owners program next =
+    devices (program ∷ []) (λ ds. events ((program ∷ []) ++ ds) (λ es. guarded owners (length es) (((program ∷ []) ++ ds) ++ es) next))
+
+abbrev pub last : Layout
+last = word (codes "end") (ends finish)
 
 -- the text of an image, of which routines may name so many processes as owners
 abbrev pub text : (owners : ℕ) → Layout
-text owners =
-    head (λ program. devices (program ∷ []) (λ ds. events ((program ∷ []) ++ ds) (λ es. guarded owners (length es) (((program ∷ []) ++ ds) ++ es))))
+text owners = head (λ program. named owners program last)

@@ -1,0 +1,100 @@
+-- The laws of the lines of a text.
+use Rattle.std.proofs.Common.{◌≡◌, ◌≤◌, ◌<◌, ◌⊎◌, inl, inr, ℕ, List, length, Ok, Err, Result, Option, Some, None, arith, refl, ap, sym, subst, ◌∙◌}
+use Rattle.text_fields.specs.declared.fault.FieldFault.{FieldFault}
+use Rattle.text_fields.specs.Front.{fault, no_form, out_of_range, line_start}
+use Rattle.image_reader.specs.File.{Parts}
+use Rattle.assembler.specs.Faults.{IsFaultOf, HasFault, IsLong, longest_text}
+use Rattle.assembler.specs.Sections.{line_at, owners_in, text_read}
+use Rattle.asm_fields_law.specs.Layout.{Layout, text}
+use Rattle.asm_fields_law.specs.Places.{Behind, LacksForm, IsWrongLine}
+use Rattle.asm_fields_law.specs.LinesLaw.{StandsAt, LacksOfFormAreA1, WrongLinesAreA2, LongTextsAreA3, NoOtherFaults}
+use Rattle.asm_fields_law.proofs.Walks.{walk, IsFaulty, Found, find, stands_walk}
+use Rattle.asm_fields_law.proofs.Reading.{told}
+use Rattle.asm_fields_law.proofs.Whole.{fault_of, a_text}
+
+number_of : {d e : FieldFault} → d ≡ e → d.number ≡ e.number
+number_of same = ap (λ (x : FieldFault). x.number) same
+
+left_of : {d e : FieldFault} → d ≡ e → d.left ≡ e.left
+left_of same = ap (λ (x : FieldFault). x.left) same
+
+-- ---- what is told, by the layout
+
+walks : (bytes : List ℕ) → walk (text (owners_in bytes)) (line_start bytes) ≡ fault_of (text_read bytes)
+unfolding told
+walks bytes = a_text bytes
+
+read_found : (bytes : List ℕ) (e : FieldFault) → text_read bytes ≡ Err e → Found (text (owners_in bytes)) bytes e
+read_found bytes e is = find (text (owners_in bytes)) bytes e (walks bytes ∙ ap (λ (r : Result Parts FieldFault). fault_of r) is)
+
+stands_read : (bytes : List ℕ) (l : Layout) (rest : List ℕ) (e : FieldFault) → Behind (text (owners_in bytes)) bytes l rest → IsFaulty l rest e → text_read bytes ≡ Err e
+stands_read bytes l rest e behind faulty = by (text_read bytes) refl (sym (walks bytes) ∙ stands_walk (text (owners_in bytes)) bytes l rest e behind faulty) where
+  by : (r : Result Parts FieldFault) → text_read bytes ≡ r → fault_of r ≡ Some e → text_read bytes ≡ Err e
+  by (Ok x) was is = absurd (let h : None ≡ Some e = is in cc)
+  by (Err d) was is = was ∙ ap (λ (x : FieldFault). Err x) (cc)
+
+has_fault : (bytes : List ℕ) (number line : ℕ) → (number ≡ 3 → ⊥) → IsFaultOf bytes number line → HasFault bytes number line
+has_fault bytes number line other (inl long) = absurd (other long.is)
+has_fault bytes number line other (inr h) = h
+
+-- ---- A1 and A2
+
+at_line : {m n : ℕ} (bytes : List ℕ) (line : ℕ) → line ≡ line_at bytes m → m ≡ n → line ≡ line_at bytes n
+at_line bytes line place same = place ∙ ap (line_at bytes) same
+
+module _ (bytes : List ℕ) (line : ℕ) where
+  lacking : (h : HasFault bytes 1 line) → Found (text (owners_in bytes)) bytes (fault 1 h.left) → StandsAt LacksForm bytes line
+  lacking h f = by f.faulty where
+    by : IsFaulty f.at f.rest (fault 1 h.left) → StandsAt LacksForm bytes line
+    by (inl is) = record { few = h.short; l = f.at; rest = f.rest; behind = f.behind; is = is.0; place = at_line bytes line h.place (sym (left_of is.1)) }
+    by (inr is) = absurd (let two = number_of is.1 in omega (arith, two))
+
+  wrong : (h : HasFault bytes 2 line) → Found (text (owners_in bytes)) bytes (fault 2 h.left) → StandsAt IsWrongLine bytes line
+  wrong h f = by f.faulty where
+    by : IsFaulty f.at f.rest (fault 2 h.left) → StandsAt IsWrongLine bytes line
+    by (inl is) = absurd (let one = number_of is.1 in omega (arith, one))
+    by (inr is) = record { few = h.short; l = f.at; rest = f.rest; behind = f.behind; is = is.0; place = at_line bytes line h.place (sym (left_of is.1)) }
+
+pub lacks_of_form_are_a1 : LacksOfFormAreA1
+lacks_of_form_are_a1 bytes line = (there, back) where
+  there : IsFaultOf bytes 1 line → StandsAt LacksForm bytes line
+  there is =
+      let h = has_fault bytes 1 line (λ e. omega (arith, e)) is in
+      lacking bytes line h (read_found bytes (fault 1 h.left) h.is_read)
+
+  back : StandsAt LacksForm bytes line → IsFaultOf bytes 1 line
+  back s = inr (record { short = s.few; left = length s.rest; is_read = stands_read bytes s.l s.rest (fault 1 (length s.rest)) s.behind (inl (s.is, refl)); place = s.place })
+
+pub wrong_lines_are_a2 : WrongLinesAreA2
+wrong_lines_are_a2 bytes line = (there, back) where
+  there : IsFaultOf bytes 2 line → StandsAt IsWrongLine bytes line
+  there is =
+      let h = has_fault bytes 2 line (λ e. omega (arith, e)) is in
+      wrong bytes line h (read_found bytes (fault 2 h.left) h.is_read)
+
+  back : StandsAt IsWrongLine bytes line → IsFaultOf bytes 2 line
+  back s = inr (record { short = s.few; left = length s.rest; is_read = stands_read bytes s.l s.rest (fault 2 (length s.rest)) s.behind (inr (s.is, refl)); place = s.place })
+
+-- ---- A3, and no others
+
+number_is : (bytes : List ℕ) (number line : ℕ) → (h : HasFault bytes number line) → (number ≡ 1) ⊎ (number ≡ 2)
+number_is bytes number line h = by (read_found bytes (fault number h.left) h.is_read) where
+  of_faulty : (l : Layout) (rest : List ℕ) → IsFaulty l rest (fault number h.left) → (number ≡ 1) ⊎ (number ≡ 2)
+  of_faulty l rest (inl is) = inl (sym (number_of is.1))
+  of_faulty l rest (inr is) = inr (sym (number_of is.1))
+
+  by : Found (text (owners_in bytes)) bytes (fault number h.left) → (number ≡ 1) ⊎ (number ≡ 2)
+  by f = of_faulty f.at f.rest f.faulty
+
+pub long_texts_are_a3 : LongTextsAreA3
+long_texts_are_a3 bytes line = (there, back) where
+  there : IsFaultOf bytes 3 line → (longest_text < length bytes) × (line ≡ 0)
+  there (inl long) = (long.long, long.nowhere)
+  there (inr h) = elim (number_is bytes 3 line h) [ inl one ↦ absurd (omega (arith, one)) | inr two ↦ absurd (omega (arith, two)) ]
+
+  back : (longest_text < length bytes) × (line ≡ 0) → IsFaultOf bytes 3 line
+  back h = inl (record { long = h.0; is = refl; nowhere = h.1 })
+
+pub no_other_faults : NoOtherFaults
+no_other_faults bytes number line (inl long) = inr (inr long.is)
+no_other_faults bytes number line (inr h) = elim (number_is bytes number line h) [ inl one ↦ inl one | inr two ↦ inr (inl two) ]
