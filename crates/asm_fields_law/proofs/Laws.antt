@@ -1,13 +1,14 @@
 -- The laws of the lines of a text.
-use Rattle.std.proofs.Common.{◌≡◌, ◌≤◌, ◌<◌, ◌⊎◌, inl, inr, ℕ, List, length, Ok, Err, Result, Option, Some, None, arith, refl, ap, sym, subst, ◌∙◌}
+use Rattle.std.proofs.Common.{◌≡◌, ◌≤◌, ◌<◌, ◌⊎◌, inl, inr, ℕ, List, length, Ok, Err, Result, Option, Some, None, arith, refl, ap, sym, subst, ◌∙◌, true, false, Bool}
 use Rattle.text_fields.specs.declared.fault.FieldFault.{FieldFault}
 use Rattle.text_fields.specs.Front.{fault, no_form, out_of_range, line_start}
 use Rattle.image_reader.specs.File.{Parts}
 use Rattle.assembler.specs.Faults.{IsFaultOf, HasFault, IsLong, longest_text}
 use Rattle.assembler.specs.Sections.{line_at, owners_in, text_read}
-use Rattle.asm_fields_law.specs.Layout.{Layout, text}
-use Rattle.asm_fields_law.specs.Places.{Behind, LacksForm, IsWrongLine}
-use Rattle.asm_fields_law.specs.LinesLaw.{StandsAt, LacksOfFormAreA1, WrongLinesAreA2, LongTextsAreA3, NoOtherFaults}
+use Rattle.asm_fields_law.specs.Notes.{Note, ranged, operand, one_of, event, fresh, own_name, handled, too_many, lacks_process, Wrong, Holds, IsWrong}
+use Rattle.asm_fields_law.specs.Layout.{Layout, code, text}
+use Rattle.asm_fields_law.specs.Places.{Behind, IsRightLine, LacksForm, IsWrongLine, HasForm}
+use Rattle.asm_fields_law.specs.LinesLaw.{StandsAt, LacksOfFormAreA1, WrongLinesAreA2, LongTextsAreA3, NoOtherFaults, WrongNotesAreOfImages, NothingStandsForAProcess}
 use Rattle.asm_fields_law.proofs.Walks.{walk, IsFaulty, Found, find, stands_walk}
 use Rattle.asm_fields_law.proofs.Reading.{told}
 use Rattle.asm_fields_law.proofs.Whole.{fault_of, a_text}
@@ -98,3 +99,27 @@ long_texts_are_a3 bytes line = (there, back) where
 pub no_other_faults : NoOtherFaults
 no_other_faults bytes number line (inl long) = inr (inr long.is)
 no_other_faults bytes number line (inr h) = elim (number_is bytes number line h) [ inl one ↦ inl one | inr two ↦ inr (inl two) ]
+
+-- ---- what is wrong in a line
+
+pub wrong_notes_are_of_images : WrongNotesAreOfImages
+wrong_notes_are_of_images (ranged low high None) fault w = inl w
+wrong_notes_are_of_images (ranged low high (Some n)) fault w = inl w.0
+wrong_notes_are_of_images (operand None) fault w = inl w
+wrong_notes_are_of_images (operand (Some n)) fault w = inl w.0
+wrong_notes_are_of_images (one_of count n) fault w = inl w.0
+wrong_notes_are_of_images (event events used n) fault w = inl w.0
+wrong_notes_are_of_images (fresh taken name) fault (inl w) = inl w.0
+wrong_notes_are_of_images (fresh taken name) fault (inr w) = inr (inl w.0)
+wrong_notes_are_of_images (own_name earlier c) fault w = inr (inl w.0)
+wrong_notes_are_of_images (handled last n) fault w = inr (inr w.0)
+wrong_notes_are_of_images too_many fault w = inl w
+wrong_notes_are_of_images lacks_process fault w = inl w
+
+no_process : (A B : Type 0) → ((Holds lacks_process × A) ⊎ (IsWrong lacks_process × (true ≡ false) × B)) → ⊥
+no_process A B (inl h) = h.0 4 refl
+no_process A B (inr h) = (let e = h.1 in cc)
+
+pub nothing_stands_for_a_process : NothingStandsForAProcess
+nothing_stands_for_a_process behind next bytes rest (inl h) = no_process _ _ h.1
+nothing_stands_for_a_process behind next bytes rest (inr h) = no_process _ _ h.1

@@ -1,9 +1,10 @@
 -- The laws: which line of a text has which fault.
-use Rattle.std.specs.Prelude.{◌≡◌, ◌≤◌, ◌<◌, ◌↔◌, ◌⊎◌, ℕ, List, length}
+use Rattle.std.specs.Prelude.{◌≡◌, ◌≤◌, ◌<◌, ◌↔◌, ◌⊎◌, ℕ, false, List, length}
 use Rattle.assembler.specs.Faults.{IsFaultOf, longest_text}
 use Rattle.assembler.specs.Sections.{line_at, owners_in}
-use Rattle.asm_fields_law.specs.Layout.{Layout, text}
-use Rattle.asm_fields_law.specs.Places.{Behind, LacksForm, IsWrongLine}
+use Rattle.asm_fields_law.specs.Notes.{Note, Wrong}
+use Rattle.asm_fields_law.specs.Layout.{Layout, code, text}
+use Rattle.asm_fields_law.specs.Places.{Behind, IsRightLine, LacksForm, IsWrongLine}
 
 -- the line behind some right lines, where such a fault stands
 pub record StandsAt (Fault : Layout → List ℕ → Type 0) (bytes : List ℕ) (line : ℕ) : Type 0 where
@@ -30,3 +31,13 @@ LongTextsAreA3 = (bytes : List ℕ) (line : ℕ) → IsFaultOf bytes 3 line ↔ 
 -- there are no other faults
 abbrev pub NoOtherFaults : Type 0
 NoOtherFaults = (bytes : List ℕ) (number line : ℕ) → IsFaultOf bytes number line → (number ≡ 1) ⊎ ((number ≡ 2) ⊎ (number ≡ 3))
+
+-- ---- what is wrong in a line
+
+-- something is wrong in a line where its image has I4, I5 or I8
+abbrev pub WrongNotesAreOfImages : Type 0
+WrongNotesAreOfImages = (x : Note) (fault : ℕ) → Wrong x fault → (fault ≡ 4) ⊎ ((fault ≡ 5) ⊎ (fault ≡ 8))
+
+-- where there is no process, or an event is of none, the line behind the processes is not right
+abbrev pub NothingStandsForAProcess : Type 0
+NothingStandsForAProcess = (behind next : Layout) (bytes rest : List ℕ) → IsRightLine (code false behind) bytes next rest → ⊥
