@@ -9,3 +9,4 @@ pub mod Ones
 pub mod Rows
 pub mod Whole
 pub mod Laws
+pub mod Images

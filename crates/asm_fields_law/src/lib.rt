@@ -8,6 +8,7 @@
 //! where the text is too long. Nothing here can run.
 #![tactic(auto)]
 
+ghost use Rattle.asm_fields_law.specs.ImagesLaw.{NotesAreThoseOfImages};
 ghost use Rattle.asm_fields_law.specs.LinesLaw.{LacksOfFormAreA1, LongTextsAreA3, NoOtherFaults, NothingStandsForAProcess, WrongLinesAreA2, WrongNotesAreOfImages};
 
 /// A1 is told exactly at the first line that is not right, where it has no form of its place.
@@ -39,4 +40,9 @@ pub fn wrong_notes_are_of_images()
 /// Where there is no process, or an event is of none, no line behind the processes is right.
 pub fn nothing_stands_for_a_process()
     ensures { NothingStandsForAProcess }
+{}
+
+/// What is wrong of a number, a name or a list in a line is what is wrong in an image's field.
+pub fn notes_are_those_of_images()
+    ensures { NotesAreThoseOfImages }
 {}
