@@ -1,15 +1,17 @@
 -- The laws of the lines of a text.
-use Rattle.std.proofs.Common.{◌≡◌, ◌≤◌, ◌<◌, ◌⊎◌, inl, inr, ℕ, List, length, Ok, Err, Result, Option, Some, None, arith, refl, ap, sym, subst, ◌∙◌, true, false, Bool}
+use Rattle.std.proofs.Common.{◌≡◌, ◌≤◌, ◌<◌, ◌⊎◌, inl, inr, ◌+◌, ℕ, List, [], length, Ok, Err, Result, Option, Some, None, arith, refl, ap, sym, subst, ◌∙◌, true, false, Bool}
 use Rattle.text_fields.specs.declared.fault.FieldFault.{FieldFault}
 use Rattle.text_fields.specs.Front.{fault, no_form, out_of_range, line_start}
 use Rattle.image_reader.specs.File.{Parts}
 use Rattle.assembler.specs.Faults.{IsFaultOf, HasFault, IsLong, longest_text}
 use Rattle.assembler.specs.Sections.{line_at, owners_in, text_read}
 use Rattle.asm_fields_law.specs.Notes.{Note, ranged, operand, one_of, event, fresh, own_name, handled, too_many, lacks_process, Wrong, Holds, IsWrong}
-use Rattle.asm_fields_law.specs.Layout.{Layout, code, text}
+use Rattle.asm_fields_law.specs.Layout.{Layout, finish, code, text}
 use Rattle.asm_fields_law.specs.Places.{Behind, IsRightLine, LacksForm, IsWrongLine, HasForm}
 use Rattle.asm_fields_law.specs.LinesLaw.{StandsAt, LacksOfFormAreA1, WrongLinesAreA2, LongTextsAreA3, NoOtherFaults, WrongNotesAreOfImages, NothingStandsForAProcess}
 use Rattle.asm_fields_law.proofs.Walks.{walk, IsFaulty, Found, find, stands_walk}
+use Rattle.asm_fields_law.proofs.Counting.{IsOver, LinesOf, lines_before, line_is}
+use Rattle.asm_fields_law.proofs.Cleans.{a_text_is_clean}
 use Rattle.asm_fields_law.proofs.Reading.{told}
 use Rattle.asm_fields_law.proofs.Whole.{fault_of, a_text}
 
@@ -28,11 +30,22 @@ walks bytes = a_text bytes
 read_found : (bytes : List ℕ) (e : FieldFault) → text_read bytes ≡ Err e → Found (text (owners_in bytes)) bytes e
 read_found bytes e is = find (text (owners_in bytes)) bytes e (walks bytes ∙ ap (λ (r : Result Parts FieldFault). fault_of r) is)
 
-stands_read : (bytes : List ℕ) (l : Layout) (rest : List ℕ) (e : FieldFault) → Behind (text (owners_in bytes)) bytes l rest → IsFaulty l rest e → text_read bytes ≡ Err e
-stands_read bytes l rest e behind faulty = by (text_read bytes) refl (sym (walks bytes) ∙ stands_walk (text (owners_in bytes)) bytes l rest e behind faulty) where
+stands_read : (bytes : List ℕ) (lines : ℕ) (l : Layout) (rest : List ℕ) (e : FieldFault) → Behind (text (owners_in bytes)) bytes lines l rest → IsFaulty l rest e → text_read bytes ≡ Err e
+stands_read bytes lines l rest e behind faulty = by (text_read bytes) refl (sym (walks bytes) ∙ stands_walk (text (owners_in bytes)) bytes lines l rest e behind faulty) where
   by : (r : Result Parts FieldFault) → text_read bytes ≡ r → fault_of r ≡ Some e → text_read bytes ≡ Err e
   by (Ok x) was is = absurd (let h : None ≡ Some e = is in cc)
   by (Err d) was is = was ∙ ap (λ (x : FieldFault). Err x) (cc)
+
+-- the line that is told is the one behind the right ones
+not_over : (l : Layout) (rest : List ℕ) (e : FieldFault) → IsFaulty l rest e → IsOver l rest → ⊥
+not_over l rest e (inl is) over = is.0 true finish [] (subst (λ (x : Layout). HasForm x rest true finish []) (sym over.0) (over.1, refl, refl, refl))
+not_over l rest e (inr is) over = (let form = subst (λ (x : Layout). HasForm x rest false is.0.0 is.0.1) over.0 is.0.2 in let f = form.1 in cc)
+
+line_of : (bytes : List ℕ) (lines : ℕ) (l : Layout) (rest : List ℕ) (e : FieldFault) → Behind (text (owners_in bytes)) bytes lines l rest → IsFaulty l rest e → line_at bytes (length rest) ≡ lines + 1
+line_of bytes lines l rest e behind faulty = by (lines_before (text (owners_in bytes)) bytes lines l rest (a_text_is_clean (owners_in bytes)) behind) where
+  by : LinesOf bytes lines rest ⊎ IsOver l rest → line_at bytes (length rest) ≡ lines + 1
+  by (inl b) = line_is bytes lines rest b
+  by (inr over) = absurd (not_over l rest e faulty over)
 
 has_fault : (bytes : List ℕ) (number line : ℕ) → (number ≡ 3 → ⊥) → IsFaultOf bytes number line → HasFault bytes number line
 has_fault bytes number line other (inl long) = absurd (other long.is)
@@ -40,21 +53,30 @@ has_fault bytes number line other (inr h) = h
 
 -- ---- A1 and A2
 
-at_line : {m n : ℕ} (bytes : List ℕ) (line : ℕ) → line ≡ line_at bytes m → m ≡ n → line ≡ line_at bytes n
-at_line bytes line place same = place ∙ ap (line_at bytes) same
-
 module _ (bytes : List ℕ) (line : ℕ) where
+  at_line : (number left lines : ℕ) (l : Layout) (rest : List ℕ) → line ≡ line_at bytes left → Behind (text (owners_in bytes)) bytes lines l rest → IsFaulty l rest (fault number left) → length rest ≡ left → line ≡ lines + 1
+  at_line number left lines l rest place behind faulty same = place ∙ (ap (line_at bytes) (sym same) ∙ line_of bytes lines l rest (fault number left) behind faulty)
+
   lacking : (h : HasFault bytes 1 line) → Found (text (owners_in bytes)) bytes (fault 1 h.left) → StandsAt LacksForm bytes line
   lacking h f = by f.faulty where
     by : IsFaulty f.at f.rest (fault 1 h.left) → StandsAt LacksForm bytes line
-    by (inl is) = record { few = h.short; l = f.at; rest = f.rest; behind = f.behind; is = is.0; place = at_line bytes line h.place (sym (left_of is.1)) }
+    by (inl is) = record { few = h.short; l = f.at; rest = f.rest; before = f.lines; behind = f.behind; is = is.0; place = at_line 1 h.left f.lines f.at f.rest h.place f.behind (inl is) (left_of is.1) }
     by (inr is) = absurd (let two = number_of is.1 in omega (arith, two))
 
   wrong : (h : HasFault bytes 2 line) → Found (text (owners_in bytes)) bytes (fault 2 h.left) → StandsAt IsWrongLine bytes line
   wrong h f = by f.faulty where
     by : IsFaulty f.at f.rest (fault 2 h.left) → StandsAt IsWrongLine bytes line
     by (inl is) = absurd (let one = number_of is.1 in omega (arith, one))
-    by (inr is) = record { few = h.short; l = f.at; rest = f.rest; behind = f.behind; is = is.0; place = at_line bytes line h.place (sym (left_of is.1)) }
+    by (inr is) = record { few = h.short; l = f.at; rest = f.rest; before = f.lines; behind = f.behind; is = is.0; place = at_line 2 h.left f.lines f.at f.rest h.place f.behind (inr is) (left_of is.1) }
+
+  stood : (number : ℕ) (lines : ℕ) (l : Layout) (rest : List ℕ) → length bytes ≤ longest_text → Behind (text (owners_in bytes)) bytes lines l rest → IsFaulty l rest (fault number (length rest)) → line ≡ lines + 1 → IsFaultOf bytes number line
+  stood number lines l rest few behind faulty place =
+      inr (record {
+        short = few;
+        left = length rest;
+        is_read = stands_read bytes lines l rest (fault number (length rest)) behind faulty;
+        place = place ∙ sym (line_of bytes lines l rest (fault number (length rest)) behind faulty);
+      })
 
 pub lacks_of_form_are_a1 : LacksOfFormAreA1
 lacks_of_form_are_a1 bytes line = (there, back) where
@@ -64,7 +86,7 @@ lacks_of_form_are_a1 bytes line = (there, back) where
       lacking bytes line h (read_found bytes (fault 1 h.left) h.is_read)
 
   back : StandsAt LacksForm bytes line → IsFaultOf bytes 1 line
-  back s = inr (record { short = s.few; left = length s.rest; is_read = stands_read bytes s.l s.rest (fault 1 (length s.rest)) s.behind (inl (s.is, refl)); place = s.place })
+  back s = stood bytes line 1 s.before s.l s.rest s.few s.behind (inl (s.is, refl)) s.place
 
 pub wrong_lines_are_a2 : WrongLinesAreA2
 wrong_lines_are_a2 bytes line = (there, back) where
@@ -74,7 +96,7 @@ wrong_lines_are_a2 bytes line = (there, back) where
       wrong bytes line h (read_found bytes (fault 2 h.left) h.is_read)
 
   back : StandsAt IsWrongLine bytes line → IsFaultOf bytes 2 line
-  back s = inr (record { short = s.few; left = length s.rest; is_read = stands_read bytes s.l s.rest (fault 2 (length s.rest)) s.behind (inr (s.is, refl)); place = s.place })
+  back s = stood bytes line 2 s.before s.l s.rest s.few s.behind (inr (s.is, refl)) s.place
 
 -- ---- A3, and no others
 

@@ -1,5 +1,7 @@
 pub mod Table
 pub mod Walks
+pub mod Counting
+pub mod Cleans
 pub mod Reading
 pub mod Refusing
 pub mod Lines

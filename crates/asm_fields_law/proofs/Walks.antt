@@ -188,7 +188,8 @@ IsFaulty l rest e = (LacksForm l rest × (no_form (line_start rest) ≡ e)) ⊎ 
 pub record Found (l : Layout) (bytes : List ℕ) (e : FieldFault) : Type 0 where
   pub at : Layout
   pub rest : List ℕ
-  pub behind : Behind l bytes at rest
+  pub lines : ℕ
+  pub behind : Behind l bytes lines at rest
   pub faulty : IsFaulty at rest e
 
 some_is : (d e : FieldFault) → Some d ≡ Some e → d ≡ e
@@ -198,6 +199,7 @@ found : (l : Layout) (s : Front) → Sort l s → (bytes : List ℕ) → s ≡ l
 found l s (lacks lack told) bytes same e is = record {
   at = l;
   rest = bytes;
+  lines = 0;
   behind = here l bytes;
   faulty = inl (subst (λ (x : Front). LacksForm l x.rest) same lack, some_is (no_form (line_start bytes)) e (sym (subst (λ (x : Front). walk l x ≡ Some (no_form x)) same told) ∙ is));
 }
@@ -205,14 +207,14 @@ found l s (over true n r h ends_there) bytes same e is =
     absurd (let b : None ≡ Some e = sym ends_there ∙ (sym (follows l (line_start bytes) true n r (subst (λ (x : Front). HasForm l x.rest true n r) same h)) ∙ is) in cc)
 found l s (over false n r h ends_there) bytes same e is =
     let form = subst (λ (x : Front). HasForm l x.rest false n r) same h in
-    record { at = l; rest = bytes; behind = here l bytes; faulty = inr ((n, r, form), some_is (out_of_range (line_start bytes)) e (sym (follows l (line_start bytes) false n r form) ∙ is)) }
+    record { at = l; rest = bytes; lines = 0; behind = here l bytes; faulty = inr ((n, r, form), some_is (out_of_range (line_start bytes)) e (sym (follows l (line_start bytes) false n r form) ∙ is)) }
 found l s (has false n r h more) bytes same e is =
     let form = subst (λ (x : Front). HasForm l x.rest false n r) same h in
-    record { at = l; rest = bytes; behind = here l bytes; faulty = inr ((n, r, form), some_is (out_of_range (line_start bytes)) e (sym (follows l (line_start bytes) false n r form) ∙ is)) }
+    record { at = l; rest = bytes; lines = 0; behind = here l bytes; faulty = inr ((n, r, form), some_is (out_of_range (line_start bytes)) e (sym (follows l (line_start bytes) false n r form) ∙ is)) }
 found l s (has true n r h more) bytes same e is =
     let form = subst (λ (x : Front). HasForm l x.rest true n r) same h in
     let f = found n (line_start r) more r refl e (sym (follows l (line_start bytes) true n r form) ∙ is) in
-    record { at = f.at; rest = f.rest; behind = line form f.behind; faulty = f.faulty }
+    record { at = f.at; rest = f.rest; lines = suc f.lines; behind = line form f.behind; faulty = f.faulty }
 
 pub find : (l : Layout) (bytes : List ℕ) (e : FieldFault) → walk l (line_start bytes) ≡ Some e → Found l bytes e
 find l bytes e is = found l (line_start bytes) (decide l (line_start bytes)) bytes refl e is
@@ -228,6 +230,6 @@ faulty_walk : (l : Layout) (rest : List ℕ) (e : FieldFault) → IsFaulty l res
 faulty_walk l rest e (inl h) = lacks_walk l (line_start rest) (decide l (line_start rest)) h.0 ∙ ap Some h.1
 faulty_walk l rest e (inr h) = follows l (line_start rest) false h.0.0 h.0.1 h.0.2 ∙ ap Some h.1
 
-pub stands_walk : (l : Layout) (bytes : List ℕ) (m : Layout) (rest : List ℕ) (e : FieldFault) → Behind l bytes m rest → IsFaulty m rest e → walk l (line_start bytes) ≡ Some e
-stands_walk l bytes m rest e (here _ _) faulty = faulty_walk l bytes e faulty
-stands_walk l bytes m rest e (line {m = n} {more = more} right behind) faulty = follows l (line_start bytes) true n more right ∙ stands_walk n more m rest e behind faulty
+pub stands_walk : (l : Layout) (bytes : List ℕ) (lines : ℕ) (m : Layout) (rest : List ℕ) (e : FieldFault) → Behind l bytes lines m rest → IsFaulty m rest e → walk l (line_start bytes) ≡ Some e
+stands_walk l bytes lines m rest e (here _ _) faulty = faulty_walk l bytes e faulty
+stands_walk l bytes lines m rest e (line {m = n} {more = more} {lines = before} right behind) faulty = follows l (line_start bytes) true n more right ∙ stands_walk n more before m rest e behind faulty

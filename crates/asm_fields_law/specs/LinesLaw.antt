@@ -1,19 +1,20 @@
 -- The laws: which line of a text has which fault.
-use Rattle.std.specs.Prelude.{◌≡◌, ◌≤◌, ◌<◌, ◌↔◌, ◌⊎◌, ℕ, false, List, length}
+use Rattle.std.specs.Prelude.{◌≡◌, ◌≤◌, ◌<◌, ◌↔◌, ◌⊎◌, ◌+◌, ℕ, false, List, length}
 use Rattle.assembler.specs.Faults.{IsFaultOf, longest_text}
-use Rattle.assembler.specs.Sections.{line_at, owners_in}
+use Rattle.assembler.specs.Sections.{owners_in}
 use Rattle.asm_fields_law.specs.Notes.{Note, Wrong}
 use Rattle.asm_fields_law.specs.Layout.{Layout, code, text}
 use Rattle.asm_fields_law.specs.Places.{Behind, IsRightLine, LacksForm, IsWrongLine}
 
--- the line behind some right lines, where such a fault stands
+-- all lines before the line are right, and such a fault stands there; lines count from 1
 pub record StandsAt (Fault : Layout → List ℕ → Type 0) (bytes : List ℕ) (line : ℕ) : Type 0 where
   pub few : length bytes ≤ longest_text
   pub l : Layout
   pub rest : List ℕ
-  pub behind : Behind (text (owners_in bytes)) bytes l rest
+  pub before : ℕ
+  pub behind : Behind (text (owners_in bytes)) bytes before l rest
   pub is : Fault l rest
-  pub place : line ≡ line_at bytes (length rest)
+  pub place : line ≡ before + 1
 
 -- A1 exactly at the first line that is not right, where it has no form of its place
 abbrev pub LacksOfFormAreA1 : Type 0

@@ -1,5 +1,5 @@
 -- Which lines of a text have their form, and which are right.
-use Rattle.std.specs.Prelude.{◌≡◌, ◌<◌, ◌⊎◌, ℕ, Bool, true, false, List, [], length, take, drop, codes}
+use Rattle.std.specs.Prelude.{◌≡◌, ◌<◌, ◌⊎◌, ℕ, suc, Bool, true, false, List, [], length, take, drop, codes}
 use Rattle.text_fields.specs.Front.{begins}
 use Rattle.text_fields.specs.LineFields.{digits_len, is_numeral, small, value}
 use Rattle.asm_lines.specs.Names.{word_len}
@@ -29,10 +29,10 @@ HasForm (ends l) bytes fine next rest = (begins (codes "\n") bytes ≡ true) × 
 abbrev pub IsRightLine : Layout → (bytes : List ℕ) → (next : Layout) → (rest : List ℕ) → Type 0
 IsRightLine l bytes next rest = HasForm l bytes true next rest
 
--- Behind some right lines this layout comes, and these bytes are left.
-pub data Behind : Layout → List ℕ → Layout → List ℕ → Type 0 where
-  here : (l : Layout) (bytes : List ℕ) → Behind l bytes l bytes
-  line : {l m n : Layout} {bytes more rest : List ℕ} → IsRightLine l bytes m more → Behind m more n rest → Behind l bytes n rest
+-- Behind so many right lines this layout comes, and these bytes are left.
+pub data Behind : Layout → List ℕ → (lines : ℕ) → Layout → List ℕ → Type 0 where
+  here : (l : Layout) (bytes : List ℕ) → Behind l bytes 0 l bytes
+  line : {l m n : Layout} {bytes more rest : List ℕ} {lines : ℕ} → IsRightLine l bytes m more → Behind m more lines n rest → Behind l bytes (suc lines) n rest
 
 -- No line of this form is there.
 abbrev pub LacksForm : Layout → List ℕ → Type 0
