@@ -23,7 +23,7 @@ left_of same = ap (λ (x : FieldFault). x.left) same
 
 -- ---- what is told, by the layout
 
-walks : (bytes : List ℕ) → walk (text (owners_in bytes)) (line_start bytes) ≡ fault_of (text_read bytes)
+pub walks : (bytes : List ℕ) → walk (text (owners_in bytes)) (line_start bytes) ≡ fault_of (text_read bytes)
 unfolding told
 walks bytes = a_text bytes
 
@@ -69,7 +69,7 @@ module _ (bytes : List ℕ) (line : ℕ) where
     by (inl is) = absurd (let one = number_of is.1 in omega (arith, one))
     by (inr is) = record { few = h.short; l = f.at; rest = f.rest; before = f.lines; behind = f.behind; is = is.0; place = at_line 2 h.left f.lines f.at f.rest h.place f.behind (inr is) (left_of is.1) }
 
-  stood : (number : ℕ) (lines : ℕ) (l : Layout) (rest : List ℕ) → length bytes ≤ longest_text → Behind (text (owners_in bytes)) bytes lines l rest → IsFaulty l rest (fault number (length rest)) → line ≡ lines + 1 → IsFaultOf bytes number line
+  pub stood : (number : ℕ) (lines : ℕ) (l : Layout) (rest : List ℕ) → length bytes ≤ longest_text → Behind (text (owners_in bytes)) bytes lines l rest → IsFaulty l rest (fault number (length rest)) → line ≡ lines + 1 → IsFaultOf bytes number line
   stood number lines l rest few behind faulty place =
       inr (record {
         short = few;

@@ -11,4 +11,5 @@ pub mod Ones
 pub mod Rows
 pub mod Whole
 pub mod Laws
+pub mod Right
 pub mod Images

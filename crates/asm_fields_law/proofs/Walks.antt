@@ -93,9 +93,13 @@ follows (ends l) s f n r h =
 
 -- ---- each line has its form or not
 
+-- nothing comes behind it
+abbrev pub Ended : Bool → Layout → List ℕ → Type 0
+Ended f n r = (f ≡ false) ⊎ ((n ≡ done) ⊎ ((n ≡ finish) × (r ≡ [])))
+
 pub data Sort : Layout → Front → Type 0 where
   -- it has, and no more is told
-  over : {l : Layout} {s : Front} (f : Bool) (n : Layout) (r : List ℕ) → HasForm l s.rest f n r → walk n (line_start r) ≡ None → Sort l s
+  over : {l : Layout} {s : Front} (f : Bool) (n : Layout) (r : List ℕ) → HasForm l s.rest f n r → walk n (line_start r) ≡ None → Ended f n r → Sort l s
   -- it has, and more lines come
   has : {l : Layout} {s : Front} (f : Bool) (n : Layout) (r : List ℕ) → HasForm l s.rest f n r → Sort n (line_start r) → Sort l s
   lacks : {l : Layout} {s : Front} → LacksForm l s.rest → walk l s ≡ Some (no_form s) → Sort l s
@@ -103,7 +107,7 @@ pub data Sort : Layout → Front → Type 0 where
 -- the form of the whole from that of a part
 as_part : {l m : Layout} {s t : Front} → ((f : Bool) (n : Layout) (r : List ℕ) → HasForm m t.rest f n r → HasForm l s.rest f n r)
     → (LacksForm m t.rest → LacksForm l s.rest) → (walk m t ≡ Some (no_form t) → walk l s ≡ Some (no_form s)) → Sort m t → Sort l s
-as_part whole lack told (over f n r h is) = over f n r (whole f n r h) is
+as_part whole lack told (over f n r h is ended) = over f n r (whole f n r h) is ended
 as_part whole lack told (has f n r h more) = has f n r (whole f n r h) more
 as_part whole lack told (lacks not_there is) = lacks (lack not_there) (told is)
 
@@ -114,9 +118,9 @@ none_left (b ∷ bs) is = absurd (let e = eqb-true (length (b ∷ bs)) 0 is in o
 pub decide : (l : Layout) (s : Front) → Sort l s
 decide finish s = by (cases_Bool (length s.rest == 0)) where
   by : ((length s.rest == 0) ≡ true) ⊎ ((length s.rest == 0) ≡ false) → Sort finish s
-  by (inl is) = over true finish [] (none_left s.rest is, refl, refl, refl) refl
+  by (inl is) = over true finish [] (none_left s.rest is, refl, refl, refl) refl (inr (inr (refl, refl)))
   by (inr is) = lacks (λ f n r h. not_both (length s.rest == 0) (empty s.rest h.0) is) (ap (λ b. if b then (if s.fine then None else Some (out_of_range s)) else Some (no_form s)) is)
-decide done s = over true done s.rest (refl, refl, refl) refl
+decide done s = over true done s.rest (refl, refl, refl) refl (inr (inl refl))
 decide none s = lacks (λ f n r h. h) refl
 decide (word w l) s = by (decide l (moved s (drop (length w) s.rest))) (cases_Bool (begins w s.rest)) where
   by : Sort l (moved s (drop (length w) s.rest)) → (begins w s.rest ≡ true) ⊎ (begins w s.rest ≡ false) → Sort (word w l) s
@@ -159,7 +163,7 @@ decide (note x l) s = by (decide l (noted s (holds x))) (cases_Bool (holds x)) w
   lack not_there f n r (inr h) = not_there h.2.0 n r h.2.1
 
   wrong : IsWrong x → Sort l (noted s (holds x)) → Sort (note x l) s
-  wrong is (over f n r h told) = over false n r (inr (is, refl, (f, h))) told
+  wrong is (over f n r h told ended) = over false n r (inr (is, refl, (f, h))) told (inl refl)
   wrong is (has f n r h more) = has false n r (inr (is, refl, (f, h))) more
   wrong is (lacks not_there told) = lacks (lack not_there) told
 
@@ -172,7 +176,7 @@ decide (tree l) s = by (decide l s) (cases_Bool (is_tree_line s.rest)) where
       as_part {l = tree l} {m = l} {s = s} {t = s} (λ f n r h. (is, h)) (λ lack f n r h. lack f n r h.1) (λ told. ap (λ b. if b then walk l s else Some (no_form s)) is ∙ told) part
   by part (inr is) = lacks (λ f n r h. not_both (is_tree_line s.rest) h.0 is) (ap (λ b. if b then walk l s else Some (no_form s)) is)
 decide (left l) s = as_part {l = left l} {m = l (length s.rest)} {s = s} {t = s} (λ f n r h. h) (λ lack f n r h. lack f n r h) (λ told. told) (decide (l (length s.rest)) s)
-decide too_deep s = over false done [] refl refl
+decide too_deep s = over false done [] refl refl (inl refl)
 decide (ends l) s = by (decide l (line_start (drop 1 s.rest))) (cases_Bool (begins (codes "\n") s.rest)) where
   by : Sort l (line_start (drop 1 s.rest)) → (begins (codes "\n") s.rest ≡ true) ⊎ (begins (codes "\n") s.rest ≡ false) → Sort (ends l) s
   by more (inl is) = has true l (drop 1 s.rest) (is, refl, refl, refl) more
@@ -203,9 +207,9 @@ found l s (lacks lack told) bytes same e is = record {
   behind = here l bytes;
   faulty = inl (subst (λ (x : Front). LacksForm l x.rest) same lack, some_is (no_form (line_start bytes)) e (sym (subst (λ (x : Front). walk l x ≡ Some (no_form x)) same told) ∙ is));
 }
-found l s (over true n r h ends_there) bytes same e is =
+found l s (over true n r h ends_there ended) bytes same e is =
     absurd (let b : None ≡ Some e = sym ends_there ∙ (sym (follows l (line_start bytes) true n r (subst (λ (x : Front). HasForm l x.rest true n r) same h)) ∙ is) in cc)
-found l s (over false n r h ends_there) bytes same e is =
+found l s (over false n r h ends_there ended) bytes same e is =
     let form = subst (λ (x : Front). HasForm l x.rest false n r) same h in
     record { at = l; rest = bytes; lines = 0; behind = here l bytes; faulty = inr ((n, r, form), some_is (out_of_range (line_start bytes)) e (sym (follows l (line_start bytes) false n r form) ∙ is)) }
 found l s (has false n r h more) bytes same e is =
@@ -222,7 +226,7 @@ find l bytes e is = found l (line_start bytes) (decide l (line_start bytes)) byt
 -- ---- and back
 
 lacks_walk : (l : Layout) (s : Front) → Sort l s → LacksForm l s.rest → walk l s ≡ Some (no_form s)
-lacks_walk l s (over f n r h is) lack = absurd (lack f n r h)
+lacks_walk l s (over f n r h is ended) lack = absurd (lack f n r h)
 lacks_walk l s (has f n r h more) lack = absurd (lack f n r h)
 lacks_walk l s (lacks lack told) also = told
 

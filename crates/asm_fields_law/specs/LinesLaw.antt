@@ -1,9 +1,9 @@
 -- The laws: which line of a text has which fault.
-use Rattle.std.specs.Prelude.{◌≡◌, ◌≤◌, ◌<◌, ◌↔◌, ◌⊎◌, ◌+◌, ℕ, false, List, length}
+use Rattle.std.specs.Prelude.{◌≡◌, ◌≤◌, ◌<◌, ◌↔◌, ◌⊎◌, ◌+◌, ℕ, false, List, [], length}
 use Rattle.assembler.specs.Faults.{IsFaultOf, longest_text}
 use Rattle.assembler.specs.Sections.{owners_in}
 use Rattle.asm_fields_law.specs.Notes.{Note, Wrong}
-use Rattle.asm_fields_law.specs.Layout.{Layout, code, text}
+use Rattle.asm_fields_law.specs.Layout.{Layout, finish, code, text}
 use Rattle.asm_fields_law.specs.Places.{Behind, IsRightLine, LacksForm, IsWrongLine}
 
 -- all lines before the line are right, and such a fault stands there; lines count from 1
@@ -32,6 +32,11 @@ LongTextsAreA3 = (bytes : List ℕ) (line : ℕ) → IsFaultOf bytes 3 line ↔ 
 -- there are no other faults
 abbrev pub NoOtherFaults : Type 0
 NoOtherFaults = (bytes : List ℕ) (number line : ℕ) → IsFaultOf bytes number line → (number ≡ 1) ⊎ ((number ≡ 2) ⊎ (number ≡ 3))
+
+-- there is no fault exactly where the text is short enough and all its lines are right, up to its end
+abbrev pub RightTextsHaveNoFault : Type 0
+RightTextsHaveNoFault =
+    (bytes : List ℕ) → ((number line : ℕ) → IsFaultOf bytes number line → ⊥) ↔ ((length bytes ≤ longest_text) × ((lines : ℕ) × Behind (text (owners_in bytes)) bytes lines finish []))
 
 -- ---- what is wrong in a line
 

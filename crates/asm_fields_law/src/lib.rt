@@ -9,7 +9,7 @@
 #![tactic(auto)]
 
 ghost use Rattle.asm_fields_law.specs.ImagesLaw.{NotesAreThoseOfImages};
-ghost use Rattle.asm_fields_law.specs.LinesLaw.{LacksOfFormAreA1, LongTextsAreA3, NoOtherFaults, NothingStandsForAProcess, WrongLinesAreA2, WrongNotesAreOfImages};
+ghost use Rattle.asm_fields_law.specs.LinesLaw.{LacksOfFormAreA1, LongTextsAreA3, NoOtherFaults, NothingStandsForAProcess, RightTextsHaveNoFault, WrongLinesAreA2, WrongNotesAreOfImages};
 
 /// A1 is told exactly at the first line that is not right, where it has no form of its place.
 pub fn lacks_of_form_are_a1()
@@ -45,4 +45,9 @@ pub fn nothing_stands_for_a_process()
 /// What is wrong of a number, a name or a list in a line is what is wrong in an image's field.
 pub fn notes_are_those_of_images()
     ensures { NotesAreThoseOfImages }
+{}
+
+/// A text has no fault exactly where it is short enough and all its lines are right, up to its end.
+pub fn right_texts_have_no_fault()
+    ensures { RightTextsHaveNoFault }
 {}
