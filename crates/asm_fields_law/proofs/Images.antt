@@ -1,5 +1,5 @@
 -- What is asked of a line is what is asked of the fields of an image.
-use Rattle.std.proofs.Common.{◌≡◌, ◌≤◌, ◌⊎◌, inl, inr, ℕ, zero, suc, List, [], ◌∷◌, arith, refl, ap, sym, subst, ◌∙◌, true, false, Bool}
+use Rattle.std.proofs.Common.{◌≡◌, ◌≤◌, ◌<◌, ◌⊎◌, inl, inr, ℕ, zero, suc, List, [], ◌∷◌, length, arith, refl, ap, sym, subst, ◌∙◌, true, false, Bool}
 use Rattle.std.specs.Prelude.{nat_lt}
 use Rattle.std.proofs.lemmas.Bool.{ltb-false, le-ltb}
 use Rattle.image_reader.specs.Grammar.{is_above, is_taken}
@@ -31,12 +31,20 @@ name_there : (n : ℕ) (A B : Type 0) → (n ≡ 4 → ⊥) → ((n ≡ 4) × A)
 name_there n A B other (inl w) = absurd (other w.0)
 name_there n A B other (inr w) = w
 
+long_there : (n long : ℕ) (B : Type 0) (bytes : List ℕ) → (n ≡ 5 → ⊥) → fields.number 1 bytes ≡ long → ((n ≡ 4) × (63 < long)) ⊎ ((n ≡ 5) × B) → fields.Wrong (fields.ranged 1 0 63) bytes n
+long_there n long B bytes other same (inl w) = (w.0, inr (let over = w.1 in omega (arith, over, same)))
+long_there n long B bytes other same (inr w) = absurd (other w.0)
+
+long_back : (long : ℕ) (bytes : List ℕ) → fields.number 1 bytes ≡ long → fields.Wrong (fields.ranged 1 0 63) bytes 4 → 63 < long
+long_back long bytes same w = elim w.1 [ inl under ↦ omega (arith, under) | inr over ↦ omega (arith, over, same) ]
+
 pub notes_are_those_of_images : NotesAreThoseOfImages
 notes_are_those_of_images = record {
   numbers = λ size low high bytes fault. (λ w. w, λ w. w);
   things = λ count bytes fault. (λ w. w, λ w. w);
   events = λ events used bytes fault. (λ w. w, λ w. w);
   names = λ taken name. (λ w. name_there 5 _ _ (λ e. omega (arith, e)) w, λ w. inr w);
+  long_names = λ taken name bytes same. (λ w. long_there 4 (length name) _ bytes (λ e. omega (arith, e)) same w, λ w. inl (refl, long_back (length name) bytes same w));
   conditions = λ earlier condition fault. (λ w. w, λ w. w);
   numbers_handled = λ earlier bytes fault. (there earlier bytes fault, back earlier bytes fault);
 }

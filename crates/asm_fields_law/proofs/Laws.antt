@@ -8,7 +8,7 @@ use Rattle.assembler.specs.Sections.{line_at, owners_in, text_read}
 use Rattle.asm_fields_law.specs.Notes.{Note, ranged, operand, one_of, event, fresh, own_name, handled, too_many, lacks_process, Wrong, Holds, IsWrong}
 use Rattle.asm_fields_law.specs.Layout.{Layout, finish, code, text}
 use Rattle.asm_fields_law.specs.Places.{Behind, IsRightLine, LacksForm, IsWrongLine, HasForm}
-use Rattle.asm_fields_law.specs.LinesLaw.{StandsAt, LacksOfFormAreA1, WrongLinesAreA2, LongTextsAreA3, NoOtherFaults, WrongNotesAreOfImages, NothingStandsForAProcess}
+use Rattle.asm_fields_law.specs.LinesLaw.{StandsAt, LacksOfFormAreA1, WrongLinesAreA2, LongTextsAreA3, NoOtherFaults, WrongNotesAreOfImages, NothingIsBehindTheEnd, NothingStandsForAProcess}
 use Rattle.asm_fields_law.proofs.Walks.{walk, IsFaulty, Found, find, stands_walk}
 use Rattle.asm_fields_law.proofs.Counting.{IsOver, LinesOf, lines_before, line_is}
 use Rattle.asm_fields_law.proofs.Cleans.{a_text_is_clean}
@@ -145,3 +145,6 @@ no_process A B (inr h) = (let e = h.1 in cc)
 pub nothing_stands_for_a_process : NothingStandsForAProcess
 nothing_stands_for_a_process behind next bytes rest (inl h) = no_process _ _ h.1
 nothing_stands_for_a_process behind next bytes rest (inr h) = no_process _ _ h.1
+
+pub nothing_is_behind_the_end : NothingIsBehindTheEnd
+nothing_is_behind_the_end bytes = (λ lack empty. lack true finish [] (empty, refl, refl, refl), λ some fine next rest h. some h.0)

@@ -44,6 +44,10 @@ RightTextsHaveNoFault =
 abbrev pub WrongNotesAreOfImages : Type 0
 WrongNotesAreOfImages = (x : Note) (fault : ℕ) → Wrong x fault → (fault ≡ 4) ⊎ ((fault ≡ 5) ⊎ (fault ≡ 8))
 
+-- behind the last line no bytes are right
+abbrev pub NothingIsBehindTheEnd : Type 0
+NothingIsBehindTheEnd = (bytes : List ℕ) → LacksForm finish bytes ↔ (bytes ≡ [] → ⊥)
+
 -- where there is no process, or an event is of none, the line behind the processes is not right
 abbrev pub NothingStandsForAProcess : Type 0
 NothingStandsForAProcess = (behind next : Layout) (bytes rest : List ℕ) → IsRightLine (code false behind) bytes next rest → ⊥

@@ -9,7 +9,7 @@
 #![tactic(auto)]
 
 ghost use Rattle.asm_fields_law.specs.ImagesLaw.{NotesAreThoseOfImages};
-ghost use Rattle.asm_fields_law.specs.LinesLaw.{LacksOfFormAreA1, LongTextsAreA3, NoOtherFaults, NothingStandsForAProcess, RightTextsHaveNoFault, WrongLinesAreA2, WrongNotesAreOfImages};
+ghost use Rattle.asm_fields_law.specs.LinesLaw.{LacksOfFormAreA1, LongTextsAreA3, NoOtherFaults, NothingIsBehindTheEnd, NothingStandsForAProcess, RightTextsHaveNoFault, WrongLinesAreA2, WrongNotesAreOfImages};
 
 /// A1 is told exactly at the first line that is not right, where it has no form of its place.
 pub fn lacks_of_form_are_a1()
@@ -50,4 +50,9 @@ pub fn notes_are_those_of_images()
 /// A text has no fault exactly where it is short enough and all its lines are right, up to its end.
 pub fn right_texts_have_no_fault()
     ensures { RightTextsHaveNoFault }
+{}
+
+/// Bytes behind the last line have no form.
+pub fn nothing_is_behind_the_end()
+    ensures { NothingIsBehindTheEnd }
 {}
