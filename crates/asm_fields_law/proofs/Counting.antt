@@ -1,5 +1,5 @@
 -- Each right line is ended by a line feed, and has no other.
-use Rattle.std.proofs.Common.{◌≡◌, ◌≤◌, ◌<◌, ◌⊎◌, inl, inr, ◌+◌, ◌-◌, ◌++◌, ℕ, zero, suc, List, [], ◌∷◌, length, take, drop, Option, Some, None, arith, refl, ap, sym, subst, ◌∙◌, true, false, Bool, cond, length-append, append_assoc}
+use Rattle.std.proofs.Common.{◌≡◌, ◌⊎◌, inl, inr, ◌+◌, ◌-◌, ◌++◌, ℕ, suc, List, [], ◌∷◌, length, take, drop, Option, arith, refl, ap, sym, subst, ◌∙◌, true, false, Bool, cond, length-append, append_assoc}
 use Rattle.std.specs.Prelude.{◌==◌, codes, count_by, nat_eq, nat_lt, if◌then◌else◌}
 use Rattle.std.specs.List.{prefix_len}
 use Rattle.std.specs.Cmp.Lexicographic.{pointwise}
@@ -12,7 +12,7 @@ use Rattle.text_fields.specs.Front.{begins}
 use Rattle.text_fields.specs.LineFields.{is_digit, digits_len, small, value}
 use Rattle.asm_lines.specs.Names.{is_in_word, word_len}
 use Rattle.assembler.specs.Sections.{line_at}
-use Rattle.asm_fields_law.specs.Notes.{Note, Holds, IsWrong}
+use Rattle.asm_fields_law.specs.Notes.{Holds}
 use Rattle.asm_fields_law.specs.Layout.{Layout, finish, done, none, word, choice, numeral, name, note, tree, left, too_deep, ends}
 use Rattle.asm_fields_law.specs.Places.{HasForm, Behind, here, line}
 

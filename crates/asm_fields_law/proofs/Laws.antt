@@ -1,13 +1,13 @@
 -- The laws of the lines of a text.
-use Rattle.std.proofs.Common.{◌≡◌, ◌≤◌, ◌<◌, ◌⊎◌, inl, inr, ◌+◌, ℕ, List, [], length, Ok, Err, Result, Option, Some, None, arith, refl, ap, sym, subst, ◌∙◌, true, false, Bool}
+use Rattle.std.proofs.Common.{◌≡◌, ◌≤◌, ◌<◌, ◌⊎◌, inl, inr, ◌+◌, ℕ, List, [], length, Ok, Err, Result, Some, None, arith, refl, ap, sym, subst, ◌∙◌, true, false}
 use Rattle.text_fields.specs.declared.fault.FieldFault.{FieldFault}
-use Rattle.text_fields.specs.Front.{fault, no_form, out_of_range, line_start}
+use Rattle.text_fields.specs.Front.{fault, line_start}
 use Rattle.image_reader.specs.File.{Parts}
-use Rattle.assembler.specs.Faults.{IsFaultOf, HasFault, IsLong, longest_text}
+use Rattle.assembler.specs.Faults.{IsFaultOf, HasFault, longest_text}
 use Rattle.assembler.specs.Sections.{line_at, owners_in, text_read}
-use Rattle.asm_fields_law.specs.Notes.{Note, ranged, operand, one_of, event, fresh, own_name, handled, too_many, lacks_process, Wrong, Holds, IsWrong}
-use Rattle.asm_fields_law.specs.Layout.{Layout, finish, code, text}
-use Rattle.asm_fields_law.specs.Places.{Behind, IsRightLine, LacksForm, IsWrongLine, HasForm}
+use Rattle.asm_fields_law.specs.Notes.{ranged, operand, one_of, event, fresh, own_name, handled, too_many, lacks_process, Holds, IsWrong}
+use Rattle.asm_fields_law.specs.Layout.{Layout, finish, text}
+use Rattle.asm_fields_law.specs.Places.{Behind, LacksForm, IsWrongLine, HasForm}
 use Rattle.asm_fields_law.specs.LinesLaw.{StandsAt, LacksOfFormAreA1, WrongLinesAreA2, LongTextsAreA3, NoOtherFaults, WrongNotesAreOfImages, NothingIsBehindTheEnd, NothingStandsForAProcess}
 use Rattle.asm_fields_law.proofs.Walks.{walk, IsFaulty, Found, find, stands_walk}
 use Rattle.asm_fields_law.proofs.Counting.{IsOver, LinesOf, lines_before, line_is}

@@ -1,12 +1,11 @@
 -- The layout tells what reading tells: lines of names, and of instructions.
-use Rattle.std.proofs.Common.{◌≡◌, ◌≤◌, ◌⊎◌, inl, inr, ◌^◌, ◌++◌, ℕ, zero, suc, List, [], ◌∷◌, length, take, drop, Ok, Err, Result, Option, Some, None, arith, refl, ap, sym, ◌∙◌, true, false, Bool}
-use Rattle.std.specs.Prelude.{ℤ, pos, negsuc, ◌&&◌, ◌||◌, ◌==◌, codes, nat_le, nat_lt, if◌then◌else◌}
+use Rattle.std.proofs.Common.{◌≡◌, ◌⊎◌, inl, inr, ◌^◌, ℕ, zero, suc, List, [], take, drop, Ok, Err, Option, Some, None, arith, refl, ap, sym, ◌∙◌, true, false, Bool}
+use Rattle.std.specs.Prelude.{ℤ, pos, negsuc, codes, nat_le, nat_lt, if◌then◌else◌}
 use Rattle.std.proofs.lemmas.Bool.{cases_Bool, ltb-false}
 use Rattle.machine_isa.specs.Bytes.{arity}
-use Rattle.machine_semantics.specs.Image.{Monitor}
 use Rattle.image.specs.declared.names.ConditionName.{ConditionName}
 use Rattle.text_fields.specs.declared.fault.FieldFault.{FieldFault}
-use Rattle.text_fields.specs.Front.{Front, Read, ◌>>=◌, no_form, out_of_range, begins, moved, noted, skip}
+use Rattle.text_fields.specs.Front.{Front, Read, ◌>>=◌, no_form, begins, moved, noted, skip}
 use Rattle.text_fields.specs.LineFields as fields
 use Rattle.text_fields.specs.LineFields.{numeral_read, signed_read}
 use Rattle.asm_lines.specs.Names as n
@@ -17,7 +16,7 @@ use Rattle.asm_fields_law.specs.Layout as l
 use Rattle.asm_fields_law.specs.Layout.{Layout, done, word, choice, numeral, note, ends}
 use Rattle.asm_fields_law.proofs.Table.{holds}
 use Rattle.asm_fields_law.proofs.Walks.{walk}
-use Rattle.asm_fields_law.proofs.Reading.{follow, told, Reads, Skips, Steps, chain, pass, step, a_word, an_end, a_numeral, a_field, a_named, noted_true}
+use Rattle.asm_fields_law.proofs.Reading.{follow, told, Reads, Skips, chain, pass, step, a_word, an_end, a_numeral, a_field, a_named, noted_true}
 
 -- ---- choices, notes, and words before other things
 

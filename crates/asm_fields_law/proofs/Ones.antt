@@ -1,5 +1,5 @@
 -- The layout of a line is that of one line.
-use Rattle.std.proofs.Common.{◌≡◌, ℕ, zero, suc, List, [], ◌∷◌, Option, Some, None, refl, true, false, Bool}
+use Rattle.std.proofs.Common.{ℕ, zero, suc, List, [], ◌∷◌, Option, Some, None, refl, true, false, Bool}
 use Rattle.std.specs.Prelude.{◌==◌, codes, nat_le, nat_lt, if◌then◌else◌}
 use Rattle.machine_isa.specs.Bytes.{arity}
 use Rattle.image.specs.declared.names.ConditionName.{ConditionName}

@@ -1,20 +1,15 @@
 -- The layout tells what reading tells: processes.
-use Rattle.std.proofs.Common.{◌≡◌, ◌⊎◌, inl, inr, ℕ, zero, suc, List, [], ◌∷◌, length, Ok, Err, Result, Option, Some, None, refl, ap, sym, ◌∙◌, true, false, Bool}
-use Rattle.std.specs.Prelude.{◌||◌, ◌==◌, codes, nat_lt, if◌then◌else◌}
+use Rattle.std.proofs.Common.{◌≡◌, ℕ, zero, suc, List, [], ◌∷◌, length, Ok, refl, ◌∙◌}
+use Rattle.std.specs.Prelude.{◌==◌, codes, if◌then◌else◌}
 use Rattle.machine_semantics.specs.Image.{Process}
 use Rattle.image_reader.specs.Grammar.{event_of}
-use Rattle.text_fields.specs.declared.fault.FieldFault.{FieldFault}
-use Rattle.text_fields.specs.Front.{Front, Read, ◌>>=◌, no_form, out_of_range, begins, moved, noted, skip, end_read}
-use Rattle.text_fields.specs.LineFields.{field_read}
-use Rattle.asm_lines.specs.Names as n
+use Rattle.text_fields.specs.Front.{Front, noted}
 use Rattle.asm_lines.specs.Processes as p
-use Rattle.asm_lines.specs.Routines as r
 use Rattle.asm_fields_law.specs.Notes as notes
 use Rattle.asm_fields_law.specs.Layout as l
 use Rattle.asm_fields_law.specs.Layout.{Layout, done, word, choice, numeral, note, ends, left}
-use Rattle.asm_fields_law.proofs.Walks.{walk}
-use Rattle.asm_fields_law.proofs.Reading.{follow, told, Reads, Skips, Steps, chain, pass, step, a_word, an_end, a_field, a_named}
-use Rattle.asm_fields_law.proofs.Lines.{a_choice, a_note, as_skip, no_such}
+use Rattle.asm_fields_law.proofs.Reading.{follow, told, Reads, Skips, chain, pass, step, an_end, a_field, a_named}
+use Rattle.asm_fields_law.proofs.Lines.{a_choice, a_note, no_such}
 use Rattle.asm_fields_law.proofs.Trees.{skip_field, a_cost, a_tree_line, so_many}
 
 -- ---- what releases it

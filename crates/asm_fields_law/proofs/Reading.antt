@@ -1,7 +1,6 @@
 -- A layout tells of a text what reading tells.
-use Rattle.std.proofs.Common.{◌≡◌, ◌⊎◌, inl, inr, ◌++◌, ℕ, zero, suc, List, [], ◌∷◌, length, take, drop, Ok, Err, Result, Option, Some, None, refl, ap, sym, ◌∙◌, true, false, Bool}
-use Rattle.std.specs.Prelude.{◌&&◌, ◌||◌, ◌==◌, codes, nat_le, nat_lt, if◌then◌else◌}
-use Rattle.std.proofs.lemmas.Bool.{cases_Bool}
+use Rattle.std.proofs.Common.{◌≡◌, ℕ, List, [], length, take, drop, Ok, Err, Result, Option, Some, None, refl, ap, ◌∙◌, true, false, Bool}
+use Rattle.std.specs.Prelude.{◌&&◌, codes, nat_le, nat_lt, if◌then◌else◌}
 use Rattle.text_fields.specs.declared.fault.FieldFault.{FieldFault}
 use Rattle.text_fields.specs.Front.{Front, Read, ◌>>=◌, no_form, out_of_range, begins, moved, noted, skip, end_read, ended, line_start}
 use Rattle.text_fields.specs.LineFields.{digits_len, is_numeral, small, value, numeral_read, ranged, number_read, field_read}

@@ -1,8 +1,8 @@
 -- A line where none may stand: it has no form, or else it is out of range.
-use Rattle.std.proofs.Common.{◌≡◌, ◌⊎◌, inl, inr, ℕ, List, length, take, drop, Ok, Err, Option, Some, None, arith, refl, ap, sym, subst, ◌∙◌, true, false, Bool}
+use Rattle.std.proofs.Common.{◌≡◌, ◌⊎◌, inl, inr, ℕ, List, length, drop, Ok, Err, Option, Some, None, arith, refl, ap, sym, subst, ◌∙◌, true, false, Bool}
 use Rattle.std.specs.Prelude.{◌&&◌, codes, nat_lt, if◌then◌else◌}
 use Rattle.text_fields.specs.declared.fault.FieldFault.{FieldFault}
-use Rattle.text_fields.specs.Front.{Front, Read, no_form, out_of_range, begins, moved, noted, line_start}
+use Rattle.text_fields.specs.Front.{Front, Read, no_form, out_of_range, begins, moved, noted}
 use Rattle.text_fields.specs.LineFields.{digits_len, is_numeral, small, value}
 use Rattle.asm_lines.specs.Names.{word_len}
 use Rattle.asm_lines.specs.TreeForm.{is_tree_line}

@@ -1,16 +1,16 @@
 -- Texts of which all lines are right.
-use Rattle.std.proofs.Common.{◌≡◌, ◌≤◌, ◌<◌, ◌⊎◌, inl, inr, ◌+◌, ℕ, suc, List, [], length, Ok, Err, Result, Option, Some, None, arith, refl, ap, sym, subst, ◌∙◌, true, false, Bool}
-use Rattle.std.specs.Prelude.{◌&&◌, nat_lt, if◌then◌else◌}
+use Rattle.std.proofs.Common.{◌≡◌, ◌≤◌, ◌⊎◌, inl, inr, ◌+◌, ℕ, suc, List, [], length, Result, Option, Some, None, arith, refl, ap, sym, subst, ◌∙◌, true, false}
+use Rattle.std.specs.Prelude.{nat_lt}
 use Rattle.std.proofs.lemmas.Bool.{cases_Bool, ltb-true, ltb-false}
 use Rattle.text_fields.specs.declared.fault.FieldFault.{FieldFault}
 use Rattle.text_fields.specs.Front.{Front, fault, no_form, out_of_range, line_start}
 use Rattle.image_reader.specs.File.{Parts}
 use Rattle.assembler.specs.Faults.{IsFaultOf, longest_text}
-use Rattle.assembler.specs.Sections.{line_at, owners_in, text_read}
+use Rattle.assembler.specs.Sections.{owners_in, text_read}
 use Rattle.asm_fields_law.specs.Layout.{Layout, finish, done, text}
 use Rattle.asm_fields_law.specs.Places.{Behind, here, line, HasForm}
 use Rattle.asm_fields_law.specs.LinesLaw.{RightTextsHaveNoFault}
-use Rattle.asm_fields_law.proofs.Walks.{walk, goes, follows, decide, Sort, over, has, lacks, Found, IsFaulty, find, and_false}
+use Rattle.asm_fields_law.proofs.Walks.{walk, follows, decide, Sort, over, has, lacks, Found, IsFaulty, find}
 use Rattle.asm_fields_law.proofs.Counting.{Clean, OneLineOf, IsOver, counted}
 use Rattle.asm_fields_law.proofs.Cleans.{a_text_is_clean}
 use Rattle.asm_fields_law.proofs.Whole.{fault_of}

@@ -1,9 +1,9 @@
 -- The layout tells what reading tells: lines of a kind, one after the other.
-use Rattle.std.proofs.Common.{◌≡◌, ◌⊎◌, inl, inr, ◌++◌, ℕ, zero, suc, List, [], ◌∷◌, length, map, Ok, Err, Result, Option, Some, None, refl, ap, sym, ◌∙◌, true, false, Bool, append_assoc, append-nil}
+use Rattle.std.proofs.Common.{◌≡◌, ◌++◌, ℕ, zero, suc, List, [], ◌∷◌, map, Ok, Err, Option, Some, None, refl, ap, sym, ◌∙◌, true, false, Bool, append_assoc, append-nil}
 use Rattle.std.specs.Prelude.{not, codes, if◌then◌else◌}
 use Rattle.machine_isa.specs.declared.instr.Instr.{Instr}
 use Rattle.text_fields.specs.declared.fault.FieldFault.{FieldFault}
-use Rattle.text_fields.specs.Front.{Front, Read, ◌>>=◌, no_form, out_of_range, begins, noted}
+use Rattle.text_fields.specs.Front.{Front, Read, ◌>>=◌, out_of_range, begins}
 use Rattle.asm_lines.specs.Instrs.{instr_read}
 use Rattle.assembler.specs.Sections.{refused, no_more, rows_read, is_end, code_read, none_read}
 use Rattle.asm_fields_law.specs.Notes.{Note, too_many, lacks_process}

@@ -1,11 +1,11 @@
 -- What is asked of lines, as a test.
-use Rattle.std.proofs.Common.{◌≡◌, ◌≤◌, ◌<◌, ◌⊎◌, inl, inr, ℕ, List, length, Option, Some, None, arith, refl, ap, sym, ◌∙◌, true, false, Bool}
+use Rattle.std.proofs.Common.{◌≡◌, ◌<◌, ◌⊎◌, inl, inr, ℕ, length, Some, None, arith, refl, sym, ◌∙◌, true, false, Bool}
 use Rattle.std.specs.Prelude.{◌&&◌, ◌^◌, not, nat_eq, nat_le, nat_lt}
 use Rattle.std.specs.List.{list_any}
 use Rattle.std.proofs.lemmas.Bool.{cases_Bool, and_cases, and_parts, leb-true, leb-false, ltb-true, ltb-false}
 use Rattle.syntax.specs.Spellings.{is_identifier, keywords}
 use Rattle.image_reader.specs.Grammar.{has, is_again, is_taken}
-use Rattle.asm_fields_law.specs.Notes.{Note, ranged, operand, one_of, event, fresh, own_name, handled, too_many, lacks_process, Wrong, IsWrong, Holds}
+use Rattle.asm_fields_law.specs.Notes.{Note, ranged, operand, one_of, event, fresh, own_name, handled, too_many, lacks_process, IsWrong, Holds}
 
 abbrev pub holds : Note → Bool
 holds (ranged low high None) = false
@@ -48,10 +48,16 @@ is_wrong (event events used n) is =
 is_wrong (fresh taken name) is =
     elim (and_cases (nat_le (length name) 63) (is_identifier name && not (has keywords name) && not (has taken name)) is) [
       | inl long ↦ (4, inl (refl, leb-false (length name) 63 long))
-      | inr other ↦ (5, inr (refl, elim (and_cases (is_identifier name && not (has keywords name)) (not (has taken name)) other) [
-        | inl front ↦ elim (and_cases (is_identifier name) (not (has keywords name)) front) [ inl spelled ↦ inl spelled | inr keyword ↦ inr (inl (not_is (has keywords name) keyword)) ]
-        | inr again ↦ inr (inr (not_is (has taken name) again))
-      ]))
+      | inr other ↦ (
+        5,
+        inr (
+          refl,
+          elim (and_cases (is_identifier name && not (has keywords name)) (not (has taken name)) other) [
+            | inl front ↦ elim (and_cases (is_identifier name) (not (has keywords name)) front) [ inl spelled ↦ inl spelled | inr keyword ↦ inr (inl (not_is (has keywords name) keyword)) ]
+            | inr again ↦ inr (inr (not_is (has taken name) again))
+          ],
+        ),
+      )
     ]
 is_wrong (own_name earlier c) is = (5, (refl, not_is (is_again earlier c) is))
 is_wrong (handled last n) is =

@@ -1,9 +1,9 @@
 -- The layout tells what reading tells: trees and routines.
-use Rattle.std.proofs.Common.{◌≡◌, ◌⊎◌, inl, inr, ℕ, zero, suc, List, [], ◌∷◌, length, Ok, Err, Result, Option, Some, None, refl, ap, sym, ◌∙◌, true, false, Bool}
+use Rattle.std.proofs.Common.{◌≡◌, ℕ, zero, suc, List, length, Ok, Err, Option, Some, refl, ◌∙◌, true, false, Bool}
 use Rattle.std.specs.Prelude.{◌||◌, ◌==◌, codes, nat_lt, if◌then◌else◌}
-use Rattle.machine_semantics.specs.Trees.{Seg, Segs, Nil, Cons, Wait, Exit}
+use Rattle.machine_semantics.specs.Trees.{Seg, Segs, Wait, Exit}
 use Rattle.text_fields.specs.declared.fault.FieldFault.{FieldFault}
-use Rattle.text_fields.specs.Front.{Front, Read, ◌>>=◌, no_form, out_of_range, begins, moved, noted, skip, end_read}
+use Rattle.text_fields.specs.Front.{Front, Read, ◌>>=◌, no_form, out_of_range, begins, noted, skip}
 use Rattle.text_fields.specs.LineFields.{field_read}
 use Rattle.asm_lines.specs.TreeForm.{is_tree_line}
 use Rattle.asm_lines.specs.Trees as t
@@ -12,8 +12,8 @@ use Rattle.asm_fields_law.specs.Notes as notes
 use Rattle.asm_fields_law.specs.Layout as l
 use Rattle.asm_fields_law.specs.Layout.{Layout, done, word, choice, numeral, note, ends, left}
 use Rattle.asm_fields_law.proofs.Walks.{walk}
-use Rattle.asm_fields_law.proofs.Reading.{follow, told, Reads, Skips, Steps, chain, pass, step, a_word, an_end, a_field}
-use Rattle.asm_fields_law.proofs.Lines.{a_choice, a_note, behind, behind_skips, as_skip, no_such}
+use Rattle.asm_fields_law.proofs.Reading.{follow, told, Reads, Skips, chain, pass, step, a_word, an_end, a_field}
+use Rattle.asm_fields_law.proofs.Lines.{a_choice, a_note, behind_skips, no_such}
 
 pub skip_field : (label : List ℕ) (low high : ℕ) → Skips (field_read label low high) (λ k. l.field label low high (λ n. k))
 skip_field label low high k s = a_field label low high (λ n. k) s

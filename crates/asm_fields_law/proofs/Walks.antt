@@ -1,13 +1,13 @@
 -- What is told of a text by its layout, and which lines then have their form.
-use Rattle.std.proofs.Common.{◌≡◌, ◌≤◌, ◌<◌, ◌⊎◌, inl, inr, ℕ, zero, suc, List, [], ◌∷◌, length, take, drop, Option, Some, None, arith, refl, ap, sym, subst, ◌∙◌, true, false, Bool}
+use Rattle.std.proofs.Common.{◌≡◌, ◌⊎◌, inl, inr, ℕ, suc, List, [], ◌∷◌, length, take, drop, Option, Some, None, arith, refl, ap, sym, subst, ◌∙◌, true, false, Bool}
 use Rattle.std.specs.Prelude.{◌&&◌, ◌==◌, codes, nat_lt, if◌then◌else◌}
-use Rattle.std.proofs.lemmas.Bool.{cases_Bool, eqb-true, ltb-true, ltb-false, lt-ltb}
+use Rattle.std.proofs.lemmas.Bool.{cases_Bool, eqb-true, ltb-true, lt-ltb}
 use Rattle.text_fields.specs.declared.fault.FieldFault.{FieldFault}
 use Rattle.text_fields.specs.Front.{Front, no_form, out_of_range, begins, moved, noted, line_start}
 use Rattle.text_fields.specs.LineFields.{digits_len, is_numeral, small, value}
 use Rattle.asm_lines.specs.Names.{word_len}
 use Rattle.asm_lines.specs.TreeForm.{is_tree_line}
-use Rattle.asm_fields_law.specs.Notes.{Note, Holds, IsWrong}
+use Rattle.asm_fields_law.specs.Notes.{IsWrong}
 use Rattle.asm_fields_law.specs.Layout.{Layout, finish, done, none, word, choice, numeral, name, note, tree, left, too_deep, ends}
 use Rattle.asm_fields_law.specs.Places.{HasForm, LacksForm, IsWrongLine, Behind, here, line}
 use Rattle.asm_fields_law.proofs.Table.{holds, is_wrong, is_right, right_is, wrong_is}

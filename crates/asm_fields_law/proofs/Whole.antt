@@ -1,8 +1,7 @@
 -- The layout of a text tells what reading the text tells.
-use Rattle.std.proofs.Common.{◌≡◌, ◌⊎◌, inl, inr, ◌++◌, ℕ, zero, suc, List, [], ◌∷◌, length, map, take, drop, Ok, Err, Result, Option, Some, None, refl, ap, sym, ◌∙◌, true, false, Bool}
+use Rattle.std.proofs.Common.{◌≡◌, ◌++◌, ℕ, suc, List, [], ◌∷◌, length, map, drop, Ok, Err, Result, Option, Some, None, refl, ap, ◌∙◌, true, false, Bool}
 use Rattle.std.specs.Prelude.{◌&&◌, ◌==◌, codes, flat_map, nat_lt, if◌then◌else◌}
 use Rattle.machine_semantics.specs.Image.{Monitor, Routine, Process}
-use Rattle.image.specs.declared.names.ConditionName.{ConditionName}
 use Rattle.image.specs.declared.names.DeviceName.{DeviceName}
 use Rattle.image_reader.specs.File.{Parts, all_used, used_by, with_devices, with_monitors}
 use Rattle.text_fields.specs.declared.fault.FieldFault.{FieldFault}
@@ -16,7 +15,7 @@ use Rattle.asm_fields_law.specs.Notes.{too_many}
 use Rattle.asm_fields_law.specs.Layout as l
 use Rattle.asm_fields_law.specs.Layout.{Layout, done, note}
 use Rattle.asm_fields_law.proofs.Walks.{walk}
-use Rattle.asm_fields_law.proofs.Reading.{follow, go_on, told, Reads, Skips, chain, pass, step, a_head}
+use Rattle.asm_fields_law.proofs.Reading.{follow, told, Reads, Skips, chain, pass, a_head}
 use Rattle.asm_fields_law.proofs.Refusing.{line_refused}
 use Rattle.asm_fields_law.proofs.Ones.{a_device_is_one, an_event_is_one, a_monitor_is_one, a_condition_is_one, a_routine_line_is_one, a_process_line_is_one}
 use Rattle.asm_fields_law.proofs.Lines.{a_device, a_event, a_monitor, a_condition}

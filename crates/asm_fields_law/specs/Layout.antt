@@ -1,6 +1,6 @@
 -- The layout of the text of an image: which words, names and numbers stand in a line, and which
 -- line behind which.
-use Rattle.std.specs.Prelude.{◌++◌, ◌==◌, ◌&&◌, ◌^◌, ℕ, zero, suc, Bool, true, false, List, [], ◌∷◌, length, map, Option, Some, None, codes, nat_le, nat_lt, flat_map, if◌then◌else◌}
+use Rattle.std.specs.Prelude.{◌++◌, ◌==◌, ◌&&◌, ℕ, zero, suc, Bool, true, false, List, [], ◌∷◌, length, map, Option, Some, None, codes, nat_le, nat_lt, flat_map, if◌then◌else◌}
 use Rattle.machine_isa.specs.Bytes.{arity}
 use Rattle.image.specs.declared.names.ConditionName.{ConditionName}
 use Rattle.image_reader.specs.File.{all_used}

@@ -1,6 +1,6 @@
 -- What is asked of the numbers, the names and the lists of a line that has its form, and the number
 -- of the fault that its image would have.
-use Rattle.std.specs.Prelude.{◌≡◌, ◌≤◌, ◌<◌, ◌⊎◌, ◌^◌, ℕ, Bool, true, false, List, length, Option, Some, None, nat_eq}
+use Rattle.std.specs.Prelude.{◌≡◌, ◌≤◌, ◌<◌, ◌⊎◌, ◌^◌, ℕ, true, false, List, length, Option, Some, None, nat_eq}
 use Rattle.std.specs.List.{list_any}
 use Rattle.syntax.specs.Spellings.{is_identifier, keywords}
 use Rattle.image.specs.declared.names.ConditionName.{ConditionName}
