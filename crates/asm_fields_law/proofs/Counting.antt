@@ -14,7 +14,7 @@ use Rattle.asm_lines.specs.Names.{is_in_word, word_len}
 use Rattle.assembler.specs.Sections.{line_at}
 use Rattle.asm_fields_law.specs.Notes.{Holds}
 use Rattle.asm_fields_law.specs.Layout.{Layout, finish, done, none, word, choice, numeral, name, note, tree, left, too_deep, ends}
-use Rattle.asm_fields_law.specs.Places.{HasForm, Behind, here, line}
+use Rattle.asm_fields_law.specs.Places.{HasForm, LacksForm, Behind, here, line}
 
 abbrev pub feeds : List ℕ → ℕ
 feeds bytes = count_by (λ b. b == 10) bytes
@@ -50,6 +50,44 @@ begun w bytes is = by (nat_lt (length bytes) (length w)) is where
 
 -- ---- layouts whose words have no line feed
 
+-- a byte must be there
+abbrev pub Asks : Layout → Type 0
+Asks finish = ⊥
+Asks done = ⊥
+Asks none = Unit {0}
+Asks (word w l) = begins w [] ≡ false
+Asks (choice w l other) = (begins w [] ≡ false) × Asks other
+Asks (numeral l) = Unit {0}
+Asks (name l) = Unit {0}
+Asks (note x l) = Asks l
+Asks (tree l) = Unit {0}
+Asks (left l) = Asks (l 0)
+Asks too_deep = ⊥
+Asks (ends l) = Unit {0}
+
+clash : (b : Bool) → b ≡ true → b ≡ false → ⊥
+clash b up down = (let e : true ≡ false = sym up ∙ down in cc)
+
+pub asks_lacks : (l : Layout) → Asks l → LacksForm l []
+asks_lacks finish asks f n r h = absurd asks
+asks_lacks done asks f n r h = absurd asks
+asks_lacks none asks f n r h = h
+asks_lacks (word w l) asks f n r h = clash (begins w []) h.0 asks
+asks_lacks (choice w l other) asks f n r (inl h) = clash (begins w []) h.0 asks.0
+asks_lacks (choice w l other) asks f n r (inr h) = asks_lacks other asks.1 f n r h.1
+asks_lacks (numeral l) asks f n r h = (let e : false ≡ true = h.0 in cc)
+asks_lacks (name l) asks f n r h = (let some = h.0 in omega (arith, some))
+asks_lacks (note x l) asks f n r (inl h) = asks_lacks l asks f n r h.1
+asks_lacks (note x l) asks f n r (inr h) = asks_lacks l asks h.2.0 n r h.2.1
+asks_lacks (tree l) asks f n r h = (let e : false ≡ true = h.0 in cc)
+asks_lacks (left l) asks f n r h = asks_lacks (l 0) asks f n r h
+asks_lacks too_deep asks f n r h = absurd asks
+asks_lacks (ends l) asks f n r h = (let e : false ≡ true = h.0 in cc)
+
+-- a line that comes asks for a byte, or the text ends
+abbrev pub IsNext : Layout → Type 0
+IsNext l = (l ≡ finish) ⊎ Asks l
+
 abbrev pub Clean : Layout → Type 0
 Clean finish = Unit {0}
 Clean done = ⊥
@@ -62,13 +100,14 @@ Clean (note x l) = Holds x → Clean l
 Clean (tree l) = Clean l
 Clean (left l) = (n : ℕ) → Clean (l n)
 Clean too_deep = Unit {0}
-Clean (ends l) = Clean l
+Clean (ends l) = IsNext l × Clean l
 
 -- the bytes have this one line in front, or they are at their end
 pub record OneLineOf (bytes : List ℕ) (n : Layout) (r : List ℕ) : Type 0 where
   pub front : List ℕ
   pub are : bytes ≡ front ++ r
   pub one : feeds front ≡ 1
+  pub next : IsNext n
   pub clean : Clean n
 
 abbrev pub IsOver : Layout → List ℕ → Type 0
@@ -81,6 +120,7 @@ more_front first bytes n r whole is zero_feeds (inl o) =
       front = first ++ o.front;
       are = is ∙ (ap (λ (x : List ℕ). first ++ x) o.are ∙ sym (append_assoc first o.front r));
       one = (let sum = feeds_append first o.front in let one = o.one in omega (arith, sum, one, zero_feeds));
+      next = o.next;
       clean = o.clean;
     })
 
@@ -107,7 +147,8 @@ counted (ends l) bytes n r clean h =
       front = codes "\n";
       are = begun (codes "\n") bytes h.0 ∙ ap (λ (x : List ℕ). codes "\n" ++ x) (sym h.3);
       one = refl;
-      clean = subst (λ (m : Layout). Clean m) (sym h.2) clean;
+      next = subst (λ (m : Layout). IsNext m) (sym h.2) clean.0;
+      clean = subst (λ (m : Layout). Clean m) (sym h.2) clean.1;
     })
 
 -- ---- lines before
@@ -138,6 +179,14 @@ lines_before l bytes lines n r clean (line {m = m} {more = more} {lines = before
   by : (Clean m → LinesOf more before r ⊎ IsOver n r) → OneLineOf bytes m more ⊎ IsOver m more → LinesOf bytes (suc before) r ⊎ IsOver n r
   by later (inl o) = further o (later o.clean)
   by later (inr over) = inr (over_stays m more before n r behind over)
+
+-- what comes behind right lines
+pub comes : (l : Layout) (bytes : List ℕ) (lines : ℕ) (n : Layout) (r : List ℕ) → IsNext l → Clean l → Behind l bytes lines n r → IsNext n
+comes l bytes lines n r next clean (here _ _) = next
+comes l bytes lines n r next clean (line {m = m} {more = more} {lines = before} right behind) = by (λ x c. comes m more before n r x c behind) (counted l bytes m more clean right) where
+  by : (IsNext m → Clean m → IsNext n) → OneLineOf bytes m more ⊎ IsOver m more → IsNext n
+  by later (inl o) = later o.next o.clean
+  by later (inr over) = inl (over_stays m more before n r behind over).0
 
 pub line_is : (bytes : List ℕ) (lines : ℕ) (r : List ℕ) → LinesOf bytes lines r → line_at bytes (length r) ≡ lines + 1
 line_is bytes lines r b =

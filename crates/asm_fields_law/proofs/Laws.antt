@@ -8,10 +8,10 @@ use Rattle.assembler.specs.Sections.{line_at, owners_in, text_read}
 use Rattle.asm_fields_law.specs.Notes.{ranged, operand, one_of, event, fresh, own_name, handled, too_many, lacks_process, Holds, IsWrong}
 use Rattle.asm_fields_law.specs.Layout.{Layout, finish, text}
 use Rattle.asm_fields_law.specs.Places.{Behind, LacksForm, IsWrongLine, HasForm}
-use Rattle.asm_fields_law.specs.LinesLaw.{StandsAt, LacksOfFormAreA1, WrongLinesAreA2, LongTextsAreA3, NoOtherFaults, WrongNotesAreOfImages, NothingIsBehindTheEnd, NothingStandsForAProcess}
+use Rattle.asm_fields_law.specs.LinesLaw.{StandsAt, LacksOfFormAreA1, WrongLinesAreA2, LongTextsAreA3, NoOtherFaults, WrongNotesAreOfImages, NothingIsBehindTheEnd, MissingLinesLackForm, NothingStandsForAProcess}
 use Rattle.asm_fields_law.proofs.Walks.{walk, IsFaulty, Found, find, stands_walk}
-use Rattle.asm_fields_law.proofs.Counting.{IsOver, LinesOf, lines_before, line_is}
-use Rattle.asm_fields_law.proofs.Cleans.{a_text_is_clean}
+use Rattle.asm_fields_law.proofs.Counting.{Asks, IsNext, IsOver, LinesOf, asks_lacks, comes, lines_before, line_is}
+use Rattle.asm_fields_law.proofs.Cleans.{a_text_asks, a_text_is_clean}
 use Rattle.asm_fields_law.proofs.Reading.{told}
 use Rattle.asm_fields_law.proofs.Whole.{fault_of, a_text}
 
@@ -148,3 +148,9 @@ nothing_stands_for_a_process behind next bytes rest (inr h) = no_process _ _ h.1
 
 pub nothing_is_behind_the_end : NothingIsBehindTheEnd
 nothing_is_behind_the_end bytes = (λ lack empty. lack true finish [] (empty, refl, refl, refl), λ some fine next rest h. some h.0)
+
+pub missing_lines_lack_form : MissingLinesLackForm
+missing_lines_lack_form owners lines bytes l behind = by (comes (text owners) bytes lines l [] (a_text_asks owners) (a_text_is_clean owners) behind) where
+  by : IsNext l → (l ≡ finish) ⊎ LacksForm l []
+  by (inl is) = inl is
+  by (inr asks) = inr (asks_lacks l asks)

@@ -48,6 +48,11 @@ WrongNotesAreOfImages = (x : Note) (fault : ℕ) → Wrong x fault → (fault �
 abbrev pub NothingIsBehindTheEnd : Type 0
 NothingIsBehindTheEnd = (bytes : List ℕ) → LacksForm finish bytes ↔ (bytes ≡ [] → ⊥)
 
+-- where the bytes end behind right lines, the text ends there, or the line that is missing has no
+-- form
+abbrev pub MissingLinesLackForm : Type 0
+MissingLinesLackForm = (owners lines : ℕ) (bytes : List ℕ) (l : Layout) → Behind (text owners) bytes lines l [] → (l ≡ finish) ⊎ LacksForm l []
+
 -- where there is no process, or an event is of none, the line behind the processes is not right
 abbrev pub NothingStandsForAProcess : Type 0
 NothingStandsForAProcess = (behind next : Layout) (bytes rest : List ℕ) → IsRightLine (code false behind) bytes next rest → ⊥

@@ -9,7 +9,7 @@
 #![tactic(auto)]
 
 ghost use Rattle.asm_fields_law.specs.ImagesLaw.{NotesAreThoseOfImages};
-ghost use Rattle.asm_fields_law.specs.LinesLaw.{LacksOfFormAreA1, LongTextsAreA3, NoOtherFaults, NothingIsBehindTheEnd, NothingStandsForAProcess, RightTextsHaveNoFault, WrongLinesAreA2, WrongNotesAreOfImages};
+ghost use Rattle.asm_fields_law.specs.LinesLaw.{LacksOfFormAreA1, LongTextsAreA3, MissingLinesLackForm, NoOtherFaults, NothingIsBehindTheEnd, NothingStandsForAProcess, RightTextsHaveNoFault, WrongLinesAreA2, WrongNotesAreOfImages};
 
 /// A1 is told exactly at the first line that is not right, where it has no form of its place.
 pub fn lacks_of_form_are_a1()
@@ -55,4 +55,9 @@ pub fn right_texts_have_no_fault()
 /// Bytes behind the last line have no form.
 pub fn nothing_is_behind_the_end()
     ensures { NothingIsBehindTheEnd }
+{}
+
+/// A line that is missing at the end of the bytes has no form.
+pub fn missing_lines_lack_form()
+    ensures { MissingLinesLackForm }
 {}
