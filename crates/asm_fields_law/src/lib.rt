@@ -1,11 +1,12 @@
 //! Law: which line of the text of an image is faulty, and why.
 //!
 //! `specs/Notes.antt` is the table of what is asked of the numbers, names and lists of a line, with
-//! the fault that its image would have. `specs/Layout.antt` says which words, names and numbers stand
-//! in a line, and which line behind which; `specs/Places.antt` which lines have their form, and which
-//! of them are right. `specs/LinesLaw.antt` has the laws: behind right lines, A1 exactly where a line
-//! has no form of its place, and A2 exactly where it has, and something of it is wrong; A3 exactly
-//! where the text is too long. Nothing here can run.
+//! the fault that its image would have; `specs/ImagesLaw.antt` ties it to the fields of images.
+//! `specs/Layout.antt` says which words, names and numbers stand in a line, and which line behind
+//! which; `specs/Places.antt` which lines have their form, and which of them are right.
+//! `specs/LinesLaw.antt` has the laws: behind right lines, A1 exactly where a line has no form of
+//! its place, and A2 exactly where it has, and something of it is wrong; A3 exactly where the text
+//! is too long. Nothing here can run.
 #![tactic(auto)]
 
 ghost use Rattle.asm_fields_law.specs.ImagesLaw.{NotesAreThoseOfImages};
@@ -16,8 +17,8 @@ pub fn lacks_of_form_are_a1()
     ensures { LacksOfFormAreA1 }
 {}
 
-/// A2 is told exactly at the first line that is not right, where it has its form and something of it
-/// is wrong.
+/// A2 is told exactly at the first line that is not right, where it has its form and something of
+/// it is wrong.
 pub fn wrong_lines_are_a2()
     ensures { WrongLinesAreA2 }
 {}
