@@ -1,0 +1,15 @@
+pub mod Table
+pub mod Walks
+pub mod Counting
+pub mod Cleans
+pub mod Reading
+pub mod Refusing
+pub mod Lines
+pub mod Trees
+pub mod Processes
+pub mod Ones
+pub mod Rows
+pub mod Whole
+pub mod Laws
+pub mod Right
+pub mod Images
