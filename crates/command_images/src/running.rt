@@ -91,14 +91,7 @@ fn run_on<'a, F: Files>(
 }
 
 /// `run`: the image is read and judged, and the script only where the image is valid.
-#[tactic(
-    auto,
-    using(
-        command_answers::proofs::Trying::tried_first,
-        command_answers::proofs::Trying::tried_on,
-        command_answers::proofs::Trying::tried_alone
-    )
-)]
+#[tactic(auto, using(command_answers::proofs::Trying::tried_first, command_answers::proofs::Trying::tried_on, command_answers::proofs::Trying::tried_alone))]
 pub fn prepare_run<'a, F: Files>(
     alloc: Global,
     image: &str,

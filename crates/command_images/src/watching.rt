@@ -91,14 +91,7 @@ fn watch_on<'a, F: Files>(
 }
 
 /// `watch`: the image is read and judged, and the script only where the image is valid.
-#[tactic(
-    auto,
-    using(
-        command_answers::proofs::Trying::tried_first,
-        command_answers::proofs::Trying::tried_on,
-        command_answers::proofs::Trying::tried_alone
-    )
-)]
+#[tactic(auto, using(command_answers::proofs::Trying::tried_first, command_answers::proofs::Trying::tried_on, command_answers::proofs::Trying::tried_alone))]
 pub fn prepare_watch<'a, F: Files>(
     alloc: Global,
     image: &str,
