@@ -16,13 +16,7 @@ use outside::{Files, Sink, WriteFault};
 use std::alloc::Global;
 
 /// Stores the script, behind the program, and puts the line.
-#[tactic(
-    auto,
-    using(
-        command_answers::proofs::Trying::tried_last,
-        command_answers::proofs::Trying::tried_at_most
-    )
-)]
+#[tactic(auto, using(command_answers::proofs::Trying::tried_last, command_answers::proofs::Trying::tried_at_most))]
 fn store_script<F: Files, O: Sink>(
     load: &Load<'_>,
     texts: &LoadTexts,
@@ -54,14 +48,7 @@ fn store_script<F: Files, O: Sink>(
 ///
 /// The answer is `Done`; `Unwritten` where a write or the put failed, and nothing comes after it;
 /// or `Memory`, and then nothing was put, and nothing was stored but the program at most.
-#[tactic(
-    auto,
-    using(
-        command_answers::proofs::Trying::tried_on,
-        command_answers::proofs::Trying::tried_first,
-        command_answers::proofs::Trying::tried_at_most
-    )
-)]
+#[tactic(auto, using(command_answers::proofs::Trying::tried_on, command_answers::proofs::Trying::tried_first, command_answers::proofs::Trying::tried_at_most))]
 pub fn make<F: Files, O: Sink>(alloc: Global, load: &Load<'_>, files: &mut F, out: &mut O) -> Status
     requires some { 1 ≤ load.now.count }
     requires few { load.now.count ≤ 64 }

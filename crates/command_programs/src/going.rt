@@ -104,14 +104,7 @@ fn go_on<'a, F: Files>(
 }
 
 /// `go`: the program is read and judged, and the script only where the program is timely.
-#[tactic(
-    auto,
-    using(
-        command_answers::proofs::Trying::tried_first,
-        command_answers::proofs::Trying::tried_on,
-        command_answers::proofs::Trying::tried_alone
-    )
-)]
+#[tactic(auto, using(command_answers::proofs::Trying::tried_first, command_answers::proofs::Trying::tried_on, command_answers::proofs::Trying::tried_alone))]
 pub fn prepare_go<'a, F: Files>(
     alloc: Global,
     program: &str,

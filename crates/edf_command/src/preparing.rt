@@ -80,14 +80,7 @@ fn judged_on<'a, F: Files>(
 }
 
 /// `edf`: the program is read and judged, and the script only where its demand is met.
-#[tactic(
-    auto,
-    using(
-        command_answers::proofs::Trying::tried_first,
-        command_answers::proofs::Trying::tried_perhaps,
-        command_answers::proofs::Trying::tried_alone
-    )
-)]
+#[tactic(auto, using(command_answers::proofs::Trying::tried_first, command_answers::proofs::Trying::tried_perhaps, command_answers::proofs::Trying::tried_alone))]
 pub fn prepare_edf<'a, F: Files>(
     alloc: Global,
     program: &str,

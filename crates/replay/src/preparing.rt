@@ -57,14 +57,7 @@ fn log_on<'a, F: Files>(
 }
 
 /// The second third of `replay`: the script for a program, and the log where it is one.
-#[tactic(
-    auto,
-    using(
-        command_answers::proofs::Trying::tried_first,
-        command_answers::proofs::Trying::tried_on,
-        command_answers::proofs::Trying::tried_alone
-    )
-)]
+#[tactic(auto, using(command_answers::proofs::Trying::tried_first, command_answers::proofs::Trying::tried_on, command_answers::proofs::Trying::tried_alone))]
 fn script_on<'a, F: Files>(
     alloc: Global,
     source: &Source,
@@ -99,14 +92,7 @@ fn script_on<'a, F: Files>(
 
 /// `replay`: the program is read and judged, the script only where the program has no fault, and
 /// the log only where the script has none.
-#[tactic(
-    auto,
-    using(
-        command_answers::proofs::Trying::tried_first,
-        command_answers::proofs::Trying::tried_on,
-        command_answers::proofs::Trying::tried_alone
-    )
-)]
+#[tactic(auto, using(command_answers::proofs::Trying::tried_first, command_answers::proofs::Trying::tried_on, command_answers::proofs::Trying::tried_alone))]
 pub fn prepare_replay<'a, F: Files>(
     alloc: Global,
     program: &str,
