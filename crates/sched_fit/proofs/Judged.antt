@@ -6,7 +6,7 @@ use Rattle.sched_response.specs.declared.tasks.Task.{Task}
 use Rattle.sched_response.specs.Demand.{deadline_at}
 use Rattle.sched_slack.specs.Slack.{IsFirstFailing, IsTimely}
 use Rattle.sched_slack.proofs.More.{not_timely}
-use Rattle.sched_fit.specs.declared.fitting.Number.{Number}
+use Rattle.sched_fit.specs.declared.fitting.Varied.{Varied}
 use Rattle.sched_fit.specs.Fit.{with_number, IsGreatestFit}
 use Rattle.sched_fit.proofs.Changed.{falls, within_deadline}
 
@@ -17,11 +17,11 @@ judged ts (Some level) true is none some = absurd (cc)
 judged ts (Some level) false is none some = (λ yes. absurd (cc), λ timely. absurd (not_timely ts level some timely))
 
 -- one more than the deadline does not fit
-pub past_deadline : (number : Number) (ts : List Task) (level x : ℕ) → level < length ts → deadline_at ts level ≤ 1000000000 → x ≡ deadline_at ts level + 1 → ¬ IsTimely (with_number number ts level x)
+pub past_deadline : (number : Varied) (ts : List Task) (level x : ℕ) → level < length ts → deadline_at ts level ≤ 1000000000 → x ≡ deadline_at ts level + 1 → ¬ IsTimely (with_number number ts level x)
 past_deadline number ts level x below low is = λ timely. let within = within_deadline number ts level x below low timely in omega (arith, within, is)
 
 -- the last number before one that does not fit
-pub greatest : (number : Number) (ts : List Task) (level x high : ℕ) → level < length ts → high ≡ x + 1 → IsTimely (with_number number ts level x) → ¬ IsTimely (with_number number ts level high) → IsGreatestFit number ts level x
+pub greatest : (number : Varied) (ts : List Task) (level x high : ℕ) → level < length ts → high ≡ x + 1 → IsTimely (with_number number ts level x) → ¬ IsTimely (with_number number ts level high) → IsGreatestFit number ts level x
 greatest number ts level x high below next fits fails = record {
   fits = fits;
   greatest = λ y timely. elim (cases_lt x y) [

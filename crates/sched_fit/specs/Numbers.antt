@@ -2,9 +2,9 @@
 use Rattle.std.specs.Prelude.{ℕ, List}
 use Rattle.sched_response.specs.declared.tasks.Task.{Task}
 use Rattle.sched_response.specs.Demand.{task_at}
-use Rattle.sched_fit.specs.declared.fitting.Number.{Number}
-use Rattle.sched_fit.specs.declared.fitting.Number.TheVariants.{Cost, Suspension}
+use Rattle.sched_fit.specs.declared.fitting.Varied.{Varied}
+use Rattle.sched_fit.specs.declared.fitting.Varied.TheVariants.{Cost, Suspension}
 
-abbrev pub number_at : Number → List Task → (level : ℕ) → ℕ
+abbrev pub number_at : Varied → List Task → (level : ℕ) → ℕ
 number_at Cost ts level = (task_at ts level).run
 number_at Suspension ts level = (task_at ts level).susp

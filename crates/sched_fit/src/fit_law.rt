@@ -6,21 +6,21 @@ ghost use Rattle.std.specs.Prelude.{◌≡◌, ◌≤◌, ◌<◌, ◌+◌, ◌�
 ghost use Rattle.sched_response.specs.declared.tasks.Task.{Task};
 ghost use Rattle.sched_response.specs.Demand.{task_at, deadline_at};
 ghost use Rattle.sched_slack.specs.Slack.{IsSlack, IsTimely};
-ghost use Rattle.sched_fit.specs.declared.fitting.Number.{Number};
-ghost use Rattle.sched_fit.specs.declared.fitting.Number.TheVariants.{Cost};
+ghost use Rattle.sched_fit.specs.declared.fitting.Varied.{Varied};
+ghost use Rattle.sched_fit.specs.declared.fitting.Varied.TheVariants.{Cost};
 ghost use Rattle.sched_fit.specs.Fit.{with_number, IsFit, IsGreatestFit};
 ghost use Rattle.sched_fit.specs.Numbers.{number_at};
 ghost use Rattle.sched_fit.specs.Overhead.{with_overhead, IsGreatestOverhead, IsOverheadFit};
 
 /// Where a number fits, each smaller one does.
 pub fn less_fits_too()
-    ensures { (number : Number) (ts : List Task) (level x y : ℕ) → level < length ts → x ≤ y →
+    ensures { (number : Varied) (ts : List Task) (level x y : ℕ) → level < length ts → x ≤ y →
         IsTimely (with_number number ts level y) → IsTimely (with_number number ts level x) }
 {}
 
 /// A number that fits is within the deadline of its level, so a search up to there loses nothing.
 pub fn what_fits_is_within_the_deadline()
-    ensures { (number : Number) (ts : List Task) (level x : ℕ) → level < length ts →
+    ensures { (number : Varied) (ts : List Task) (level x : ℕ) → level < length ts →
         deadline_at ts level ≤ 1000000000 → IsTimely (with_number number ts level x) →
         x ≤ deadline_at ts level }
 {}
@@ -28,9 +28,9 @@ pub fn what_fits_is_within_the_deadline()
 /// The tasks are in time as they are exactly where what fits is no less than the number that they
 /// have; where nothing fits they are not.
 pub fn tasks_in_time_have_what_fits()
-    ensures some { (number : Number) (ts : List Task) (level x : ℕ) → level < length ts →
+    ensures some { (number : Varied) (ts : List Task) (level x : ℕ) → level < length ts →
         IsGreatestFit number ts level x → IsTimely ts ↔ (number_at number ts level ≤ x) }
-    ensures none { (number : Number) (ts : List Task) (level : ℕ) → level < length ts →
+    ensures none { (number : Varied) (ts : List Task) (level : ℕ) → level < length ts →
         IsFit number ts level None → ¬ IsTimely ts }
 {}
 

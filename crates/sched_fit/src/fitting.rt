@@ -11,7 +11,7 @@ use std::sync::ledger::Ledger;
 
 /// Which number of a task is changed.
 #[derive(Clone, Copy, Debug, PartialEq, Eq)]
-pub enum Number {
+pub enum Varied {
     /// The ticks that one activation runs.
     Cost,
     /// The ticks for which one activation suspends itself.
@@ -19,26 +19,26 @@ pub enum Number {
 }
 
 /// The number of the level.
-fn number_of(set: &TaskSet, number: Number, level: usize) -> u64
+fn number_of(set: &TaskSet, number: Varied, level: usize) -> u64
     requires { level < length set.now }
     ensures value { result ≡ number_at number set.now level }
     ensures range { result ≤ 1000000001 }
 {
     match number {
-        Number::Cost => set.run(level),
-        Number::Suspension => set.susp(level),
+        Varied::Cost => set.run(level),
+        Varied::Suspension => set.susp(level),
     }
 }
 
 /// Sets the number of the level, and leaves all else as it is.
-fn set_number(set: &mut TaskSet, number: Number, level: usize, ticks: u64)
+fn set_number(set: &mut TaskSet, number: Varied, level: usize, ticks: u64)
     requires level { level < length set.old }
     requires ticks { ticks ≤ 1000000001 }
     ensures { set.new ≡ with_number number set.old level ticks }
 {
     match number {
-        Number::Cost => set.set_run(level, ticks),
-        Number::Suspension => set.set_susp(level, ticks),
+        Varied::Cost => set.set_run(level, ticks),
+        Varied::Suspension => set.set_susp(level, ticks),
     }
 }
 
@@ -46,7 +46,7 @@ fn set_number(set: &mut TaskSet, number: Number, level: usize, ticks: u64)
 /// afterwards as before.
 fn fits<L: Ledger>(
     set: &mut TaskSet,
-    number: Number,
+    number: Varied,
     level: usize,
     ticks: u64,
     steps: &mut Steps<L>,
@@ -67,7 +67,7 @@ fn fits<L: Ledger>(
 /// The greatest number of ticks that fits, where 0 does.
 fn greatest_fit<L: Ledger>(
     set: &mut TaskSet,
-    number: Number,
+    number: Varied,
     level: usize,
     steps: &mut Steps<L>,
 ) -> u64
@@ -99,7 +99,7 @@ fn greatest_fit<L: Ledger>(
 /// afterwards as before.
 pub fn fit<L: Ledger>(
     set: &mut TaskSet,
-    number: Number,
+    number: Varied,
     level: usize,
     steps: &mut Steps<L>,
 ) -> Option<u64>

@@ -13,6 +13,6 @@ mod fitting;
 mod overhead;
 mod uncounted;
 
-pub use fitting::{Number, fit};
+pub use fitting::{Varied, fit};
 pub use overhead::{overhead_fit, with_overhead};
 pub use uncounted::{fit_of, overhead_fit_of};

@@ -5,7 +5,7 @@ ghost use Rattle.sched_response.specs.Demand.{AreTasks};
 ghost use Rattle.sched_fit.specs.Fit.{IsFit};
 ghost use Rattle.sched_fit.specs.Overhead.{IsOverheadFit};
 
-use crate::fitting::{Number, fit};
+use crate::fitting::{Varied, fit};
 use crate::overhead::overhead_fit;
 use sched_response::{Steps, Task, TaskSet};
 use std::alloc::{AllocError, Global};
@@ -16,7 +16,7 @@ use std::sync::ledger::{Blank, Ledger};
 fn with_count<L: Ledger>(
     blank: Blank,
     set: &mut TaskSet,
-    number: Number,
+    number: Varied,
     level: usize,
 ) -> Option<u64>
     requires name { blank.name ≡ L.name }
@@ -31,7 +31,7 @@ fn with_count<L: Ledger>(
 
 /// The greatest number of ticks that can stand in the place of this number of the level while each
 /// level has a bound, and None exactly where 0 cannot. The set is afterwards as before.
-pub fn fit_of(set: &mut TaskSet, number: Number, level: usize) -> Option<u64>
+pub fn fit_of(set: &mut TaskSet, number: Varied, level: usize) -> Option<u64>
     requires { level < length set.old }
     ensures kept { set.new ≡ set.old }
     ensures fit { IsFit number set.old level result }

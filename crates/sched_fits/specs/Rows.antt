@@ -2,7 +2,7 @@
 use Rattle.std.specs.Prelude.{◌≡◌, ◌<◌, ℕ, List, [], Option, Some, None, length, slice_get, slice_index, slice_index_or}
 use Rattle.sched_response.specs.declared.tasks.Task.{Task}
 use Rattle.sched_response.specs.Demand.{task_at}
-use Rattle.sched_fit.specs.declared.fitting.Number.TheVariants.{Cost, Suspension}
+use Rattle.sched_fit.specs.declared.fitting.Varied.TheVariants.{Cost, Suspension}
 use Rattle.sched_fit.specs.Fit.{IsFit}
 use Rattle.sched_fits.specs.declared.rows.SuspensionFit.{SuspensionFit}
 use Rattle.sched_fits.specs.declared.rows.ProcessFit.{ProcessFit}

@@ -4,7 +4,7 @@ ghost use Rattle.std.specs.Prelude.{◌≡◌, ◌<◌, length, All, IfOk};
 ghost use Rattle.sched_fits.specs.Rows.{AreFitsOf, IsFitOf, IsSuspensionOf};
 
 use crate::rows::{ProcessFit, SuspensionFit};
-use sched_fit::{Number, fit_of};
+use sched_fit::{Varied, fit_of};
 use sched_response::TaskSet;
 use std::alloc::{AllocError, Global};
 use syntax_tree::{List, Name};
@@ -20,7 +20,7 @@ fn suspension_fit(set: &mut TaskSet, level: usize) -> Option<SuspensionFit>
         return None;
     }
     let ticks = set.susp(level);
-    let fits = fit_of(set, Number::Suspension, level);
+    let fits = fit_of(set, Varied::Suspension, level);
     Some(SuspensionFit { ticks, fits })
 }
 
@@ -36,7 +36,7 @@ fn process_fit(
     ensures fit { IfOk result (λ fit. IsFitOf set.old level name.now fit) }
 {
     let cost = set.run(level);
-    let cost_fits = fit_of(set, Number::Cost, level);
+    let cost_fits = fit_of(set, Varied::Cost, level);
     let suspension = suspension_fit(set, level);
     let name = Name::new(alloc, name.as_bytes())?;
     Ok(ProcessFit {

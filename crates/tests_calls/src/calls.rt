@@ -59,7 +59,7 @@ pub fn call(
 
 /// What a call has to answer: its status, what it puts, and in how many pieces, where this is told.
 #[derive(Clone, Copy)]
-pub struct Answer<'a> {
+pub struct Expected<'a> {
     pub status: u8,
     pub put: &'a str,
     pub puts: Option<u64>,
@@ -71,7 +71,7 @@ pub fn answers(
     line: &str,
     program: &[u8],
     script: Option<&str>,
-    want: Answer<'_>,
+    want: Expected<'_>,
 ) -> Result<(), Fail> {
     answers_with(alloc, line, program, script, NO_FAILURES, want)
 }
@@ -83,7 +83,7 @@ pub fn answers_with(
     program: &[u8],
     script: Option<&str>,
     failures: Failures,
-    want: Answer<'_>,
+    want: Expected<'_>,
 ) -> Result<(), Fail> {
     call_with(alloc, line, program, script, failures)?.answered(alloc, line, want)
 }
@@ -94,7 +94,7 @@ pub fn answers_on_image(
     line: &str,
     image: &[u8],
     script: &str,
-    want: Answer<'_>,
+    want: Expected<'_>,
 ) -> Result<(), Fail> {
     call_on_image(alloc, line, image, script)?.answered(alloc, line, want)
 }
@@ -194,7 +194,7 @@ fn holds(file: &Option<Vec<u8>>, want: Option<&[u8]>) -> bool {
 
 impl CallResult {
     /// Fails where the call has another answer, and tells it.
-    pub fn answered(&self, alloc: Global, line: &str, want: Answer<'_>) -> Result<(), Fail> {
+    pub fn answered(&self, alloc: Global, line: &str, want: Expected<'_>) -> Result<(), Fail> {
         let pieces = want.puts.unwrap_or(self.puts);
         let put = self.put.as_slice();
         if self.status == want.status && put == want.put.as_bytes() && self.puts == pieces {

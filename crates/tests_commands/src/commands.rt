@@ -2,7 +2,7 @@
 
 use std::alloc::Global;
 use std::test::Fail;
-use tests_calls::{Answer, Failures, NO_FAILURES, VALVE, answers, call_with};
+use tests_calls::{Expected, Failures, NO_FAILURES, VALVE, answers, call_with};
 
 /// The valve with a comment and other blanks, and numbers with leading zeros.
 const COMMENTED: &str =
@@ -70,7 +70,7 @@ fn goes_whole(rt: HostRuntime) -> Result<(), Fail> {
     ];
     for (program, script, status, report, log, pieces) in rows {
         let put = format!(in alloc; "{report}{log}")?;
-        let want = Answer {
+        let want = Expected {
             status,
             put: put.as_str(),
             puts: Some(pieces),
@@ -110,7 +110,7 @@ fn checks_and_prints(rt: HostRuntime) -> Result<(), Fail> {
         ("go P I S 01", VALVE, 1, "usage\n"),
     ];
     for (line, program, status, put) in rows {
-        let want = Answer {
+        let want = Expected {
             status,
             put,
             puts: Some(1),
@@ -167,7 +167,7 @@ fn fails_at_each_step(rt: HostRuntime) -> Result<(), Fail> {
     for (failures, status, put, stores) in rows {
         stops_at(alloc, failures, status, put, stores)?;
     }
-    let missing = Answer {
+    let missing = Expected {
         status: 6,
         put: "",
         puts: Some(0),
@@ -186,7 +186,7 @@ fn filled(alloc: Global, byte: u8) -> Result<Vec<u8>, Fail> {
 
 /// What `print` answers to a text that is none, put as one piece.
 fn is_refused(alloc: Global, text: &[u8], put: &str) -> Result<(), Fail> {
-    let want = Answer {
+    let want = Expected {
         status: 2,
         put,
         puts: Some(1),

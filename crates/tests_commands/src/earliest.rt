@@ -2,7 +2,7 @@
 
 use std::alloc::Global;
 use std::test::Fail;
-use tests_calls::{Answer, Failures, answers, answers_with, lines};
+use tests_calls::{Expected, Failures, answers, answers_with, lines};
 
 /// Two processes that meet their deadlines by this dispatch, and not by ranks.
 const TWO: &str =
@@ -85,7 +85,7 @@ fn earliest_deadlines(rt: HostRuntime) -> Result<(), Fail> {
     for row in ROWS {
         let script = lines(alloc, row.script)?;
         let put = lines(alloc, row.put)?;
-        let want = Answer {
+        let want = Expected {
             status: row.status,
             put: put.as_str(),
             puts: None,
@@ -147,7 +147,7 @@ fn devices_fail_by_deadlines(rt: HostRuntime) -> Result<(), Fail> {
     let alloc = rt.alloc();
     let report = lines(alloc, TWO_REPORT)?;
     for (failures, status, is_put) in FAILED {
-        let want = Answer {
+        let want = Expected {
             status: *status,
             put: if *is_put { report.as_str() } else { "" },
             puts: None,

@@ -1,7 +1,7 @@
 //! The machine at a stop.
 
 use std::test::Fail;
-use tests_calls::{Answer, VALVE, answers_on_image, image_of, lines};
+use tests_calls::{Expected, VALVE, answers_on_image, image_of, lines};
 
 /// A counter in a monitor, and a process that holds two others up. Its code begins with ENTER, LDM,
 /// PUSH, ADD, STM, LEAVE and RET of the entry; CALL and END of l are at 7, those of u at 9.
@@ -132,7 +132,7 @@ fn stops_are_told(rt: HostRuntime) -> Result<(), Fail> {
     for stop in STOPS {
         let image = image_of(alloc, stop.compile, stop.program.as_bytes(), None)?;
         let put = lines(alloc, stop.put)?;
-        let want = Answer {
+        let want = Expected {
             status: 0,
             put: put.as_str(),
             puts: Some(1),

@@ -2,7 +2,7 @@
 
 use std::alloc::Global;
 use std::test::Fail;
-use tests_calls::{Answer, answers};
+use tests_calls::{Expected, answers};
 
 /// Words of each command; no file that they name is there.
 const COMMANDS: &[&str] = &[
@@ -79,7 +79,7 @@ const OTHERS: &[&str] = &[
 ];
 
 /// Each line has this answer, where no file is there.
-fn have_answer(alloc: Global, rows: &[&str], want: Answer<'_>) -> Result<(), Fail> {
+fn have_answer(alloc: Global, rows: &[&str], want: Expected<'_>) -> Result<(), Fail> {
     for line in rows {
         answers(alloc, line, b"", None, want)?;
     }
@@ -88,7 +88,7 @@ fn have_answer(alloc: Global, rows: &[&str], want: Answer<'_>) -> Result<(), Fai
 
 #[test]
 fn words_of_commands_are_read(rt: HostRuntime) -> Result<(), Fail> {
-    let unread = Answer {
+    let unread = Expected {
         status: 6,
         put: "",
         puts: None,
@@ -98,7 +98,7 @@ fn words_of_commands_are_read(rt: HostRuntime) -> Result<(), Fail> {
 
 #[test]
 fn other_words_are_refused(rt: HostRuntime) -> Result<(), Fail> {
-    let usage = Answer {
+    let usage = Expected {
         status: 1,
         put: "usage\n",
         puts: None,

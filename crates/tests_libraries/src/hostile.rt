@@ -3,7 +3,7 @@
 use std::alloc::Global;
 use std::test::Fail;
 use tests_calls::{
-    Answer, IDLE_FIRST, IDLE_SECOND, Left, answers_on_image, call_on_image, with_byte,
+    Expected, IDLE_FIRST, IDLE_SECOND, Left, answers_on_image, call_on_image, with_byte,
 };
 
 const SCRIPT: &str = "end 10\n";
@@ -108,7 +108,7 @@ fn refuses(alloc: Global, image: &[u8], fault: &str) -> Result<(), Fail> {
 
 /// The image over the script puts this log.
 fn runs(alloc: Global, image: &[u8], script: &str, put: &str) -> Result<(), Fail> {
-    let want = Answer {
+    let want = Expected {
         status: 0,
         put,
         puts: None,
@@ -368,7 +368,7 @@ fn longer_than_an_image_may_be(rt: HostRuntime) -> Result<(), Fail> {
         image.push(0x52)?;
     }
     for fault in ["I1 0\n", "I9 8388608\n"] {
-        let want = Answer {
+        let want = Expected {
             status: 4,
             put: fault,
             puts: None,

@@ -3,7 +3,7 @@
 use std::alloc::Global;
 use std::test::Fail;
 use tests_calls::{
-    Answer, IDLE_FIRST, IDLE_SECOND, Left, VALVE, answers_on_image, call_on_image, image_of,
+    Expected, IDLE_FIRST, IDLE_SECOND, Left, VALVE, answers_on_image, call_on_image, image_of,
     with_byte,
 };
 
@@ -16,7 +16,7 @@ fn has_answer(
     status: u8,
     put: &str,
 ) -> Result<(), Fail> {
-    let want = Answer {
+    let want = Expected {
         status,
         put,
         puts: None,

@@ -2,7 +2,7 @@
 
 use std::alloc::Global;
 use std::test::Fail;
-use tests_calls::{Answer, answers, lines};
+use tests_calls::{Expected, answers, lines};
 
 /// So many processes that do nothing, all released at tick 0.
 fn idle_processes(alloc: Global, count: u64, frame: u64) -> Result<String, Fail> {
@@ -55,7 +55,7 @@ fn all_released_at_one_tick(rt: HostRuntime) -> Result<(), Fail> {
         let line = format!(in alloc; "{} p{k} end\n", 4 * k + 3)?;
         want.push_str(line.as_str())?;
     }
-    let answer = Answer {
+    let answer = Expected {
         status: 0,
         put: want.as_str(),
         puts: Some(129),
@@ -72,7 +72,7 @@ fn all_released_at_one_tick(rt: HostRuntime) -> Result<(), Fail> {
 /// So many idle processes of a frame have this answer.
 fn idle_answers(alloc: Global, count: u64, frame: u64, status: u8, put: &str) -> Result<(), Fail> {
     let program = idle_processes(alloc, count, frame)?;
-    let answer = Answer {
+    let answer = Expected {
         status,
         put,
         puts: None,
@@ -142,7 +142,7 @@ fn all_events_at_one_tick(rt: HostRuntime) -> Result<(), Fail> {
     let script = all_at_once(alloc)?;
     let mut want = report_of_equals(alloc, 960, 15, 64, "code 192\ntimely\n")?;
     log_all_at_once(alloc, &mut want)?;
-    let answer = Answer {
+    let answer = Expected {
         status: 0,
         put: want.as_str(),
         puts: Some(193),
@@ -263,7 +263,7 @@ fn chain_answers(alloc: Global, row: &Chain, order: Order) -> Result<(), Fail> {
     } else {
         "end 1\n"
     };
-    let answer = Answer {
+    let answer = Expected {
         status: row.status,
         put: want.as_str(),
         puts: None,
@@ -289,7 +289,7 @@ fn chains_that_are_too_long(rt: HostRuntime) -> Result<(), Fail> {
     let alloc = rt.alloc();
     for &(routines, calls, fault) in TOO_LONG {
         let program = chain_text(alloc, Order::CalledFirst, routines, calls, 1_000_000_000)?;
-        let answer = Answer {
+        let answer = Expected {
             status: 2,
             put: fault,
             puts: None,
@@ -341,7 +341,7 @@ fn loops_of_a_million_turns(rt: HostRuntime) -> Result<(), Fail> {
     for &(depth, status, bars) in LOOPS {
         let program = nested_loops(alloc, depth)?;
         let want = lines(alloc, bars)?;
-        let answer = Answer {
+        let answer = Expected {
             status,
             put: want.as_str(),
             puts: None,

@@ -4,7 +4,7 @@
 use std::alloc::Global;
 use std::test::Fail;
 use tests_calls::{
-    Answer, CallResult, Failures, Left, NO_FAILURES, answers, call, call_with, put_of,
+    CallResult, Expected, Failures, Left, NO_FAILURES, answers, call, call_with, put_of,
 };
 
 /// The words, and how the line begins that is put.
@@ -53,14 +53,14 @@ fn is_load(alloc: Global, line: &str, front: &str, made: &CallResult) -> Result<
     let program = text_of(&made.program);
     let script = str::from_utf8(text_of(&made.script))?;
     let put = load_line(alloc, front, program, script)?;
-    let want = Answer {
+    let want = Expected {
         status: 0,
         put: put.as_str(),
         puts: Some(1),
     };
     made.answered(alloc, line, want)?;
     answers(alloc, line, b"", None, want)?;
-    let printed = Answer {
+    let printed = Expected {
         put: str::from_utf8(program)?,
         ..want
     };

@@ -3,7 +3,7 @@
 use std::alloc::Global;
 use std::test::Fail;
 use tests_calls::{
-    Answer, CallResult, GoCase, NO_FAILURES, ROWS, VALVE, call_beside, call_on_image, image_of,
+    CallResult, Expected, GoCase, NO_FAILURES, ROWS, VALVE, call_beside, call_on_image, image_of,
     lines,
 };
 
@@ -98,7 +98,7 @@ fn is_judged(
     program: &str,
     script: &str,
     log: &[u8],
-    want: Answer<'_>,
+    want: Expected<'_>,
 ) -> Result<(), Fail> {
     replayed(alloc, program, script, log)?.answered(alloc, "replay P S L", want)
 }
@@ -106,7 +106,7 @@ fn is_judged(
 #[test]
 fn logs_are_judged(rt: HostRuntime) -> Result<(), Fail> {
     for row in RECORDED {
-        let want = Answer {
+        let want = Expected {
             status: row.status,
             put: row.put,
             puts: Some(1),
@@ -139,7 +139,7 @@ fn is_run(alloc: Global, row: &GoCase) -> Result<(), Fail> {
     let script = lines(alloc, row.script)?;
     let log = worked_log(alloc, row, script.as_str())?;
     let put = format!(in alloc; "run {}\n", count(log.as_slice()))?;
-    let want = Answer {
+    let want = Expected {
         status: 0,
         put: put.as_str(),
         puts: None,

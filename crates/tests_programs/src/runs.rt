@@ -2,7 +2,7 @@
 
 use std::alloc::Global;
 use std::test::Fail;
-use tests_calls::{Answer, answers, image_of};
+use tests_calls::{Expected, answers, image_of};
 
 const IDLE: &str = "program a process p : periodic frame 10 begin end p end a";
 
@@ -73,7 +73,7 @@ fn logs_each_event_of_a_long_run(rt: HostRuntime) -> Result<(), Fail> {
     }
     let program = long_program(alloc)?;
     let script = format!(in alloc; "end {}\n", ACTIVATIONS * FRAME)?;
-    let answer = Answer {
+    let answer = Expected {
         status: 0,
         put: want.as_str(),
         puts: Some(1 + ACTIVATIONS * (PUTS + 2)),

@@ -4,7 +4,7 @@
 
 use std::alloc::Global;
 use std::test::Fail;
-use tests_calls::{Answer, CallResult, answers, call};
+use tests_calls::{CallResult, Expected, answers, call};
 
 /// What stands before and behind the text of a row.
 struct Around {
@@ -447,7 +447,7 @@ fn has_answer(alloc: Global, text: &str, answer: &str) -> Result<(), Fail> {
         };
     }
     let line = format!(in alloc; "{answer}\n")?;
-    let want = Answer {
+    let want = Expected {
         status: 2,
         put: line.as_str(),
         puts: Some(1),

@@ -3,7 +3,7 @@
 use std::alloc::Global;
 use std::test::Fail;
 use tests_calls::{
-    Answer, CallResult, MINE, MINE_LOG, MINE_REPORT, Put, ROWS, answers, call, lines,
+    CallResult, Expected, MINE, MINE_LOG, MINE_REPORT, Put, ROWS, answers, call, lines,
 };
 
 /// What is put behind the report of a timely program.
@@ -76,7 +76,7 @@ fn as_long_as_may_be(rt: HostRuntime) -> Result<(), Fail> {
     for (puts, status, bars) in rows {
         let program = many_puts(alloc, puts)?;
         let want = lines(alloc, bars)?;
-        let answer = Answer {
+        let answer = Expected {
             status,
             put: want.as_str(),
             puts: None,
