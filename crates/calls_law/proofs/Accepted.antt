@@ -9,6 +9,7 @@ use Rattle.syntax_tree.specs.Placed.{plain}
 use Rattle.event_log.specs.Logs.{IsLog, longest_text}
 use Rattle.built_image.specs.Named.{names_of}
 use Rattle.built_stored_law.specs.Stored.{BuiltImagesAreHeld}
+use Rattle.built_tasks_law.specs.Judged.{BoundsAreOfTheText, BuiltIsInTime}
 use Rattle.command.specs.Due.{lines_in}
 use Rattle.command_due.specs.Source.{IsTimelyText, Style, report_of}
 use Rattle.command_due.specs.CommandsDue.{IsCompileDue, IsGoDue, IsMigrateDue, IsRefused, IsReportDue, IsRunDue, IsScriptFault, Outcome, bad_script, compile_refused, compiled, done, faulty, go_bad_script, go_refused, late, log, migrated, ran, report_refused, report_timely, run_bad_script, stored, told, went}
@@ -203,20 +204,27 @@ compile_then_migrate law one over program report image low compiling =
 
 -- ---- `replay` of the log
 
-accepted : BuiltImagesAreFaithful → (over : ℕ) (program : List ℕ) (n : NamedImage) → (t : IsTimelyText over program n) → IsAccepted over (Some program) t.tree n
-accepted law over program n t = record {
+-- the laws of what is built
+pub record Building : Type 0 where
+  pub faithful : BuiltImagesAreFaithful
+  pub in_time : BuiltIsInTime
+  pub bounds : BoundsAreOfTheText
+
+accepted : Building → (over : ℕ) (program : List ℕ) (n : NamedImage) → (t : IsTimelyText over program n) → IsAccepted over (Some program) t.tree n
+accepted laws over program n t = record {
   text = program;
   is_held = refl;
   written = t.written;
-  timely = record { image = n.image; shaped = t.built.shaped; each = λ k p at. (p.bound, (t.built.bounds k p at).solves) };
+  in_time = (laws.in_time t.tree over n t.written.program.checked t.written.fits t.built).is;
   built = t.built;
-  faithful = law program t.tree over n t.written t.built;
+  bounds = laws.bounds t.tree over n t.written.program.checked t.written.fits t.built;
+  faithful = laws.faithful program t.tree over n t.written t.built;
 }
 
-pub go_then_replay : TimelyTextsHaveOneImage → BuiltImagesAreFaithful → LogsOfRunsAreLogs → LogsOfAcceptedProgramsAreRuns → ReplayIsOne → GoThenReplayCounts
-go_then_replay once faithful logs runs one over program script report shown image g short =
+pub go_then_replay : TimelyTextsHaveOneImage → Building → LogsOfRunsAreLogs → LogsOfAcceptedProgramsAreRuns → ReplayIsOne → GoThenReplayCounts
+go_then_replay once building logs runs one over program script report shown image g short =
     let r = ran_is once over program script report shown image g in
-    let a = accepted faithful over program r.n r.timely in
+    let a = accepted building over program r.n r.timely in
     let few : length (log r.n r.lines r.end) ≤ longest_text = subst (λ (x : List ℕ). length x ≤ longest_text) r.log_is short in
     let due : IsReplayDue (Some program) (Some script) (Some shown) (told 0 (run_line (length (run_events r.n r.lines r.end)))) =
     runs over (Some program) (Some script) (Some shown) r.timely.tree r.n r.lines r.end (record {

@@ -8,6 +8,7 @@
 ghost use Rattle.calls_law.specs.Accepted.{CompileIsGo, CompileThenMigrateKeeps, CompileThenRunPutsTheFault, CompileThenRunPutsTheLog, GoIsCheckAndLog, GoThenMigrateKeeps, GoThenReplayCounts, GoThenRunPutsTheLog};
 
 use built_stored_law::stored_programs::built_images_are_held;
+use built_tasks_law::judged_by_text::{bounds_are_of_the_text, built_is_in_time};
 use command_due_law::one_answer::{
     compile_is_one, migrate_is_one, run_is_one, timely_texts_have_one_image,
 };
@@ -80,6 +81,8 @@ pub fn go_then_replay_counts()
 {
     timely_texts_have_one_image();
     built_images_are_faithful();
+    built_is_in_time();
+    bounds_are_of_the_text();
     logs_of_runs_are_logs();
     logs_of_accepted_programs_are_runs();
     replay_is_one();
