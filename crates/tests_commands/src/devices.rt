@@ -175,20 +175,21 @@ fn stored_in<'a>(name: &str, stored: Option<&str>, image: &'a [u8]) -> Option<&'
     }
 }
 
-/// One row of a call, where `first` is the image in K and `second` the one that is due.
-fn device_fails(
+/// One row of a call, where `first` is the image in K, `second` the one that is due, and `put` what is
+/// put.
+fn fails_so<'x>(
     alloc: Global,
-    due: &Due,
+    due: &'x Due,
     row: &Row,
     first: &[u8],
-    second: &[u8],
+    second: &'x [u8],
+    put: &'x str,
 ) -> Result<(), Fail> {
-    let (device, status, count, stores) = *row;
-    let put = first_lines(alloc, due.text, count)?;
+    let (device, status, _, stores) = *row;
     let stored = if stores { due.target } else { None };
     let want = Left {
         status,
-        put: put.as_str(),
+        put,
         program: Some(VALVE.as_bytes()),
         script: Some(SCRIPT.as_bytes()),
         image: stored_in("I", stored, second),
@@ -196,6 +197,18 @@ fn device_fails(
     };
     let failures = failures_of(device);
     call_beside(alloc, due.line, VALVE, SCRIPT, "K", first, failures)?.left(due.line, &want)
+}
+
+/// The same: the first lines of the text are put, as many as the row says.
+fn device_fails(
+    alloc: Global,
+    due: &Due,
+    row: &Row,
+    first: &[u8],
+    second: &[u8],
+) -> Result<(), Fail> {
+    let put = first_lines(alloc, due.text, row.2)?;
+    fails_so(alloc, due, row, first, second, put.as_str())
 }
 
 /// P holds the program, S the script and K an image of the first version; I and J are missing.
@@ -328,7 +341,12 @@ fn kept<'a>(name: &str, before: &'a [u8], changed: Option<&str>, image: &'a [u8]
 }
 
 /// One such call, where `first` is the image in I and `second` the one that is due.
-fn name_one_file(alloc: Global, row: &OneFile, first: &[u8], second: &[u8]) -> Result<(), Fail> {
+fn name_one_file<'x>(
+    alloc: Global,
+    row: &'x OneFile,
+    first: &'x [u8],
+    second: &'x [u8],
+) -> Result<(), Fail> {
     let (line, device, status, put, changed) = *row;
     let want = Left {
         status,
