@@ -91,12 +91,11 @@ const SECOND_CHANGED: &[Changed] = &[
     (103, 1, "I7 100"),
 ];
 
-/// Both `run` and `migrate` refuse the image with this line; no file changes.
-fn refuses(alloc: Global, image: &[u8], fault: &str) -> Result<(), Fail> {
-    let line = format!(in alloc; "{fault}\n")?;
+/// Both `run` and `migrate` put this line of the image; no file changes.
+fn refuses_with<'x>(alloc: Global, image: &'x [u8], line: &'x str) -> Result<(), Fail> {
     let want = Left {
         status: 4,
-        put: line.as_str(),
+        put: line,
         program: None,
         script: Some(SCRIPT.as_bytes()),
         image: Some(image),
@@ -104,6 +103,12 @@ fn refuses(alloc: Global, image: &[u8], fault: &str) -> Result<(), Fail> {
     };
     call_on_image(alloc, "run I S", image, SCRIPT)?.left("run I S", &want)?;
     call_on_image(alloc, "migrate I J", image, SCRIPT)?.left("migrate I J", &want)
+}
+
+/// Both refuse the image with this fault.
+fn refuses(alloc: Global, image: &[u8], fault: &str) -> Result<(), Fail> {
+    let line = format!(in alloc; "{fault}\n")?;
+    refuses_with(alloc, image, line.as_str())
 }
 
 /// The image over the script puts this log.

@@ -18,7 +18,7 @@ const VALVE_TEXT: &str =
     "image a overhead 0\ndevice valve out\nprocess p periodic frame 15 deadline 15 first 0 rank 1 run 15 suspend 0 waits 0 block 0 bound 15 data 0 stack 1 locals 0 start 0\ntree line 2\nPUSH 7\nOUT 0\nEND\nend\n";
 
 /// `asm P I` stores the image of the text.
-fn is_assembled(alloc: Global, text: &[u8], image: &[u8]) -> Result<(), Fail> {
+fn is_assembled<'x>(alloc: Global, text: &'x [u8], image: &'x [u8]) -> Result<(), Fail> {
     let want = Left {
         status: 0,
         put: "",
@@ -96,10 +96,8 @@ const FAULTY: &[(&str, &str, &str)] = &[
     ("process p", "event e\nprocess p", "A2 5\n"),
 ];
 
-/// The smallest text with other words in the place of some is refused with this line, and no image
-/// is stored.
-fn is_refused(alloc: Global, right: &str, wrong: &str, put: &str) -> Result<(), Fail> {
-    let text = IDLE_TEXT.replace(alloc, right, wrong)?;
+/// The text is refused with this line, and no image is stored.
+fn is_refused_with<'x>(alloc: Global, text: &'x str, put: &'x str) -> Result<(), Fail> {
     let want = Left {
         status: 4,
         put,
@@ -108,7 +106,13 @@ fn is_refused(alloc: Global, right: &str, wrong: &str, put: &str) -> Result<(), 
         image: None,
         migrated: None,
     };
-    call(alloc, "asm P I", text.as_bytes(), None)?.left(wrong, &want)
+    call(alloc, "asm P I", text.as_bytes(), None)?.left(put, &want)
+}
+
+/// So is the smallest text with other words in the place of some.
+fn is_refused(alloc: Global, right: &str, wrong: &str, put: &str) -> Result<(), Fail> {
+    let text = IDLE_TEXT.replace(alloc, right, wrong)?;
+    is_refused_with(alloc, text.as_str(), put)
 }
 
 #[test]

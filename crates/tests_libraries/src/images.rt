@@ -74,21 +74,26 @@ fn an_overhead_is_part_of_the_image(rt: HostRuntime) -> Result<(), Fail> {
     )
 }
 
+/// `migrate` of the first image stores the second.
+fn migrates<'x>(alloc: Global, first: &'x [u8], second: &'x [u8]) -> Result<(), Fail> {
+    let want = Left {
+        status: 0,
+        put: "",
+        program: None,
+        script: Some(b""),
+        image: Some(first),
+        migrated: Some(second),
+    };
+    call_on_image(alloc, "migrate I J", first, "")?.left("migrate I J", &want)
+}
+
 #[test]
 fn migrates_the_first_version(rt: HostRuntime) -> Result<(), Fail> {
     let alloc = rt.alloc();
     let first = hex::decode(alloc, IDLE_FIRST)?;
     let second = hex::decode(alloc, IDLE_SECOND)?;
     assert_eq!(rt; first.len(), 98);
-    let want = Left {
-        status: 0,
-        put: "",
-        program: None,
-        script: Some(b""),
-        image: Some(first.as_slice()),
-        migrated: Some(second.as_slice()),
-    };
-    call_on_image(alloc, "migrate I J", first.as_slice(), "")?.left("migrate I J", &want)
+    migrates(alloc, first.as_slice(), second.as_slice())
 }
 
 #[test]

@@ -111,8 +111,9 @@ fn putting_processes(alloc: Global) -> Result<String, Fail> {
 /// The script: all events occur at tick 5, the last one first.
 fn all_at_once(alloc: Global) -> Result<String, Fail> {
     let mut script = String::new(alloc);
-    for k in 0..64 {
-        let line = format!(in alloc; "5 event e{}\n", 63 - k)?;
+    for k in 0_u64..64 {
+        let number = 63 - k;
+        let line = format!(in alloc; "5 event e{number}\n")?;
         script.push_str(line.as_str())?;
     }
     script.push_str("end 965\n")?;
@@ -121,8 +122,9 @@ fn all_at_once(alloc: Global) -> Result<String, Fail> {
 
 /// Its log.
 fn log_all_at_once(alloc: Global, log: &mut String) -> Result<(), Fail> {
-    for k in 0..64 {
-        let release = format!(in alloc; "5 p{} release\n", 63 - k)?;
+    for k in 0_u64..64 {
+        let number = 63 - k;
+        let release = format!(in alloc; "5 p{number} release\n")?;
         log.push_str(release.as_str())?;
     }
     for k in 0_u64..64 {

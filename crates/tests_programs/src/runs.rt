@@ -57,10 +57,12 @@ fn log_activation(alloc: Global, log: &mut String, start: u64) -> Result<(), Fai
     let release = format!(in alloc; "{start} p release\n")?;
     log.push_str(release.as_str())?;
     for value in 0..PUTS {
-        let line = format!(in alloc; "{} p put d {value}\n", start + 11 * value + 10)?;
+        let tick = start.saturating_add(11 * value + 10);
+        let line = format!(in alloc; "{tick} p put d {value}\n")?;
         log.push_str(line.as_str())?;
     }
-    let end = format!(in alloc; "{} p end\n", start + 11 * PUTS + 3)?;
+    let last = start.saturating_add(11 * PUTS + 3);
+    let end = format!(in alloc; "{last} p end\n")?;
     Ok(log.push_str(end.as_str())?)
 }
 

@@ -466,20 +466,13 @@ fn have_answers(alloc: Global, around: &Around, rows: &[(&str, &str)]) -> Result
     Ok(())
 }
 
-/// The tables, and what stands around their rows.
-const TABLES: &[(&Around, &[(&str, &str)])] = &[
-    (&NOTHING, TEXTS),
-    (&ASSIGNED, OPEN_TEXTS),
-    (&NOTHING, WHOLE),
-    (&IDLE, DECLARATIONS),
-    (&PROCESS, STATEMENTS),
-    (&ENTRY, ENTRY_STATEMENTS),
-];
-
 #[test]
 fn texts_have_their_answers(rt: HostRuntime) -> Result<(), Fail> {
-    for &(around, rows) in TABLES {
-        have_answers(rt.alloc(), around, rows)?;
-    }
-    Ok(())
+    let alloc = rt.alloc();
+    have_answers(alloc, &NOTHING, TEXTS)?;
+    have_answers(alloc, &ASSIGNED, OPEN_TEXTS)?;
+    have_answers(alloc, &NOTHING, WHOLE)?;
+    have_answers(alloc, &IDLE, DECLARATIONS)?;
+    have_answers(alloc, &PROCESS, STATEMENTS)?;
+    have_answers(alloc, &ENTRY, ENTRY_STATEMENTS)
 }
