@@ -8,7 +8,7 @@
 #   events     6 million log lines of one process
 #   processes  64 processes with 3 million log lines
 #   replay     those 3 million lines, 60 MB, judged by the program
-#   judged     the 6 million lines of one process, judged by the program
+#   judged     3 million log lines of one process, 58 MB of the 64 that a log may have, judged by the program
 #   beside     1,200 log lines, judged beside a script of 100,000 lines
 #   besiderun  the run that put those 1,200 lines
 #   script     1,000,000 lines of a script
@@ -60,8 +60,9 @@ echo 'end 280000000' > script
 measure loops 0.58 go loops image4 script
 echo 'end 39000000' > script
 measure events 0.36 go events image5 script
+echo 'end 19500000' > script
 "$rte" run image5 script > log
-measure judged 0.8 replay events script log
+measure judged 0.4 replay events script log
 echo 'end 15000000' > script
 measure processes 0.67 go processes image6 script
 "$rte" run image6 script > log
