@@ -41,7 +41,8 @@ def place(name, room):
 def main():
     folder = sys.argv[1].rstrip("/")
     rows = int(sys.argv[2]) if len(sys.argv) > 2 else 30
-    found = modules(f"{folder}/out/incremental" if os.path.isdir(f"{folder}/out/incremental") else folder)
+    kept = [it for it in (f"{folder}/out/kept", f"{folder}/out/incremental") if os.path.isdir(it)]
+    found = modules(kept[0] if kept else folder)
     if not found:
         sys.exit(f"{folder}: nothing is kept there; run `rt check` first")
     room = os.path.basename(folder)
