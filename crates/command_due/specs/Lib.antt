@@ -15,3 +15,5 @@ pub mod Tasks
 pub mod Waits
 pub mod Report
 pub mod EdfDue
+pub mod WhyDue
+pub mod FitDue
