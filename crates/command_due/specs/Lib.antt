@@ -9,6 +9,7 @@ pub mod Lines
 pub mod SpareDue
 pub mod Texts
 pub mod AsmDue
+pub mod TableDue
 pub mod ReplayDue
 pub mod Image
 pub mod Tasks

@@ -7,6 +7,6 @@
 //!
 //! Of the other commands: `SpareDue` with `Lines` (`slack`), `AsmDue` with `Texts` (`asm`, `dis`),
 //! `StopDue` with `Stops` and `Text` (`watch`), `ReplayDue` (`replay`), `EdfDue` with `Image`,
-//! `Tasks`, `Waits` and `Report` (`edf`). `make` reads no file: `command`. The definitions alone
-//! stand here.
+//! `Tasks`, `Waits` and `Report` (`edf`), `TableDue` (`table`). `make` reads no file: `command`. The
+//! definitions alone stand here.
 #![tactic(auto)]
