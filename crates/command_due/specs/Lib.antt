@@ -10,6 +10,7 @@ pub mod SpareDue
 pub mod Texts
 pub mod AsmDue
 pub mod TableDue
+pub mod ChartDue
 pub mod ReplayDue
 pub mod Image
 pub mod Tasks
