@@ -6,7 +6,7 @@
 //! `run` and `migrate`; `specs/Runs.antt` what holds of every run of an image that is stored.
 //!
 //! Of the other commands: `SpareDue` with `Lines` (`slack`), `AsmDue` with `Texts` (`asm`, `dis`),
-//! `StopDue` with `Stops` and `Text` (`watch`), `ReplayDue` (`replay`), `EdfDue` with `Image`,
-//! `Tasks`, `Waits` and `Report` (`edf`). `make` reads no file: `command`. The definitions alone
-//! stand here.
+//! `StopDue` with `Stops` and `Text` (`watch`), `ChartDue` (`chart`, whose text is that of
+//! `run_chart`), `ReplayDue` (`replay`), `EdfDue` with `Image`, `Tasks`, `Waits` and `Report`
+//! (`edf`). `make` reads no file: `command`. The definitions alone stand here.
 #![tactic(auto)]
