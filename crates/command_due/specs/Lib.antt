@@ -5,6 +5,7 @@ pub mod Runs
 pub mod Stops
 pub mod Text
 pub mod StopDue
+pub mod ChartDue
 pub mod Lines
 pub mod SpareDue
 pub mod Texts
