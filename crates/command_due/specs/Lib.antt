@@ -11,7 +11,6 @@ pub mod SpareDue
 pub mod Texts
 pub mod AsmDue
 pub mod TableDue
-pub mod ChartDue
 pub mod ReplayDue
 pub mod Image
 pub mod Tasks
