@@ -1,0 +1,5 @@
+mod Words
+mod Numbers
+mod Lines
+mod Begun
+mod Once

@@ -1,0 +1,13 @@
+//! The laws. These functions do nothing; their contracts are the laws.
+
+ghost use Rattle.table_once_law.specs.Once.{TablesAreOne, TablesHaveNoFault};
+
+/// A text is that of one table.
+pub fn tables_are_one()
+    ensures { TablesAreOne }
+{}
+
+/// A text that is that of a table has no fault.
+pub fn tables_have_no_fault()
+    ensures { TablesHaveNoFault }
+{}
