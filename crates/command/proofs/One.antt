@@ -18,9 +18,8 @@ use Rattle.command_due.specs.EdfDue.{IsEdfDue, edf_faulty, edf_waits, edf_unfit,
 use Rattle.command_due.specs.WhyDue.{IsWhyDue, why_faulty, why_late, why_in_time}
 use Rattle.command_due.specs.FitDue.{IsFitDue, fit_faulty, fitted}
 use Rattle.command_due.specs.ChartDue.{IsChartDue, chart_refused, chart_bad_script, charted}
-use Rattle.command_due.specs.TableDue.{IsTableDue, table_faulty, tabled}
-use Rattle.table_once_law.specs.Once.{TablesHaveNoFault}
-use Rattle.command_due_law.specs.DueOnce.{ReportsAreOne, SlackIsOne, PrintIsOne, CompileIsOne, GoIsOne, RunIsOne, MigrateIsOne, AsmIsOne, DisIsOne, WatchIsOne}
+use Rattle.command_due.specs.TableDue.{IsTableDue}
+use Rattle.command_due_law.specs.DueOnce.{ReportsAreOne, SlackIsOne, PrintIsOne, CompileIsOne, GoIsOne, RunIsOne, MigrateIsOne, AsmIsOne, DisIsOne, WatchIsOne, TableIsOne}
 use Rattle.command_answers.specs.Files.{Held, IsDue, target_of}
 use Rattle.command_answers.specs.Went.{Stores, IsWhole, IsCut, Went}
 
@@ -36,7 +35,7 @@ pub record Laws : Type 0 where
   pub asm : AsmIsOne
   pub dis : DisIsOne
   pub watch : WatchIsOne
-  pub table : TablesHaveNoFault
+  pub table : TableIsOne
 
 of_held : (Due : List ℕ → Outcome → Type 0) (held : Option (List ℕ)) (o p : Outcome) → ((text : List ℕ) → Due text o → Due text p → o ≡ p)
     → IsSomeAnd held (λ text. Due text o) → IsSomeAnd held (λ text. Due text p) → o ≡ p
@@ -84,16 +83,6 @@ chart_stores first end image script o (chart_refused bytes is r) = refused_store
 chart_stores first end image script o (chart_bad_script bytes other raw fault is file that f same) = image_is o _ same refl
 chart_stores first end image script o (charted bytes other raw lines stop is file that s same) = image_is o _ same refl
 
--- of the text of a table its program is stored, and of no other text
-table_stores : TablesHaveNoFault → (lines : List ℕ) (o p : Outcome) → IsTableDue lines o → IsTableDue lines p → p.image ≡ None → o.image ≡ None
-table_stores law lines o p (table_faulty number line fault same) e none = image_is o _ same refl
-table_stores law lines o p (tabled t is same) (table_faulty number line fault that) none = absurd (law lines t number line is fault)
-table_stores law lines o p (tabled t is same) (tabled u also that) none = absurd cc
-
-held_tables : TablesHaveNoFault → (held : Option (List ℕ)) (o p : Outcome) → IsSomeAnd held (λ lines. IsTableDue lines o) → IsSomeAnd held (λ lines. IsTableDue lines p) → p.image ≡ None → o.image ≡ None
-held_tables law None o p d e none = absurd d
-held_tables law (Some lines) o p d e none = table_stores law lines o p d e none
-
 held_stores : (Due : List ℕ → Outcome → Type 0) (held : Option (List ℕ)) (o : Outcome) → ((text : List ℕ) → Due text o → o.image ≡ None) → IsSomeAnd held (λ text. Due text o) → o.image ≡ None
 held_stores Due None o none d = absurd d
 held_stores Due (Some text) o none d = none text d
@@ -116,7 +105,7 @@ due_is_one laws (edf program script) held o p d e none = edf_stores (held progra
 due_is_one laws (why program over) held o p d e none = held_stores (IsWhyDue over) (held program) o (λ text. why_stores over text o) d
 due_is_one laws (fit program over) held o p d e none = held_stores (IsFitDue over) (held program) o (λ text. fit_stores over text o) d
 due_is_one laws (chart image script first end) held o p d e none = chart_stores first end (held image) (held script) o d
-due_is_one laws (table tasks program) held o p d e none = held_tables laws.table (held tasks) o p d e none
+due_is_one laws (table tasks program) held o p d e none = image_is o p (of_held IsTableDue (held tasks) o p (λ lines. laws.table lines o p) d e) none
 
 nothing : (image target : Option (List ℕ)) (held held' : Held) → image ≡ None → Stores image target held held' → AllStay held held'
 nothing image target held held' none kept = subst (λ (x : Option (List ℕ)). Stores x target held held') none kept

@@ -23,7 +23,7 @@ use built_tasks_law::judged_by_text::{
 use command_answers::Status;
 use command_due_law::one_answer::{
     asm_is_one, compile_is_one, dis_is_one, go_is_one, migrate_is_one, print_is_one,
-    reports_are_one, run_is_one, slack_is_one, watch_is_one, written_once, written_or_faulty,
+    reports_are_one, run_is_one, slack_is_one, table_is_one, watch_is_one, written_once, written_or_faulty,
 };
 use command_due_law::one_judgement::answers_of_texts_are_one;
 use command_words::words::overheads_are_decimal;
@@ -35,7 +35,6 @@ use outside::{Files, Sink};
 use sched_program_law::one_judgement::never_in_time_and_not;
 use std::alloc::Global;
 use syntax_printer::{reads_back, tokens_are_spelled};
-use table_once_law::table_law::tables_have_no_fault;
 use valid_image_law::validity_law::every_valid_image_is_safe_and_in_time;
 use vm_law::suitable_scripts::scripts_suit;
 
@@ -147,7 +146,7 @@ pub fn rte<F: Files, O: Sink>(alloc: Global, words: &[String], files: &mut F, ou
     asm_is_one();
     dis_is_one();
     watch_is_one();
-    tables_have_no_fault();
+    table_is_one();
     images_told_are_held();
     images_read_are_held_again();
     built_images_are_held();

@@ -11,3 +11,4 @@ mod EdfDueOnceImages
 mod Judged
 mod Listed
 mod Words
+mod Tables

@@ -7,7 +7,7 @@
 //!
 //! The laws.
 
-ghost use Rattle.command_due_law.specs.DueOnce.{AsmIsOne, CompileIsOne, DisIsOne, GoIsOne, ImageFilesAreNotRefused, ImageRefusalsAreOne, ImagesHeldAreOne, LateReportsAreOne, MigrateIsOne, PrintIsOne, RefusalsAreOne, ReportsAreOne, RunIsOne, SlackIsOne, SlackTextsAreOne, StopsAreOne, TextsHaveOneFault, TimelyTextsAreNotLate, TimelyTextsAreNotRefused, TimelyTextsHaveOneImage, WatchIsOne, WrittenOnce, WrittenOrFaulty};
+ghost use Rattle.command_due_law.specs.DueOnce.{AsmIsOne, CompileIsOne, DisIsOne, GoIsOne, ImageFilesAreNotRefused, ImageRefusalsAreOne, ImagesHeldAreOne, LateReportsAreOne, MigrateIsOne, PrintIsOne, RefusalsAreOne, ReportsAreOne, RunIsOne, SlackIsOne, SlackTextsAreOne, StopsAreOne, TableIsOne, TextsHaveOneFault, TimelyTextsAreNotLate, TimelyTextsAreNotRefused, TimelyTextsHaveOneImage, WatchIsOne, WrittenOnce, WrittenOrFaulty};
 
 use asm_law::text_and_image::{
     texts_are_of_one_image, texts_have_one_fault as image_texts_have_one_fault,
@@ -16,6 +16,7 @@ use asm_law::text_and_image::{
 use built_image_law::one_image::{built_images_are_one, tables_are_one, timely_or_late};
 use front_end::{one_fault, one_program, program_or_fault};
 use script::{one_answer, one_script};
+use table_once_law::table_law::{faults_are_one, tables_are_one, tables_have_no_fault};
 use valid_image_law::validity_law::valid_is_without_fault;
 
 /// A text is that of one program that keeps to all rules and is not too large.
@@ -203,4 +204,13 @@ pub fn watch_is_one()
     one_script();
     one_answer();
     stops_are_one();
+}
+
+/// What is due of `table` is one.
+pub fn table_is_one()
+    ensures { TableIsOne }
+{
+    tables_are_one();
+    tables_have_no_fault();
+    faults_are_one();
 }

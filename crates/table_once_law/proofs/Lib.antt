@@ -3,3 +3,4 @@ mod Numbers
 mod Lines
 mod Begun
 mod Once
+mod Single

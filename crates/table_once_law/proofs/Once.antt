@@ -35,7 +35,7 @@ nothing_behind : (rest : List ℕ) → last_line ≡ last_line ++ rest → rest 
 nothing_behind [] e = refl
 nothing_behind (b ∷ bs) e = let long = ap length e ∙ length-append last_line (b ∷ bs) in absurd (omega (arith, long))
 
-table_is : (t u : TaskTable) → t.name ≡ u.name → t.tasks ≡ u.tasks → (let r : TaskTable = record { name = t.name; tasks = t.tasks } in r) ≡ record { name = u.name; tasks = u.tasks }
+pub table_is : (t u : TaskTable) → t.name ≡ u.name → t.tasks ≡ u.tasks → (let r : TaskTable = record { name = t.name; tasks = t.tasks } in r) ≡ record { name = u.name; tasks = u.tasks }
 table_is t u a b = cc
 
 pub one_table : (text : List ℕ) (t u : TaskTable) → IsTable text t → IsTable text u → t ≡ u

@@ -1,6 +1,6 @@
 //! The laws. These functions do nothing; their contracts are the laws.
 
-ghost use Rattle.table_once_law.specs.Once.{TablesAreOne, TablesHaveNoFault};
+ghost use Rattle.table_once_law.specs.Once.{FaultsAreOne, TablesAreOne, TablesHaveNoFault};
 
 /// A text is that of one table.
 pub fn tables_are_one()
@@ -10,4 +10,9 @@ pub fn tables_are_one()
 /// A text that is that of a table has no fault.
 pub fn tables_have_no_fault()
     ensures { TablesHaveNoFault }
+{}
+
+/// A text has one fault at most.
+pub fn faults_are_one()
+    ensures { FaultsAreOne }
 {}
