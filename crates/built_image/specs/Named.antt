@@ -1,7 +1,8 @@
 -- The names of a program's parts, as an image has them: each list in the order of the text.
-use Rattle.std.specs.Prelude.{ℕ, suc, ◌++◌, List, [], ◌∷◌, Bool, false, cond, Option, Some, None, bytes_eq, map, filter_map}
-use Rattle.syntax_tree.specs.Plain.{Name, Monitor, Trigger, periodic, at_event, Process, Declaration, device, Program}
+use Rattle.std.specs.Prelude.{ℕ, suc, ◌++◌, List, [], ◌∷◌, cond, Option, Some, None, map, filter_map}
+use Rattle.syntax_tree.specs.Plain.{Name, Monitor, Process, Declaration, device, Program}
 use Rattle.source_semantics.specs.Names.{processes, monitors, conditions_of, event_in, frame_of}
+use Rattle.wellformed.specs.WellFormed.{is_event_of}
 use Rattle.image.specs.declared.names.ImageNames.{ImageNames}
 use Rattle.image.specs.declared.names.ConditionName.{ConditionName}
 use Rattle.image.specs.declared.names.DeviceName.{DeviceName}
@@ -17,14 +18,10 @@ abbrev pub named_device : Declaration → Option DeviceName
 named_device (device n is_out) = Some (record { name = n; out = is_out })
 named_device _ = None
 
-abbrev pub is_released_by : Name → Trigger → Bool
-is_released_by e (periodic frame deadline first) = false
-is_released_by e (at_event x frame deadline) = bytes_eq x e
-
 -- the frame of the first process that an event releases, 0 where it releases none
 abbrev pub frame_released : Program → Name → List Process → ℕ
 frame_released g e [] = 0
-frame_released g e (p ∷ ps) = cond (is_released_by e p.activation) (frame_of g p.activation) (frame_released g e ps)
+frame_released g e (p ∷ ps) = cond (is_event_of e p.activation) (frame_of g p.activation) (frame_released g e ps)
 
 -- an event with that frame
 abbrev pub named_event : Program → Name → EventName

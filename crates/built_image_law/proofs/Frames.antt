@@ -14,7 +14,7 @@ use Rattle.code_names_law.proofs.Numbers.{name_same, name_is}
 use Rattle.wellformed.specs.WellFormed.{ActivationFits, ProcessFits, IsWellFormed, is_event_of}
 use Rattle.codegen_law.proofs.Counts.{one_low}
 use Rattle.script.specs.Scripts as script
-use Rattle.built_image.specs.Named.{is_released_by, frame_released, named_event, names_of}
+use Rattle.built_image.specs.Named.{frame_released, named_event, names_of}
 use Rattle.built_image_law.specs.Suits.{NamesHaveFrames}
 use Rattle.built_image_law.proofs.Texts.{Emitted, emitted}
 
@@ -47,10 +47,6 @@ event_stands e (event n ∷ ds) h = elim (cases_Bool (bytes_eq n e)) [
 
 -- ---- the process that it releases
 
-same_test : (e : Name) (a : Trigger) → is_released_by e a ≡ is_event_of e a
-same_test e (periodic frame deadline first) = refl
-same_test e (at_event x frame deadline) = refl
-
 abbrev tests : Name → Process → Bool
 tests e p = is_event_of e p.activation
 
@@ -63,7 +59,7 @@ one_released : (g : Program) (e : Name) (ps : List Process) (k : ℕ) (t : Proce
 one_released g e [] k t at is one = absurd cc
 one_released g e (q ∷ qs) zero t at is one =
     let same : q ≡ t = cc in
-    let hit : is_released_by e q.activation ≡ true = same_test e q.activation ∙ (ap (λ (x : Process). tests e x) same ∙ is) in
+    let hit : is_event_of e q.activation ≡ true = ap (λ (x : Process). tests e x) same ∙ is in
     ap (λ (b : Bool). cond b (frame_of g q.activation) (frame_released g e qs)) hit ∙ ap (λ (x : Process). frame_of g x.activation) same
 one_released g e (q ∷ qs) (suc k) t at is one =
     let more : count_by (tests e) (q ∷ qs) ≡ worth (tests e q) + count_by (tests e) qs = sum_by-cons (λ (y : Process). worth (tests e y)) q qs in

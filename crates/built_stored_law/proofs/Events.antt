@@ -10,7 +10,7 @@ use Rattle.syntax_tree.specs.Plain.{Name, Trigger, periodic, at_event, Declarati
 use Rattle.source_semantics.specs.Names.{event_in, event_number, frame_of, place_of, processes}
 use Rattle.machine_semantics.specs.Image.{Process}
 use Rattle.image_reader.specs.File as f
-use Rattle.built_image.specs.Named.{frame_released, is_released_by}
+use Rattle.built_image.specs.Named.{frame_released}
 use Rattle.code_names_law.proofs.Numbers.{name_is, name_same}
 use Rattle.code_spec.specs.Compiled.{EmitsProcesses, IsReleased}
 use Rattle.codegen_law.proofs.Counts.{one_low}
@@ -78,7 +78,7 @@ module _ (p : Program) (differ : Differing (filter_map event_in p.decls)) where
   -- ---- the process of an event
 
   -- the event at this place releases the process exactly where the text says so
-  test_same : (at : ℕ) (e : Name) (a : Trigger) (x : Process) → slice_get events at ≡ Some e → ActivationFits p a → IsReleased p a x → (not (x.kind == 0) && nat_eq x.event at) ≡ is_released_by e a
+  test_same : (at : ℕ) (e : Name) (a : Trigger) (x : Process) → slice_get events at ≡ Some e → ActivationFits p a → IsReleased p a x → (not (x.kind == 0) && nat_eq x.event at) ≡ is_event_of e a
   test_same at e (periodic frame deadline first) x here fits is = ap (λ (k : ℕ). not (k == 0) && nat_eq x.event at) is.0
   test_same at e (at_event n frame deadline) x here fits is = ap (λ (k : ℕ). not (k == 0) && nat_eq x.event at) is.0 ∙ by (bytes_eq n e) refl where
     there : slice_get events x.event ≡ Some n
@@ -98,7 +98,7 @@ module _ (p : Program) (differ : Differing (filter_map event_in p.decls)) where
   frame_same at e code k a b [] (x ∷ xs) here emits fit = absurd emits
   frame_same at e code k a b (t ∷ ts) [] here emits fit = absurd emits
   frame_same at e code k a b (t ∷ ts) (x ∷ xs) here emits fit =
-      by (not (x.kind == 0) && nat_eq x.event at) (is_released_by e t.activation) (test_same at e t.activation x here (fit 0 t refl) emits.1.released) emits.1.frame
+      by (not (x.kind == 0) && nat_eq x.event at) (is_event_of e t.activation) (test_same at e t.activation x here (fit 0 t refl) emits.1.released) emits.1.frame
       (frame_same at e code (suc k) emits.0 b ts xs here emits.2 (λ i u there. fit (suc i) u there))
     where
       by : (b c : Bool) → b ≡ c → x.frame ≡ frame_of p t.activation → f.frame_for at xs ≡ frame_released p e ts → (if b then x.frame else f.frame_for at xs) ≡ cond c (frame_of p t.activation) (frame_released p e ts)
