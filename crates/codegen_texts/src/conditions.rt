@@ -1,6 +1,6 @@
 //! Conditions, counted through all monitors.
 
-ghost use Rattle.std.specs.Prelude.{◌≡◌, ◌+◌, IfOk, OnOk, List, ◌∷◌, ◌++◌, filter_map, pos, slice_get};
+ghost use Rattle.std.specs.Prelude.{◌≡◌, ◌≤◌, ◌+◌, ◌^◌, IfOk, OnOk, List, ◌∷◌, ◌++◌, filter_map, pos, slice_get};
 ghost use Rattle.syntax_tree.specs.Plain.{Member as SpecMember, Monitor as SpecMonitor};
 ghost use Rattle.syntax_tree.specs.Placed.{placed, placed_member, placed_monitor, plain, plain_member, plain_monitor};
 ghost use Rattle.source_semantics.specs.Names.{condition_count, condition_in, conditions_of, monitors as monitors_in, place_of};
@@ -9,7 +9,7 @@ ghost use Rattle.codegen_spec.specs.Told.{fit};
 ghost use Rattle.code_names.specs.Parts.{seen_monitors};
 ghost use Rattle.codegen_texts.specs.Shared.{conditions_from, count_from, number_among};
 
-use code_layout::{Tables, fit_word, number};
+use code_layout::{Tables, number};
 use code_names::NameList;
 use std::alloc::{AllocError, Global};
 use syntax_tree::{Member, Monitor, Name};
@@ -17,15 +17,16 @@ use syntax_tree::{Member, Monitor, Name};
 /// The conditions of a monitor, and the number of the first.
 #[derive(Drop)]
 pub struct MonitorConditions<'a> {
-    pub first: usize,
+    pub first: u128,
     pub names: NameList<'a>,
 }
 
-/// The conditions of each monitor, and how many there are.
+/// The conditions of each monitor, and how many there are: 128 bits are enough, since fewer than
+/// 2^63 monitors have fewer than 2^64 conditions each.
 #[derive(Drop)]
 pub struct Conditions<'a> {
     pub lists: Vec<MonitorConditions<'a>>,
-    pub count: usize,
+    pub count: u128,
 }
 
 /// Lists the condition that a member declares, if it does.
@@ -53,23 +54,22 @@ fn own_conditions<'a>(alloc: Global, monitor: &'a Monitor) -> Result<NameList<'a
     Ok(list)
 }
 
-/// Lists the conditions of a monitor behind those before. Where they are more than a number can
-/// tell, there is not memory enough for them.
+/// Lists the conditions of a monitor behind those before.
 fn list_monitor<'a>(
     alloc: Global,
     all: &mut Conditions<'a>,
     monitor: &'a Monitor,
 ) -> Result<(), AllocError>
+    requires { all.old.count ≤ 2 ^ 127 }
     ensures lists { OnOk result ((rest : List SpecMonitor) → all.new.lists.items ++
         conditions_from all.new.count rest ≡ all.old.lists.items ++
         conditions_from all.old.count (plain_monitor (placed_monitor monitor.now) ∷ rest)) }
     ensures count { OnOk result ((rest : List SpecMonitor) → count_from all.new.count rest ≡
         count_from all.old.count (plain_monitor (placed_monitor monitor.now) ∷ rest)) }
+    ensures more { OnOk result (all.new.count ≤ all.old.count + 2 ^ 64) }
 {
     let names = own_conditions(alloc, monitor)?;
-    let Some(next) = all.count.checked_add(names.len()) else {
-        return Err(AllocError);
-    };
+    let next = all.count + names.len() as u128;
     all.lists.push(MonitorConditions {
         first: all.count,
         names,
@@ -78,8 +78,7 @@ fn list_monitor<'a>(
     Ok(())
 }
 
-/// The conditions of the monitors. Where they are more than a number can tell, there is not memory
-/// enough for them.
+/// The conditions of the monitors.
 fn numbered_conditions<'a>(
     alloc: Global,
     monitors: &[&'a Monitor],
@@ -98,8 +97,7 @@ fn numbered_conditions<'a>(
     Ok(all)
 }
 
-/// The conditions of the monitors of a program. Where they are more than a number can tell, there
-/// is not memory enough for them.
+/// The conditions of the monitors of a program.
 pub fn program_conditions<'a>(
     alloc: Global,
     tables: &Tables<'a>,
@@ -112,12 +110,23 @@ pub fn program_conditions<'a>(
     numbered_conditions(alloc, tables.numbering().directory().monitors())
 }
 
+/// The number of a condition as it fits into an operand.
+fn fit_number(number: u128) -> i32
+    ensures { result ≡ fit (pos number) }
+{
+    if number > 2_147_483_647 {
+        i32::MAX
+    } else {
+        number as i32
+    }
+}
+
 /// The number of a condition among those of a monitor, which begin at their first.
 fn own_number(own: &MonitorConditions<'_>, name: &Name) -> i32
     ensures { result ≡ fit (pos (own.now.first + place_of name.now own.now.names)) }
 {
-    let place = number(&own.names, name) as u64;
-    fit_word((own.first as u64).saturating_add(place))
+    let place = number(&own.names, name) as u128;
+    fit_number(own.first.saturating_add(place))
 }
 
 /// The number of a condition of a monitor; how many there are where there is no such monitor.
@@ -127,6 +136,6 @@ pub fn condition_number(conditions: &Conditions<'_>, monitor: usize, name: &Name
 {
     match conditions.lists.get(monitor) {
         Some(own) => own_number(own, name),
-        None => fit_word(conditions.count as u64),
+        None => fit_number(conditions.count),
     }
 }

@@ -1,6 +1,6 @@
 //! The log of a run, in memory.
 
-ghost use Rattle.std.specs.Prelude.{◌≡◌, Some, IfOk};
+ghost use Rattle.std.specs.Prelude.{◌≡◌, ◌≤◌, Some, IfOk, IsSome};
 ghost use Rattle.command_answers.specs.Acts.{CanRun, log_due};
 
 use command_answers::PreparedRun;
@@ -8,11 +8,14 @@ use command_perform::Ready;
 use outside::{Sink, SinkFailed};
 use std::alloc::{AllocError, Global};
 
-/// A sink in memory, which grows with what it takes. A put fails only where memory is wanting.
+/// A sink in memory, which grows with what it takes. A put fails only where memory is refused, and
+/// that error is kept.
 #[derive(Drop)]
 struct Log {
     bytes: Vec<u8>,
     faults: u64,
+    refused: Option<AllocError>,
+    ghost kept: { 1 ≤ faults → IsSome refused },
 }
 
 impl Sink for Log {
@@ -21,11 +24,14 @@ impl Sink for Log {
     ghost state = { λ log. record { taken = Some log.bytes.items; faults = log.faults } };
 
     fn put(&mut self, piece: &[u8]) -> Result<(), SinkFailed> {
-        if self.bytes.extend_from_slice(piece).is_ok() {
-            return Ok(());
+        match self.bytes.extend_from_slice(piece) {
+            Ok(()) => Ok(()),
+            Err(refused) => {
+                self.refused = Some(refused);
+                self.faults = self.faults.saturating_add(1);
+                Err(SinkFailed { taken: 0 })
+            }
         }
-        self.faults = self.faults.saturating_add(1);
-        Err(SinkFailed { taken: 0 })
     }
 }
 
@@ -38,9 +44,13 @@ pub fn log_of(alloc: Global, run: &PreparedRun) -> Result<Vec<u8>, AllocError>
     let mut log = Log {
         bytes: Vec::new(alloc),
         faults: 0,
+        refused: None,
     };
     match ready.put_log(&mut log) {
         Ok(()) => Ok(log.bytes),
-        Err(_) => Err(AllocError),
+        Err(_) => match log.refused {
+            Some(refused) => Err(refused),
+            None => unreachable!(),
+        },
     }
 }

@@ -40,7 +40,8 @@ fn judge_told(alloc: Global, raw: RawImage) -> Result<RawImage, ImageTextFault>
     match judge(alloc, raw) {
         Ok(raw) => Ok(raw),
         Err(FileFault::Invalid { number, a, b }) => Err(ImageTextFault::Invalid { number, a, b }),
-        Err(_) => Err(ImageTextFault::Memory),
+        Err(FileFault::Image { .. }) => unreachable!(),
+        Err(FileFault::Memory) => Err(ImageTextFault::Memory),
     }
 }
 

@@ -1,4 +1,5 @@
 pub mod Ready
+mod Strings
 mod Growing
 mod Joined
 mod Ranks

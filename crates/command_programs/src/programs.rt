@@ -8,13 +8,12 @@ ghost use Rattle.compile.specs.Compile.{Compiles};
 ghost use Rattle.command_answers.specs.Acts.{number_of, outcome_of};
 ghost use Rattle.outside.specs.Outside.{AllStay, NoneFell};
 ghost use Rattle.command_words.specs.Calls as call;
-ghost use Rattle.sched_table.specs.Late.{IsNamed};
 ghost use Rattle.command_answers.specs.Acting.{CanBeDone, IsQuiet, puts};
 ghost use Rattle.command_answers.specs.Contents.{IsContent};
 ghost use Rattle.command_programs.specs.Formats.{shown, report_call};
 ghost use Rattle.command_answers.specs.Prepared.{Prepares};
 ghost use Rattle.command_answers.specs.Tried.{HasTried, status_of};
-ghost use Rattle.command_programs.specs.Runnable.{IsRunnableBuilt, Readies};
+ghost use Rattle.command_programs.specs.Runnable.{CanBeShown, IsRunnableBuilt, Readies};
 
 use crate::{compile_content, read_content, slack_text};
 use command_answers::{
@@ -44,7 +43,7 @@ pub fn report(
     program: &Name,
     table: &Table,
 ) -> Result<Text, AllocError>
-    requires { IsNamed names.now table.now }
+    requires { CanBeShown names.now program.now table.now }
     ensures { IfOk result (λ text. text ≡ shown format names.now program.now table.now) }
 {
     match format {

@@ -3,7 +3,7 @@
 //!
 //! `compile` says what the answers mean; `specs/Runnable.antt` says of them that an image that
 //! is built can be run over each script for its names and stored, and that a report has a name for
-//! each row.
+//! each row, which is an identifier.
 
 ghost use Rattle.std.specs.Prelude.{◌≡◌, ◌≤◌, ℕ, List, IfOk};
 ghost use Rattle.syntax.specs.Tokens.{longest_text};
@@ -15,6 +15,7 @@ ghost use Rattle.command_programs.specs.Runnable.{Readies};
 use built_valid_law::runnable_image::built_images_are_ready;
 use command_answers::Content;
 use compile::{Built, CompileFault, ProgramTextFault, compile, read_written};
+use replay_law::names_are_words::names_of_texts_are_identifiers;
 use static_rule::rule;
 use static_semantics::Checked;
 use std::alloc::Global;
@@ -36,6 +37,7 @@ pub fn compile_text(alloc: Global, text: &[u8], over: u16) -> Result<Built, Comp
 {
     built_images_are_ready();
     scripts_suit();
+    names_of_texts_are_identifiers();
     compile(alloc, text, over)
 }
 

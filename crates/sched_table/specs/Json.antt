@@ -1,6 +1,6 @@
 -- The report as JSON: one value, written without spaces and ended by a line feed. The keys of an
 -- object stand in the order of their bytes. Names are identifiers, so no character in them is escaped.
-use Rattle.std.specs.Prelude.{◌++◌, ℕ, List, [], ◌∷◌, Option, Some, None, codes, is_none, nat_le, nat_eq, if◌then◌else◌}
+use Rattle.std.specs.Prelude.{◌++◌, ℕ, All, IsUtf8, List, [], ◌∷◌, Option, Some, None, codes, is_none, nat_le, nat_eq, if◌then◌else◌}
 use Rattle.serde_json.specs.Data.{Data, boolean, number, string, array, object, unsigned, Members, member, no_members, put}
 use Rattle.serde_json.specs.View.{items_of}
 use Rattle.serde_json.specs.Written.{compact_text}
@@ -8,6 +8,12 @@ use Rattle.image.specs.declared.names.ImageNames.{ImageNames}
 use Rattle.sched_table.specs.declared.table.Row.{Row}
 use Rattle.sched_table.specs.declared.table.Table.{Table}
 use Rattle.sched_table.specs.Late.{late}
+
+-- the names that are shown are UTF-8, as a string has to be
+pub record AreStrings (names : ImageNames) (program : List ℕ) : Type 0 where
+  pub of_program : IsUtf8 program
+  pub of_processes : All IsUtf8 names.processes
+  pub of_monitors : All IsUtf8 names.monitors
 
 -- a number up to 1,000,000,000, and a string for the larger ones
 unfoldable pub number_data : ℕ → Data

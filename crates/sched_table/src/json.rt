@@ -1,9 +1,10 @@
 //! The report as JSON.
 
-ghost use Rattle.std.specs.Prelude.{◌≡◌, length, map, IfOk, OnOk};
+ghost use Rattle.std.specs.Prelude.{◌≡◌, All, IfOk, IsUtf8, OnOk, length, map};
 ghost use Rattle.serde_json.specs.Data.{array, string, put as with_member};
 ghost use Rattle.serde_json.specs.View.{items_of, members_view, view};
 ghost use Rattle.sched_table.specs.Late.{IsNamed};
+ghost use Rattle.sched_table.specs.Json.{AreStrings};
 ghost use Rattle.sched_table.specs.Json as json;
 
 use crate::late::late;
@@ -37,14 +38,14 @@ fn optional_value(alloc: Global, number: Option<u64>) -> Result<Value, AllocErro
     }
 }
 
-/// A name as a string. A name that is not UTF-8 is an error as want of memory is; an identifier is
-/// UTF-8.
+/// A name as a string.
 fn name_value(alloc: Global, name: &Name) -> Result<Value, AllocError>
+    requires { IsUtf8 name.now }
     ensures { IfOk result (λ value. view value ≡ string name.now) }
 {
     match str::from_utf8(name.as_bytes()) {
         Ok(text) => Value::try_from_str(alloc, text),
-        Err(_) => Err(AllocError),
+        Err(_) => unreachable!(),
     }
 }
 
@@ -81,6 +82,7 @@ fn put_deadline(
 /// The members of a process, but for its deadline.
 #[tactic(auto, unfolding(crate::specs::Json::process_members))]
 fn process_members(alloc: Global, name: &Name, row: &Row) -> Result<Map<String, Value>, AllocError>
+    requires { IsUtf8 name.now }
     ensures { IfOk result (λ members. members_view members.entries
         ≡ json.process_members name.now row.now) }
 {
@@ -105,6 +107,7 @@ fn process_members(alloc: Global, name: &Name, row: &Row) -> Result<Map<String, 
 
 /// The object of a process.
 fn process_value(alloc: Global, name: &Name, row: &Row) -> Result<Value, AllocError>
+    requires { IsUtf8 name.now }
     ensures { IfOk result (λ value. view value ≡ json.process_data name.now row.now) }
 {
     let mut members = process_members(alloc, name, row)?;
@@ -114,7 +117,8 @@ fn process_value(alloc: Global, name: &Name, row: &Row) -> Result<Value, AllocEr
 
 /// The objects of the processes.
 fn process_values(alloc: Global, names: &[Name], rows: &[Row]) -> Result<Vec<Value>, AllocError>
-    requires { length names.now ≡ length rows.now }
+    requires one_each { length names.now ≡ length rows.now }
+    requires utf8 { All IsUtf8 names.now }
     ensures { IfOk result (λ values. map view values.items
         ≡ json.processes_data names.now rows.now) }
 {
@@ -133,6 +137,7 @@ fn monitor_value(
     ceiling: Option<u16>,
     words: u32,
 ) -> Result<Value, AllocError>
+    requires { IsUtf8 name.now }
     ensures { IfOk result (λ value. view value ≡ json.monitor_data name.now ceiling words) }
 {
     let mut members = Map::new(alloc);
@@ -156,6 +161,7 @@ fn monitor_values(
 ) -> Result<Vec<Value>, AllocError>
     requires ceilings { length names.now ≡ length ceilings.now }
     requires words { length names.now ≡ length words.now }
+    requires utf8 { All IsUtf8 names.now }
     ensures { IfOk result (λ values. map view values.items
         ≡ json.monitors_data names.now ceilings.now words.now) }
 {
@@ -168,7 +174,8 @@ fn monitor_values(
 
 /// The array of the monitors.
 fn monitors_value(alloc: Global, names: &ImageNames, table: &Table) -> Result<Value, AllocError>
-    requires { IsNamed names.now table.now }
+    requires named { IsNamed names.now table.now }
+    requires utf8 { All IsUtf8 names.now.monitors }
     ensures { IfOk result (λ value. view value ≡ array (items_of
         (json.monitors_data names.now.monitors table.now.ceilings table.now.monitor_words))) }
 {
@@ -179,7 +186,8 @@ fn monitors_value(alloc: Global, names: &ImageNames, table: &Table) -> Result<Va
 
 /// The array of the processes.
 fn processes_value(alloc: Global, names: &ImageNames, table: &Table) -> Result<Value, AllocError>
-    requires { IsNamed names.now table.now }
+    requires named { IsNamed names.now table.now }
+    requires utf8 { All IsUtf8 names.now.processes }
     ensures { IfOk result (λ value. view value ≡ array (items_of
         (json.processes_data names.now.processes table.now.rows))) }
 {
@@ -195,7 +203,8 @@ fn report_value(
     program: &Name,
     table: &Table,
 ) -> Result<Value, AllocError>
-    requires { IsNamed names.now table.now }
+    requires named { IsNamed names.now table.now }
+    requires strings { AreStrings names.now program.now }
     ensures { IfOk result (λ value. view value ≡ json.report_data names.now program.now table.now) }
 {
     let late = late(names.processes.as_slice(), table.rows.as_slice());
@@ -220,12 +229,11 @@ fn report_value(
 
 /// The report on a program as one JSON object without spaces, ended by a line feed, for a table
 /// with one row per process and one ceiling and one number of words per monitor of the names, which
-/// are identifiers.
+/// are UTF-8, as each identifier is.
 ///
 /// The keys stand in the order of their bytes. The deadline stands where it is not the frame, a
 /// number above 1,000,000,000 is the string `over`, and a bound or a ceiling that is not there the
-/// string `none`. Want of memory is an error; so is a name that is not UTF-8, which no identifier
-/// is.
+/// string `none`. Want of memory is an error.
 #[tactic(auto, using(crate::proofs::NoFloat::report), unfolding(crate::specs::Json::report_json))]
 pub fn report_json(
     alloc: Global,
@@ -233,7 +241,8 @@ pub fn report_json(
     program: &Name,
     table: &Table,
 ) -> Result<Text, AllocError>
-    requires { IsNamed names.now table.now }
+    requires named { IsNamed names.now table.now }
+    requires strings { AreStrings names.now program.now }
     ensures { IfOk result (λ text. text ≡ json.report_json names.now program.now table.now) }
 {
     let value = report_value(alloc, names, program, table)?;
