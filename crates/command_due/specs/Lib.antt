@@ -10,9 +10,12 @@ pub mod Lines
 pub mod SpareDue
 pub mod Texts
 pub mod AsmDue
+pub mod TableDue
 pub mod ReplayDue
 pub mod Image
 pub mod Tasks
 pub mod Waits
 pub mod Report
 pub mod EdfDue
+pub mod WhyDue
+pub mod FitDue

@@ -4,5 +4,5 @@
 set -euo pipefail
 built=$(realpath "${1:?the built program guide}")
 cd "$(dirname "$(realpath "$0")")"
-trap 'rm -f row.txt ./*.img' EXIT
+trap 'rm -f row.txt ./*.img ./*.rte ./*.script' EXIT
 "$built" GUIDE.md */README.md ../../../README.md
