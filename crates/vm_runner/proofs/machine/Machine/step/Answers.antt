@@ -1,4 +1,4 @@
-use Rattle.std.proofs.Common.{◌≡◌, ◌<◌, ℕ, arith, ap, subst}
+use Rattle.std.proofs.Common.{◌≡◌, ℕ, arith, ap, subst}
 use Rattle.machine_semantics.specs.Image.{Script}
 use Rattle.vm_runner.specs.Completing.{NoneBetween}
 use Rattle.vm_runner.specs.Ends.{IsTurnEnd}

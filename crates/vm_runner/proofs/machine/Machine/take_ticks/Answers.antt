@@ -1,4 +1,4 @@
-use Rattle.std.proofs.Common.{◌≡◌, ◌<◌, ◌+◌, ◌∙◌, arith, ap, refl, sym, subst}
+use Rattle.std.proofs.Common.{◌+◌, ◌∙◌, arith, ap, refl, sym, subst}
 use Rattle.machine_semantics.specs.Run.{state_at}
 use Rattle.machine_semantics.specs.State.{State}
 use Rattle.vm_stretch.proofs.StartLawsMoving.{slots_are_due}
@@ -17,8 +17,8 @@ use Rattle.vm_runner.proofs.machine.Machine.take_ticks.Goals as goal
 pub span-most-requires-clause-later : goal.span-most-requires-clause-later
 span-most-requires-clause-later g c = c.requires.1.1.0.later
 
-pub completing-completed-requires-clause-board : goal.completing-completed-requires-clause-board
-completing-completed-requires-clause-board g c = c.requires.1.1.0.board
+pub completing-completed-requires : goal.completing-completed-requires
+completing-completed-requires g c = (c.requires.0, c.requires.1.1.0.board)
 
 pub take_turn-ticks-requires : goal.take_turn-ticks-requires
 take_turn-ticks-requires g c =
