@@ -1,13 +1,13 @@
 -- The instruction that a turn completes is the one whose effect comes in its last tick.
-use Rattle.std.proofs.Common.{◌≡◌, ◌≤◌, ◌<◌, ◌+◌, ◌-◌, inl, inr, ℕ, zero, suc, Bool, true, false, List, Option, Some, None, arith, refl, ap, sym, ◌∙◌}
-use Rattle.std.specs.Prelude.{ℤ, slice_get, cond, min, nat_le, nat_lt}
+use Rattle.std.proofs.Common.{◌≡◌, ◌≢◌, ◌≤◌, ◌<◌, ◌+◌, ◌-◌, ◌⊎◌, inl, inr, ℕ, zero, suc, Bool, true, false, List, Option, Some, None, arith, refl, ap, sym, subst, ◌∙◌}
+use Rattle.std.specs.Prelude.{ℤ, slice_get, slice_set, cond, min, nat_le, nat_lt}
 use Rattle.std.proofs.lemmas.Bool.{cases_lt}
 use Rattle.std.proofs.lemmas.Bool.Decides.{nat_tests}
-use Rattle.base.proofs.Lists.{get_set}
+use Rattle.base.proofs.Lists.{get_other, get_set}
 use Rattle.machine_isa.specs.declared.instr.Instr.{Instr}
 use Rattle.machine_isa.specs.Ticks.{ticks}
 use Rattle.machine_semantics.specs.Image.{Image}
-use Rattle.machine_semantics.specs.State.{Job, Thread, Ready, State}
+use Rattle.machine_semantics.specs.State.{Job, Thread, Idle, Ready, Waiting, State}
 use Rattle.machine_semantics.specs.Effect.{Outcome, Goes}
 use Rattle.machine_semantics.specs.Starts.{Started, starts}
 use Rattle.machine_semantics.specs.Tick.{Candidate, Ticked, owned_of, pick, settle}
@@ -17,6 +17,7 @@ use Rattle.vm_stretch.specs.Quiet.{AreQuiet, IsQuiet}
 use Rattle.vm_stretch.specs.RowLaws.{IsSafeRun, begun}
 use Rattle.vm_stretch.specs.StretchDue.{HasSlots, NoneBefore}
 use Rattle.vm_stretch.proofs.Jumping.{slots_are_quiet}
+use Rattle.vm_stretch.proofs.Lists.{same_or_not}
 use Rattle.vm_stretch.proofs.StretchMoving.{moved, pick_same, quiet_same, set_owned}
 use Rattle.vm_stretch.proofs.Quiet.{quiet_starts_nothing}
 use Rattle.vm_stretch.proofs.Runs.{turn_stays_in_run}
@@ -25,6 +26,7 @@ use Rattle.vm_turn.proofs.Safely.{turn_can_pass}
 use Rattle.vm_stretch.specs.declared.completed.Completed.{Completed}
 use Rattle.vm_stretch.specs.Completed.{completed_at, completed_by, completed_in, completed_picked, completes, is_last_next, last_completed}
 use Rattle.vm_runner.specs.Turn.{Run}
+use Rattle.vm_runner.specs.Alike.{AreAlike, StandsAlike, StayAlike, burns}
 use Rattle.vm_runner.specs.Ends.{lasts, lasts_picked, lasts_thread}
 use Rattle.vm_runner.specs.Completing.{NoneBetween, completed_within_by, completed_within_picked, completes_within, is_last_within}
 use Rattle.vm_runner.proofs.Passing.{IsReady, IsTurn, fits_in, idle_turn, is_ready, picked_turn, settled, turn_from}
@@ -81,6 +83,16 @@ none_yet image job m zero below = by (slice_get image.code job.place) below wher
   by None low = refl
   by (Some instr) low = let l : job.done + m < ticks instr = omega (arith, low) in grind (arith, nat_tests, l)
 
+-- it burns as long as it has ticks to burn, and does not where it has none
+burns_later : (image : Image) (job : Job) (m b : ℕ) → job.dispatch_ticks ≡ b → m < left_of b job.done (slice_get image.code job.place) → burns (later m job b) ≡ burns job
+burns_later image job m zero is below = refl
+burns_later image job m (suc b) is below =
+    let some : 0 < suc b - m = omega (arith, below) in
+    let was : 0 < job.dispatch_ticks = omega (arith, is) in
+    let new : nat_lt 0 (suc b - m) ≡ true = grind (arith, nat_tests, some) in
+    let old : nat_lt 0 job.dispatch_ticks ≡ true = grind (arith, nat_tests, was) in
+    new ∙ sym old
+
 -- more ticks than are left complete no more
 all_within : (image : Image) (job : Job) (most b : ℕ) → completes_within image (min most (left_of b job.done (slice_get image.code job.place))) job b ≡ completes_within image most job b
 all_within image job most (suc b) = refl
@@ -96,6 +108,32 @@ all_within image job most zero = by (slice_get image.code job.place) where
         let other : nat_le (ticks instr) (job.done + most) ≡ true = grind (arith, nat_tests, all) in
         one ∙ sym other
   ]
+
+-- ---- all processes
+
+-- each stands as it does
+alike_itself : (thread : Option Thread) → StandsAlike thread thread
+alike_itself (Some (Ready job)) = (refl, refl)
+alike_itself (Some (Waiting condition due number job)) = refl
+alike_itself (Some Idle) = refl
+alike_itself None = refl
+
+same_alike : (image : Image) (s after : State) → after ≡ s → AreAlike image s after
+same_alike image s after same = subst (λ (x : State). AreAlike image s x) (sym same) (record { picked = refl; threads = λ k. alike_itself (slice_get s.threads k) })
+
+-- where one activation goes on within what it is at, all stand alike
+moved_alike : (image : Image) (s : State) (k : ℕ) (job new : Job) → slice_get s.threads k ≡ Some (Ready job) → new.inside ≡ job.inside → burns new ≡ burns job → AreAlike image s (moved k new s)
+moved_alike image s k job new ready inside burning = record {
+  picked = ap (λ (c : Option Candidate). place_of c) (pick_same image s.threads k job new ready inside);
+  threads = λ j. by j (same_or_not j k);
+} where
+  by : (j : ℕ) → (j ≡ k) ⊎ (j ≢ k) → StandsAlike (slice_get s.threads j) (slice_get (slice_set s.threads k (Ready new)) j)
+  by j (inl same) =
+      let there : slice_get (slice_set s.threads k (Ready new)) k ≡ Some (Ready new) = get_set s.threads k (Ready new) (Ready job) ready in
+      subst (λ (i : ℕ). StandsAlike (slice_get s.threads i) (slice_get (slice_set s.threads k (Ready new)) i)) (sym same)
+      (subst (λ (o : Option Thread). StandsAlike o (slice_get (slice_set s.threads k (Ready new)) k)) (sym ready)
+      (subst (λ (o : Option Thread). StandsAlike (Some (Ready job)) o) (sym there) (inside, burning)))
+  by j (inr other) = subst (λ (o : Option Thread). StandsAlike (slice_get s.threads j) o) (sym (get_other s.threads k j (Ready new) (λ same. other (sym same)))) (alike_itself (slice_get s.threads j))
 
 -- ---- the process that is picked
 
@@ -129,6 +167,15 @@ module _ (run : Run) (safe : IsSafeRun run.image run.script) (t k : ℕ) (job : 
       let calm : IsQuiet run.image run.script (t + m) after = quiet_same run.image run.script (t + m) (start run t) k (later m job job.dispatch_ticks) (quiet (t + m) (omega (arith, some)) (omega (arith, less))) in
       ap (λ (x : State). (starts run.image run.script (t + m) x).state) (stays m some (omega (arith, less)) below)
       ∙ ap (λ (x : Started). x.state) (quiet_starts_nothing run.image run.script (t + m) after calm)
+
+  -- in a tick of the turn all stand alike
+  alike_in_tick : (m : ℕ) → m < most → m < left run.image job → AreAlike run.image (start run t) (begun run.image run.script (t + m))
+  alike_in_tick zero less below =
+      let here : t + 0 ≡ t = omega arith in
+      same_alike run.image (start run t) (begun run.image run.script (t + 0)) (ap (λ (u : ℕ). begun run.image run.script u) here)
+  alike_in_tick (suc m) less below =
+      subst (λ (x : State). AreAlike run.image (start run t) x) (sym (begins (suc m) (omega arith) less below))
+      (moved_alike run.image (start run t) k job (later (suc m) job job.dispatch_ticks) ready (same_inside (suc m) job job.dispatch_ticks) (burns_later run.image job (suc m) job.dispatch_ticks refl below))
 
   -- what a tick of the turn completes
   in_tick : (m : ℕ) → m < most → m < left run.image job → completed_at run.image run.script (t + m) ≡ told k job (completes_within run.image (m + 1) job job.dispatch_ticks)
@@ -172,19 +219,19 @@ module _ (run : Run) (safe : IsSafeRun run.image run.script) (t k : ℕ) (job : 
 -- ---- nobody
 
 module _ (run : Run) (safe : IsSafeRun run.image run.script) (t : ℕ) (none : place_of (pick run.image (start run t).threads) ≡ None) (most : ℕ) (quiet : AreQuiet run.image run.script t most (start run t)) where
-  idles : (m : ℕ) → m < most → completed_at run.image run.script (t + m) ≡ None
-  idles zero less =
-      let here : t + 0 ≡ t = omega arith in
-      ap (λ (u : ℕ). completed_at run.image run.script u) here ∙ ap (λ (o : Option ℕ). completed_picked run.image (start run t) o) none
-  idles (suc m) less =
+  -- all stay as they are
+  rests : (m : ℕ) → m < most → begun run.image run.script (t + m) ≡ start run t
+  rests zero less = let here : t + 0 ≡ t = omega arith in ap (λ (u : ℕ). begun run.image run.script u) here
+  rests (suc m) less =
       let s : State = start run t in
       let it : IsTurn run t (suc m) = idle_turn run t (suc m) s refl none (omega arith) (λ u low high. quiet u low (omega (arith, high, less))) in
       let there : state_at run.image run.script (t + suc m) ≡ s =
       (turn_stays_in_run run.image run.script safe.unstuck t (suc m) it).1 ∙ ap (λ (x : Ticked). x.state) (sym (turn_from run t (suc m) None s refl none)) in
-      let begins : begun run.image run.script (t + suc m) ≡ s =
       ap (λ (x : State). (starts run.image run.script (t + suc m) x).state) there
-      ∙ ap (λ (x : Started). x.state) (quiet_starts_nothing run.image run.script (t + suc m) s (quiet (t + suc m) (omega arith) (omega (arith, less)))) in
-      ap (λ (x : State). completed_in run.image x) begins ∙ ap (λ (o : Option ℕ). completed_picked run.image s o) none
+      ∙ ap (λ (x : Started). x.state) (quiet_starts_nothing run.image run.script (t + suc m) s (quiet (t + suc m) (omega arith) (omega (arith, less))))
+
+  idles : (m : ℕ) → m < most → completed_at run.image run.script (t + m) ≡ None
+  idles m less = ap (λ (x : State). completed_in run.image x) (rests m less) ∙ ap (λ (o : Option ℕ). completed_picked run.image (start run t) o) none
 
   idle_last : (n : ℕ) → 1 ≤ n → n ≤ most → last_completed run.image run.script (t + n) ≡ None
   idle_last n some less =
@@ -227,3 +274,20 @@ turn_completes_alone run t n most whole = by (place_of (pick run.image (start ru
   by (Some k) is same =
       let r : IsReady run.image (start run t) k = is_ready run.image (start run t) k is in
       picked_sole run whole.safe t k r.job is r.ready most whole.quiet n (same ∙ ap (λ (o : Option Thread). lasts_thread run.image most o) r.ready)
+
+pub turn_stays_alike : (run : Run) (t n most : ℕ) → IsWhole run t n most → StayAlike run.image run.script t (t + n)
+turn_stays_alike run t n most whole = by (place_of (pick run.image (start run t).threads)) refl whole.lasts where
+  by : (who : Option ℕ) → place_of (pick run.image (start run t).threads) ≡ who → n ≡ lasts_picked run.image (start run t) most who → StayAlike run.image run.script t (t + n)
+  by None none same = λ v low high. (
+      let within = whole.within in
+      let m : ℕ = v - t in
+      let here : v ≡ t + m = omega (arith, low) in
+      same_alike run.image (start run t) (begun run.image run.script v) (ap (λ (x : ℕ). begun run.image run.script x) here ∙ rests run whole.safe t none most whole.quiet m (omega (arith, high, within, low))))
+  by (Some k) is same = λ v low high. (
+      let within = whole.within in
+      let r : IsReady run.image (start run t) k = is_ready run.image (start run t) k is in
+      let n_is : n ≡ min most (left run.image r.job) = same ∙ ap (λ (o : Option Thread). lasts_thread run.image most o) r.ready in
+      let m : ℕ = v - t in
+      let here : t + m ≡ v = omega (arith, low) in
+      subst (λ (x : ℕ). AreAlike run.image (start run t) (begun run.image run.script x)) here
+      (alike_in_tick run whole.safe t k r.job is r.ready most whole.quiet m (omega (arith, high, low, within)) (omega (arith, high, low, n_is))))

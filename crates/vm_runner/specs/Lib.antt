@@ -4,3 +4,4 @@ pub mod Turn
 pub mod Standing
 pub mod Ends
 pub mod Completing
+pub mod Alike

@@ -7,10 +7,11 @@ ghost use Rattle.machine_semantics.specs.Image.{Image};
 ghost use Rattle.vm_releases.specs.Begin.{script_of};
 ghost use Rattle.vm_state.specs.Plan.{IsOf};
 ghost use Rattle.vm_stretch.specs.Completed.{last_completed};
+ghost use Rattle.vm_runner.specs.Alike.{StayAlike};
 ghost use Rattle.vm_runner.specs.Completing.{NoneBetween};
 ghost use Rattle.vm_runner.specs.Ends.{IsTurnEnd};
 ghost use Rattle.vm_runner.specs.Runnable.{IsRunnable};
-ghost use Rattle.vm_runner.specs.Standing.{StandsIn, events_between};
+ghost use Rattle.vm_runner.specs.Standing.{HasBegun, StandsIn, events_between};
 ghost use Rattle.vm_runner.specs.Turn.{Run};
 
 use crate::completing::completing;
@@ -61,6 +62,63 @@ impl Machine {
         })
     }
 
+    /// The start events of the tick, before the script's end. The turn is begun, and `end_turn` ends
+    /// it; up to then the board has the state after the start events, and the machine their events.
+    #[inline(always)]
+    pub fn begin_turn(&mut self, plan: &DecodedImage, script: &Script)
+        ghost run: { Run }
+        requires plan { IsOf run.image plan.now }
+        requires script { run.script ≡ script_of script.now }
+        requires runnable { IsRunnable run.image run.script }
+        requires stands { StandsIn run.image run.script self.old }
+        requires before { self.old.tick < script.now.end }
+        ensures begun { HasBegun run.image run.script self.new }
+        ensures tick { self.new.tick ≡ self.old.tick }
+    {
+        self.fired.clear();
+        self.agenda
+            .begin(plan, script, &mut self.board, &mut self.fired, self.tick);
+    }
+
+    /// Ticks at once of a turn that is begun, up to the limit at most, as far as the call goes.
+    /// After a turn it tells the instruction whose effect came in the last tick.
+    #[inline(always)]
+    fn take_ticks(&mut self, plan: &DecodedImage, limit: u64, reach: Reach) -> Option<Completed>
+        ghost run: { Run }
+        requires plan { IsOf run.image plan.now }
+        requires runnable { IsRunnable run.image run.script }
+        requires begun { HasBegun run.image run.script self.old }
+        requires limit { limit ≤ run.script.end_tick }
+        requires before { self.old.tick < limit }
+        ensures passed { self.old.tick < self.new.tick }
+        ensures within { self.new.tick ≤ limit }
+        ensures stands { StandsIn run.image run.script self.new }
+        ensures events { self.new.fired.items ≡
+            events_between run.image run.script self.old.tick self.new.tick }
+        ensures ends { reach ≡ Reach.Turn →
+            IsTurnEnd run.image run.script limit self.old.tick self.new.tick }
+        ensures last { reach ≡ Reach.Turn →
+            result ≡ last_completed run.image run.script self.new.tick }
+        ensures sole { reach ≡ Reach.Turn →
+            NoneBetween run.image run.script self.old.tick self.new.tick }
+        ensures alike { reach ≡ Reach.Turn →
+            StayAlike run.image run.script self.old.tick self.new.tick }
+    {
+        let most = span(&self.agenda, self.tick, limit);
+        let completed = completing(plan, &self.board, most, reach);
+        let ticks = take_turn(
+            plan,
+            &mut self.board,
+            &mut self.agenda,
+            &mut self.fired,
+            self.tick,
+            most,
+            reach,
+        );
+        self.tick += ticks;
+        completed
+    }
+
     /// The start events of the tick, and then ticks at once, up to the limit at most, as far as the
     /// call goes. After a turn it tells the instruction whose effect came in the last tick.
     #[inline(always)]
@@ -78,6 +136,7 @@ impl Machine {
         requires stands { StandsIn run.image run.script self.old }
         requires limit { limit ≤ script.now.end }
         requires before { self.old.tick < limit }
+        ensures within { self.new.tick ≤ limit }
         ensures passed { self.old.tick < self.new.tick }
         ensures stands { StandsIn run.image run.script self.new }
         ensures events { self.new.fired.items ≡
@@ -89,22 +148,29 @@ impl Machine {
         ensures sole { reach ≡ Reach.Turn →
             NoneBetween run.image run.script self.old.tick self.new.tick }
     {
-        self.fired.clear();
-        self.agenda
-            .begin(plan, script, &mut self.board, &mut self.fired, self.tick);
-        let most = span(&self.agenda, self.tick, limit);
-        let completed = completing(plan, &self.board, most, reach);
-        let ticks = take_turn(
-            plan,
-            &mut self.board,
-            &mut self.agenda,
-            &mut self.fired,
-            self.tick,
-            most,
-            reach,
-        );
-        self.tick += ticks;
-        completed
+        self.begin_turn(plan, script);
+        self.take_ticks(plan, limit, reach)
+    }
+
+    /// The rest of a turn that is begun, up to the limit at most, which is above the tick and no
+    /// later than the end. The events are those of the whole turn, in all ticks of which the same
+    /// process is picked, and all stand as they did when it was begun.
+    pub fn end_turn(&mut self, plan: &DecodedImage, limit: u64)
+        ghost run: { Run }
+        requires plan { IsOf run.image plan.now }
+        requires runnable { IsRunnable run.image run.script }
+        requires begun { HasBegun run.image run.script self.old }
+        requires limit { limit ≤ run.script.end_tick }
+        requires before { self.old.tick < limit }
+        ensures passed { self.old.tick < self.new.tick }
+        ensures stands { StandsIn run.image run.script self.new }
+        ensures fell { self.new.fired.items ≡
+            events_between run.image run.script self.old.tick self.new.tick }
+        ensures ends { IsTurnEnd run.image run.script limit self.old.tick self.new.tick }
+        ensures within { self.new.tick ≤ limit }
+        ensures alike { StayAlike run.image run.script self.old.tick self.new.tick }
+    {
+        let _ = self.take_ticks(plan, limit, Reach::Turn);
     }
 
     /// Whether nothing is due at the tick, which is below the limit, and there is room for one more
@@ -130,6 +196,7 @@ impl Machine {
         requires before { self.old.tick < limit }
         requires calm { least self.old.agenda.slots ≢ Some self.old.tick }
         requires room { array_vec_len self.old.fired < 65 }
+        ensures within { self.new.tick ≤ limit }
         ensures passed { self.old.tick < self.new.tick }
         ensures stands { StandsIn run.image run.script self.new }
         ensures events { self.new.fired.items ≡ self.old.fired.items ++
@@ -149,8 +216,9 @@ impl Machine {
     }
 
     /// The start events of the tick and a row, and then rows, up to the limit at most, while
-    /// nothing is due and there is room for one more event.
-    fn rows(&mut self, plan: &DecodedImage, script: &Script, limit: u64)
+    /// nothing is due and there is room for one more event. The limit is above the tick and no
+    /// later than the end.
+    pub fn advance_row_to(&mut self, plan: &DecodedImage, script: &Script, limit: u64)
         ghost run: { Run }
         requires plan { IsOf run.image plan.now }
         requires script { run.script ≡ script_of script.now }
@@ -158,6 +226,7 @@ impl Machine {
         requires stands { StandsIn run.image run.script self.old }
         requires limit { limit ≤ script.now.end }
         requires before { self.old.tick < limit }
+        ensures within { self.new.tick ≤ limit }
         ensures passed { self.old.tick < self.new.tick }
         ensures stands { StandsIn run.image run.script self.new }
         ensures events { self.new.fired.items ≡
@@ -273,7 +342,7 @@ impl Machine {
         if self.tick >= end {
             return Progress::Done;
         }
-        self.rows(plan, script, end);
+        self.advance_row_to(plan, script, end);
         self.came_to()
     }
 

@@ -47,3 +47,6 @@ returns-clause-events g c =
 
 pub returns-clause-passed : goal.returns-clause-passed
 returns-clause-passed g c = let some = c.take_turn-ticks.ensures.passed.some in omega (arith, some)
+
+pub returns-clause-within : goal.returns-clause-within
+returns-clause-within g c = omega (arith, c.span-most.ensures.within, c.take_turn-ticks.ensures.most)

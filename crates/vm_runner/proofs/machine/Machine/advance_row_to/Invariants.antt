@@ -1,6 +1,6 @@
-use Rattle.std.proofs.Common.{◌≡◌, ◌<◌, ◌-◌}
+use Rattle.std.proofs.Common.{◌≡◌, ◌≤◌, ◌<◌, ◌-◌}
 use Rattle.vm_runner.specs.Standing.{StandsIn, events_between}
-use Rattle.vm_runner.proofs.machine.Machine.rows.Given as goal
+use Rattle.vm_runner.proofs.machine.Machine.advance_row_to.Given as goal
 
 abbrev pub ghost-step : goal.ghost-step
 ghost-step g a = g.run
@@ -12,6 +12,7 @@ abbrev pub invariant-loop-self : goal.invariant-loop-self
 invariant-loop-self g l = record {
   stands : StandsIn g.run.image g.run.script l.self;
   passed : l.fn.self.tick < l.self.tick;
+  within : l.self.tick ≤ l.limit;
   events : l.self.fired.items ≡ events_between g.run.image g.run.script l.fn.self.tick l.self.tick;
 }
 
