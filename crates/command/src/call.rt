@@ -23,7 +23,7 @@ use built_tasks_law::judged_by_text::{
 use command_answers::Status;
 use command_due_law::one_answer::{
     asm_is_one, compile_is_one, dis_is_one, go_is_one, migrate_is_one, print_is_one,
-    reports_are_one, run_is_one, slack_is_one, watch_is_one, written_once, written_or_faulty,
+    reports_are_one, run_is_one, slack_is_one, table_is_one, watch_is_one, written_once, written_or_faulty,
 };
 use command_due_law::one_judgement::answers_of_texts_are_one;
 use command_words::words::overheads_are_decimal;
@@ -32,6 +32,7 @@ use edf_correct::feasible_texts::feasible_texts_keep_their_word;
 use image_reader_law::images_read_are_in_their_ranges;
 use image_stored_law::stored_images::images_read_are_held_again;
 use outside::{Files, Sink};
+use sched_program_law::one_judgement::never_in_time_and_not;
 use std::alloc::Global;
 use syntax_printer::{reads_back, tokens_are_spelled};
 use valid_image_law::validity_law::every_valid_image_is_safe_and_in_time;
@@ -53,6 +54,11 @@ use vm_law::suitable_scripts::scripts_suit;
 ///   tick T, and `watch I S @A` right after the first effect of the instruction at address A;
 /// - `replay P S L` puts how many events the log in file L has, where they are a run of the program
 ///   over the script, and else the line that is refused;
+/// - `why P [K]` puts the bounds of the program, taken apart, and `fit P [K]` the greatest overhead,
+///   and the greatest cost and suspension of each process, with which it is in time;
+/// - `chart I S A B` puts a drawing of the run of the image in file I over the script in file S, from
+///   tick A on, below tick B;
+/// - `table F P` stores the program of the task table in file F in file P;
 /// - `edf P S` puts the report on the demand of program P, which has no wait, and the log of its run
 ///   over script S under earliest deadline first;
 /// - `make K N P S` stores a program of N processes in file P and a script for it in file S, which
@@ -61,8 +67,8 @@ use vm_law::suitable_scripts::scripts_suit;
 ///
 /// All other words are refused, as is a word that is empty or begins with `-`.
 ///
-/// The answer is the first status that is due in the order of the steps: the words, reading P, I or
-/// A, its faults, its time, reading S, its faults, reading L, its faults and the verdict, storing,
+/// The answer is the first status that is due in the order of the steps: the words, reading P, I, A
+/// or F, its faults, its time, reading S, its faults, reading L, its faults and the verdict, storing,
 /// putting. `make` reads nothing, and its texts have no fault. The want of memory, 8, may come at
 /// any step.
 pub fn rte<F: Files, O: Sink>(alloc: Global, words: &[String], files: &mut F, out: &mut O) -> Status
@@ -118,9 +124,9 @@ pub fn rte<F: Files, O: Sink>(alloc: Global, words: &[String], files: &mut F, ou
         OnTrue F.tells (number_of result ≡ 0 → HasDone call
         (outside (F.state files.old) (O.state out.old))
         (outside (F.state files.new) (O.state out.new))) }
-    // Below 6, status 3 of `go`, `check`, `compile`, `json` and `slack` comes exactly where the
-    // recurrence of some process of the program, by its text, has no solution within its deadline;
-    // of `edf` exactly where the program has no wait and the test does not say that its demand is
+    // Below 6, status 3 of `go`, `check`, `compile`, `json`, `slack` and `why` comes exactly where
+    // the recurrence of some process of the program, by its text, has no solution within its
+    // deadline; of `edf` exactly where the program has no wait and the test does not say that its demand is
     // met; of the others never.
     ensures late { (call : Call) → IsCommand words.now call → OnTrue F.tells (number_of result < 6 →
         (number_of result ≡ 3) ↔ IsRefusedForTime call
@@ -140,6 +146,7 @@ pub fn rte<F: Files, O: Sink>(alloc: Global, words: &[String], files: &mut F, ou
     asm_is_one();
     dis_is_one();
     watch_is_one();
+    table_is_one();
     images_told_are_held();
     images_read_are_held_again();
     built_images_are_held();
@@ -150,6 +157,7 @@ pub fn rte<F: Files, O: Sink>(alloc: Global, words: &[String], files: &mut F, ou
     written_once();
     built_is_in_time();
     late_is_not_in_time();
+    never_in_time_and_not();
     bounds_are_of_the_text();
     reads_back();
     tokens_are_spelled();

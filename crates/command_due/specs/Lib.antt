@@ -5,13 +5,17 @@ pub mod Runs
 pub mod Stops
 pub mod Text
 pub mod StopDue
+pub mod ChartDue
 pub mod Lines
 pub mod SpareDue
 pub mod Texts
 pub mod AsmDue
+pub mod TableDue
 pub mod ReplayDue
 pub mod Image
 pub mod Tasks
 pub mod Waits
 pub mod Report
 pub mod EdfDue
+pub mod WhyDue
+pub mod FitDue

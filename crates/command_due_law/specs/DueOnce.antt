@@ -10,6 +10,7 @@ use Rattle.command_due.specs.Source.{IsWritten, IsTextFault, Style, IsTimelyText
 use Rattle.command_due.specs.CommandsDue.{Outcome, IsRefused, IsReportDue, IsPrintDue, IsCompileDue, IsGoDue, IsImageFile, IsImageRefused, IsRunDue, IsMigrateDue}
 use Rattle.command_due.specs.SpareDue.{IsSlackDue}
 use Rattle.command_due.specs.AsmDue.{IsAsmDue, IsDisDue}
+use Rattle.command_due.specs.TableDue.{IsTableDue}
 use Rattle.machine_semantics.specs.Image.{Image, Script}
 use Rattle.command_due.specs.Stops.{IsStop}
 use Rattle.command_due.specs.StopDue.{IsWatchDue}
@@ -119,3 +120,7 @@ abbrev pub WatchIsOne : Type 0
 WatchIsOne =
     (stop : Breakpoint) (image script : Option (List ℕ)) (outcome other : Outcome) → IsWatchDue stop image script outcome → IsWatchDue stop image script other
     → outcome ≡ other
+
+-- The law: what is due of `table` is one.
+abbrev pub TableIsOne : Type 0
+TableIsOne = (lines : List ℕ) (outcome other : Outcome) → IsTableDue lines outcome → IsTableDue lines other → outcome ≡ other

@@ -75,4 +75,26 @@ pub enum Command<'a> {
         program: &'a str,
         script: &'a str,
     },
+    /// Takes the bounds of a program apart.
+    Why {
+        program: &'a str,
+        overhead: u16,
+    },
+    /// Tells the greatest overhead, costs and suspensions with which a program is in time.
+    Fit {
+        program: &'a str,
+        overhead: u16,
+    },
+    /// Draws the run of a stored image over a script, from its first tick on, below the end.
+    Chart {
+        image: &'a str,
+        script: &'a str,
+        first: u64,
+        end: u64,
+    },
+    /// Stores the program of a task table.
+    Table {
+        tasks: &'a str,
+        program: &'a str,
+    },
 }

@@ -22,7 +22,7 @@ returns-clause-done g c = λ call is.
 -- status 3, by what is due
 pub returns-clause-late : goal.returns-clause-late
 returns-clause-late g c = λ call is.
-    refused_for_time c.written_or_faulty.ensures c.written_once.ensures c.built_is_in_time.ensures c.late_is_not_in_time.ensures c.answers_of_texts_are_one.ensures
+    refused_for_time c.written_or_faulty.ensures c.written_once.ensures c.built_is_in_time.ensures c.late_is_not_in_time.ensures c.answers_of_texts_are_one.ensures c.never_in_time_and_not.ensures
     g.F.Files.tells call _ _ _ (c.carry_out.ensures.went call is)
 
 -- a file that has changed
@@ -50,5 +50,6 @@ returns-clause-refused g c = λ call is.
       asm = c.asm_is_one.ensures;
       dis = c.dis_is_one.ensures;
       watch = c.watch_is_one.ensures;
+      table = c.table_is_one.ensures;
     })
     g.F.Files.tells call _ _ _ (c.carry_out.ensures.went call is)

@@ -1,0 +1,4 @@
+pub mod Letters
+pub mod Spans
+pub mod Responses
+pub mod Chart

@@ -1,0 +1,5 @@
+pub mod Spelling
+pub mod Rules
+pub mod Faults
+pub mod Spending
+pub mod Program

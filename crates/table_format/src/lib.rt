@@ -1,0 +1,15 @@
+//! Task tables: their spelling, their faults, and the program of each.
+//!
+//! The family Task tables: a table of frames, deadlines, costs and stays becomes a program.
+//! `table_format` has the definitions, `table_reader` reads a table, `table_program` writes the
+//! program's text.
+//!
+//! `specs/Spelling.antt` says how a table is spelled, `specs/Rules.antt` which text is a table,
+//! `specs/Faults.antt` what is wrong with a text that is none, and on which line. In
+//! `specs/Spending.antt` are the statements that take so many ticks, in `specs/Program.antt` the
+//! program of a table, whose canonical text is what is stored. Nothing here runs.
+#![tactic(auto)]
+
+mod table;
+
+pub use table::{Stay, TaskLine, TaskTable};
