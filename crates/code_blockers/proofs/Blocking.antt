@@ -2,13 +2,13 @@
 use Rattle.std.specs.Prelude.{◌≡◌, ◌≤◌, ◌<◌, ◌+◌, ◌-◌, ◌&&◌, ◌||◌, ℕ, suc, Bool, true, false, List, [], ◌∷◌, Option, Some, None, IsSomeAnd, Contains, drop, length, map, nat_eq, nat_le, slice_get}
 use Rattle.std.proofs.Common.{inl, inr, refl, sym, ap, subst, ◌∙◌, arith}
 use Rattle.std.proofs.lemmas.Bool.{false≢true, and_parts, and_from, eqb-true, eq-eqb, leb-true, le-leb}
-use Rattle.std.proofs.lemmas.List.{get_or-drop}
+use Rattle.std.proofs.lemmas.List.{get_or-drop, length-map}
 use Rattle.std.proofs.lemmas.Option.{none-some, same_Some, slice_get_within}
 use Rattle.base.proofs.Lists.{some_at}
 use Rattle.base.proofs.Members.{front_or_behind, none_in}
 use Rattle.base.specs.Capped.{cap}
-use Rattle.syntax_tree.specs.Plain.{Process, Program, Routine}
-use Rattle.source_semantics.specs.Names.{processes}
+use Rattle.syntax_tree.specs.Plain.{Monitor, Process, Program, Routine}
+use Rattle.source_semantics.specs.Names.{monitors, processes}
 use Rattle.source_semantics.specs.Ranks.{rank, ceiling}
 use Rattle.machine_semantics.specs.Image as image
 use Rattle.code_spec.specs.Layout.{Owner, by_program, by_process, by_monitor}
@@ -25,13 +25,14 @@ use Rattle.sched_why.specs.Blockers.{entry_of, place_in}
 use Rattle.codegen_ranks.specs.Calls.{RoutinesCallTheirTexts, ProcessesCallTheirTexts}
 use Rattle.codegen_ranks.specs.Ranks.{RanksAreOfTheMeaning, CeilingsAreOfTheMeaning}
 use Rattle.codegen_ranks.specs.Touches.{process_comes_to_one}
+use Rattle.codegen_ranks.proofs.Whole.{as_many_routines}
 use Rattle.built_tasks_law.proofs.Comes.{Goal, process_goal, process_comes}
 use Rattle.code_goals.specs.declared.nearest.Reached.{Reached}
 use Rattle.code_goals.specs.Goals.{calls_at, earliest_of, IsFirst, IsFirstReached}
 use Rattle.code_blockers.specs.declared.graph.CallGraph.{CallGraph}
 use Rattle.code_blockers.specs.Graphs.{IsCallGraph, IsImageOfText}
 use Rattle.code_blockers.specs.Found.{IsFoundOf, IsBlockerAt, IsBlockerFound, FoundIsTheBlocker}
-use Rattle.code_blockers.proofs.Reached.{ceiling_low, owner_low, text_goal, goal_within, at_most, comes}
+use Rattle.code_blockers.proofs.Reached.{ceiling_low, owner_low, text_goal, goal_within, at_most, comes, home_there}
 use Rattle.code_blockers.proofs.Pieces.{many, piece_there, Whose, whose}
 
 -- ---- a text at its place
@@ -87,6 +88,9 @@ module _ (g : Program) (m : image.Image) (graph : CallGraph) (held block : ℕ) 
 
   there : (stay : IsLowerStay g held block) → stay.number < length m.processes
   there stay = (let low = slice_get_within (processes g) stay.number stay.process stay.there in omega (arith, low, many g m of ranks))
+
+  home_of : (stay : IsLowerStay g held block) → (x : Monitor) × (slice_get (monitors g) stay.monitor ≡ Some x)
+  home_of stay = some_at (monitors g) stay.monitor (home_there g stay.monitor (entry_of stay) refl (text_of stay))
 
   -- ---- the process of a stay comes to its entry, or to an earlier place
 
@@ -181,6 +185,8 @@ module _ (g : Program) (m : image.Image) (graph : CallGraph) (held block : ℕ) 
           omega (arith, own, n, other.lower));
       stands = ap (λ n. slice_get (texts g) n) (sym s.at) ∙ stands_at_place g of.names.differ (entry_of s.stay) (text_of s.stay);
       number = s.number ∙ sym w.is_piece;
+      owner = (home_of s.stay).0;
+      owns = (home_of s.stay).1;
     }
 
     by : Whose g m of ranks graph.ranked.items is_graph.ranked held f.at b.piece → IsBlockerAt g held block b.place b.piece
@@ -197,3 +203,8 @@ found_is routines bodies ranks ceilings g m graph held block None of is_graph lo
     nothing g m graph held block of is_graph (few_ranks g m graph held of is_graph ranks low) routines bodies ranks ceilings None is_found is_block is_found.is_first
 found_is routines bodies ranks ceilings g m graph held block (Some b) of is_graph low is_block is_found =
     first_is g m graph held block of is_graph (few_ranks g m graph held of is_graph ranks low) routines bodies ranks ceilings (Some b) is_found b is_found.is_first
+
+pub places_long : (g : Program) (m : image.Image) (graph : CallGraph) → IsImageOfText g m → IsCallGraph g m graph → length graph.places.items ≡ length m.routines
+places_long g m graph of is_graph =
+    ap (λ (ps : List ℕ). length ps) is_graph.places
+    ∙ (length-map (numbered g) (λ (t : Text). place_in g t) ∙ sym (as_many_routines g m.code 0 of.code.between (numbered g) m.routines of.code.routine_code))

@@ -83,7 +83,7 @@ and_swap false true = refl
 and_swap false false = refl
 
 -- the monitor of an entry is there
-home_there : (g : Program) (j : ℕ) (t : Text) → t.owner ≡ by_monitor j → IsText g t → j < length (monitors g)
+pub home_there : (g : Program) (j : ℕ) (t : Text) → t.owner ≡ by_monitor j → IsText g t → j < length (monitors g)
 home_there g j t owner text = by (slice_get (monitors g) j) refl (sym (ap (λ o. text_named g o t.routine.name) owner) ∙ text) where
   by : (o : Option Monitor) → slice_get (monitors g) j ≡ o → entry_of j (slice_get (monitors g) j) t.routine.name ≡ Some t → j < length (monitors g)
   by None is h = absurd (none-some t (sym (ap (λ x. entry_of j x t.routine.name) is) ∙ h))

@@ -1,11 +1,13 @@
 -- What is found in the code is what the text says.
 use Rattle.std.specs.Prelude.{◌≡◌, ◌≤◌, ◌<◌, ℕ, List, Option, Some, None, drop, length, slice_get}
-use Rattle.syntax_tree.specs.Plain.{Program}
+use Rattle.syntax_tree.specs.Plain.{Monitor, Program}
+use Rattle.source_semantics.specs.Names.{monitors}
 use Rattle.source_semantics.specs.Ranks.{rank}
 use Rattle.machine_semantics.specs.Image.{Image}
 use Rattle.code_spec.specs.Numbering.{texts_from}
 use Rattle.sched_program.specs.Tasks.{IsLowerStay, IsBlock}
-use Rattle.sched_why.specs.Blockers.{entry_of, place_in}
+use Rattle.sched_sections.specs.declared.levels.Blocker.{Blocker}
+use Rattle.sched_why.specs.Blockers.{entry_of, place_in, IsBlocker}
 use Rattle.code_goals.specs.declared.nearest.Reached.{Reached}
 use Rattle.code_goals.specs.Goals.{calls_at, earliest_of, AreFirstPlaces, IsFirst}
 use Rattle.code_blockers.specs.declared.graph.CallGraph.{CallGraph}
@@ -28,6 +30,18 @@ pub record IsBlockerAt (g : Program) (held_up block place process : ℕ) : Type 
   pub nearest : (other : IsLowerStay g held_up block) → place_in g (entry_of stay) ≡ place_in g (entry_of other) → rank g stay.number ≤ rank g other.number
   pub stands : slice_get (texts_from 0 0 g.decls) place ≡ Some (entry_of stay)
   pub number : stay.number ≡ process
+  pub owner : Monitor
+  pub owns : slice_get (monitors g) stay.monitor ≡ Some owner
+
+-- they make the block of some rank
+pub record IsSomeBlockerAt (g : Program) (place process : ℕ) : Type 0 where
+  pub held_up : ℕ
+  pub block : ℕ
+  pub is : IsBlockerAt g held_up block place process
+
+-- these are their names
+abbrev pub IsNamedAt : Program → (place process : ℕ) → Blocker → Type 0
+IsNamedAt g place process b = (held block : ℕ) → IsBlockerAt g held block place process → IsBlocker g held block b
 
 abbrev pub IsBlockerFound : Program → (held_up block : ℕ) → Option Reached → Type 0
 IsBlockerFound g held block None = block ≡ 0
