@@ -1,0 +1,45 @@
+-- What is due of texts, by what was read of them.
+use Rattle.std.proofs.Common.{◌≡◌, ◌<◌, ◌∙◌, ℕ, List, Bool, true, false, Err, ap, length, refl, subst}
+use Rattle.std.specs.Prelude.{IfOk, Result}
+use Rattle.syntax.specs.Tokens.{longest_text}
+use Rattle.syntax_tree.specs.declared.place.Place.{Place}
+use Rattle.syntax_tree.specs.Placed.{Prog, plain}
+use Rattle.compile.specs.Written.{ReadsWritten}
+use Rattle.compile.specs.declared.read_text.ProgramTextFault.{ProgramTextFault}
+use Rattle.compile.specs.declared.read_text.ProgramTextFault.TheVariants as text_fault
+use Rattle.command_due.specs.CommandsDue.{Outcome, told}
+use Rattle.command_due.specs.FitDue.{IsFitDue, fit_faulty, fitted}
+use Rattle.command_due.specs.Source.{IsTextFault, IsWritten, fault_line}
+use Rattle.command_due.specs.WhyDue.{IsWhyDue, why_faulty, why_in_time, why_late}
+use Rattle.command_answers.specs.declared.act.PreparedCall.{PreparedCall}
+use Rattle.command_answers.specs.declared.status.Status.TheVariants as status
+use Rattle.command_answers.specs.Acting.{puts}
+use Rattle.command_answers.specs.Acts.{outcome_of}
+use Rattle.command_answers.proofs.Coming.{outcome_of_puts}
+use Rattle.sched_program.specs.Tasks.{IsInTime, IsNotInTime}
+use Rattle.sched_why.specs.Fits.{IsFitText}
+use Rattle.sched_why.specs.Levels.{IsWhyText}
+
+-- ---- `why`
+
+pub why_fault : (over : ℕ) (text : List ℕ) (number : ℕ) (place : Place) → IsTextFault text number place → IsWhyDue over text (outcome_of (puts status.Text (fault_line number place)))
+why_fault over text number place is = why_faulty number place is (outcome_of_puts status.Text (fault_line number place))
+
+pub why_told : (over : ℕ) (text : List ℕ) (g : Prog Place) (parts : List ℕ) → IsWritten text g → IsInTime (plain g) over → IsWhyText (plain g) over parts → IsWhyDue over text (outcome_of (puts status.Done parts))
+why_told over text g parts written in_time is = why_in_time g parts written in_time is (outcome_of_puts status.Done parts)
+
+pub why_told_late : (over : ℕ) (text : List ℕ) (g : Prog Place) (parts : List ℕ) → IsWritten text g → IsNotInTime (plain g) over → IsWhyText (plain g) over parts → IsWhyDue over text (outcome_of (puts status.Late parts))
+why_told_late over text g parts written late is = why_late g parts written late is (outcome_of_puts status.Late parts)
+
+-- ---- `fit`
+
+pub fit_fault : (over : ℕ) (text : List ℕ) (number : ℕ) (place : Place) → IsTextFault text number place → IsFitDue over text (outcome_of (puts status.Text (fault_line number place)))
+fit_fault over text number place is = fit_faulty number place is (outcome_of_puts status.Text (fault_line number place))
+
+pub fit_told : (over : ℕ) (text : List ℕ) (g : Prog Place) (fits : List ℕ) → IsWritten text g → IsFitText (plain g) over fits → IsFitDue over text (outcome_of (puts status.Done fits))
+fit_told over text g fits written is = fitted g fits written is (outcome_of_puts status.Done fits)
+
+-- ---- what was read
+
+pub fault_of : (why : ProgramTextFault) (number : ℕ) (place : Place) → why ≡ text_fault.Text number place → (text : List ℕ) → ReadsWritten text (Err why) → IsTextFault text number place
+fault_of why number place is text answer = subst (λ (w : ProgramTextFault). ReadsWritten text (Err w)) is answer

@@ -1,0 +1,64 @@
+//! `why` and `fit`.
+
+ghost use Rattle.std.specs.Prelude.{◌∷◌, [], ◌≡◌, ◌≤◌};
+ghost use Rattle.outside.specs.Outside.{AllStay, NoneFell};
+ghost use Rattle.command_words.specs.Calls as call;
+ghost use Rattle.command_answers.specs.Prepared.{Prepares};
+ghost use Rattle.command_answers.specs.Tried.{HasTried, status_of};
+
+use crate::acts::{fit_act, why_act};
+use command_answers::{LONGEST_PROGRAM, PrepareError, PreparedCall, read};
+use outside::Files;
+use std::alloc::Global;
+
+/// `why`.
+#[tactic(auto, using(command_answers::proofs::Trying::tried_last))]
+pub fn prepare_why<'a, F: Files>(
+    alloc: Global,
+    program: &str,
+    over: u16,
+    files: &mut F,
+) -> Result<PreparedCall<'a>, PrepareError>
+    requires { over ≤ 1000 }
+    ensures prepared { Prepares F.tells (call.why program.now over) (F.state files.old)
+        (F.state files.new) result }
+    ensures files { AllStay (F.state files.old).held (F.state files.new).held }
+    ensures read_counts { NoneFell (F.state files.old).read_faults (F.state files.new).read_faults }
+    ensures write_counts { NoneFell (F.state files.old).write_faults
+        (F.state files.new).write_faults }
+    ensures reads { HasTried (program.now ∷ []) (F.state files.old).reads
+        (F.state files.new).reads (status_of result) }
+    ensures writes { (F.state files.new).writes ≡ (F.state files.old).writes }
+{
+    let content = read(files, program, LONGEST_PROGRAM)?;
+    match why_act(alloc, &content, over) {
+        Ok(act) => Ok(act),
+        Err(_) => Err(PrepareError::Memory),
+    }
+}
+
+/// `fit`.
+#[tactic(auto, using(command_answers::proofs::Trying::tried_last))]
+pub fn prepare_fit<'a, F: Files>(
+    alloc: Global,
+    program: &str,
+    over: u16,
+    files: &mut F,
+) -> Result<PreparedCall<'a>, PrepareError>
+    requires { over ≤ 1000 }
+    ensures prepared { Prepares F.tells (call.fit program.now over) (F.state files.old)
+        (F.state files.new) result }
+    ensures files { AllStay (F.state files.old).held (F.state files.new).held }
+    ensures read_counts { NoneFell (F.state files.old).read_faults (F.state files.new).read_faults }
+    ensures write_counts { NoneFell (F.state files.old).write_faults
+        (F.state files.new).write_faults }
+    ensures reads { HasTried (program.now ∷ []) (F.state files.old).reads
+        (F.state files.new).reads (status_of result) }
+    ensures writes { (F.state files.new).writes ≡ (F.state files.old).writes }
+{
+    let content = read(files, program, LONGEST_PROGRAM)?;
+    match fit_act(alloc, &content, over) {
+        Ok(act) => Ok(act),
+        Err(_) => Err(PrepareError::Memory),
+    }
+}

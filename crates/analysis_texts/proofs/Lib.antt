@@ -1,0 +1,4 @@
+pub mod Shape
+pub mod Analysed
+pub mod Why
+pub mod Fits

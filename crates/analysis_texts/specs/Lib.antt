@@ -1,0 +1,3 @@
+pub mod Analysed
+pub mod Told
+pub mod Fitted

@@ -1,0 +1,4 @@
+pub mod Reached
+pub mod Pieces
+pub mod Blocking
+pub mod Places
