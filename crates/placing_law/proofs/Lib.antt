@@ -1,0 +1,9 @@
+pub mod PlainMoved
+pub mod GrammarMoved
+pub mod Both
+pub mod Sites
+pub mod Names
+pub mod NameRules
+pub mod Rules
+pub mod Things
+pub mod Parts
