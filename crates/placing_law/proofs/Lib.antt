@@ -1,9 +1,16 @@
-pub mod PlainMoved
-pub mod GrammarMoved
-pub mod Both
-pub mod Sites
-pub mod Names
-pub mod NameRules
-pub mod Rules
-pub mod Things
-pub mod Parts
+mod PlainMoved
+mod GrammarMoved
+mod Both
+mod Sites
+mod Names
+mod NameRules
+mod Rules
+mod Things
+mod Parts
+mod Sorts
+mod Statements
+mod Numbers
+mod Calls
+mod TokenPlaces
+mod Pairs
+mod Checked
