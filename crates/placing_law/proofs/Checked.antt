@@ -9,7 +9,6 @@ use Rattle.syntax.specs.Lex.{TokensStandInOrder}
 use Rattle.syntax.specs.Words.{Tok, toks_of, words_of}
 use Rattle.syntax.specs.Grammar.{tree, IsProg}
 use Rattle.syntax_printer.proofs.MovedProgs.{prog-moves}
-use Rattle.static_rule.specs.First.{Failures}
 use Rattle.static_names.specs.Rules as names
 use Rattle.static_names.specs.Resolved.{IsRead, IsNamed}
 use Rattle.static_semantics.specs.Static.{Fails, IsChecked}
@@ -18,7 +17,7 @@ use Rattle.placing_law.specs.Alike.{AreAlike, Stays}
 use Rattle.placing_law.specs.Laws.{TreesAreCheckedAlike}
 use Rattle.placing_law.proofs.GrammarMoved.{moved_toks, program-carries}
 use Rattle.placing_law.proofs.TokenPlaces.{StandApart, tokens-apart}
-use Rattle.placing_law.proofs.Pairs.{Pair, one_of, two_of, both_toks, first-toks, second-toks, both-words, pairs-alike}
+use Rattle.placing_law.proofs.Pairs.{Pair, both_toks, first-toks, second-toks, both-words, pairs-alike}
 use Rattle.placing_law.proofs.NameRules.{names-stay}
 use Rattle.placing_law.proofs.Statements.{statements-stay}
 use Rattle.placing_law.proofs.Numbers.{limits-stay}
@@ -45,11 +44,17 @@ module _ (laws : Reading) (g h : Prog Place) (first : IsRead g) (second : IsRead
   words : words_of ts ≡ words_of os
   words = laws.one_list first.text second.text first.toks second.toks g h first.reads second.reads same
 
+  abbrev place_one : Pair ts os → Place
+  place_one x = x.one
+
+  abbrev place_two : Pair ts os → Place
+  place_two x = x.two
+
   -- the tree over the places of both
   record Joined : Type 0 where
     over : Prog (Pair ts os)
-    one : moved one_of over ≡ g
-    two : moved two_of over ≡ h
+    one : moved place_one over ≡ g
+    two : moved place_two over ≡ h
 
   joined : Joined
   joined =
@@ -57,37 +62,37 @@ module _ (laws : Reading) (g h : Prog Place) (first : IsRead g) (second : IsRead
       let it = (prog-moves {P = Place} {Q = Pair ts os} g).move ts [] first.reads zs (both-words ts os words) in
       let none : it.vs ≡ [] = no-words it.vs it.words in
       let grown : IsProg it.y zs [] = subst (λ vs. IsProg it.y zs vs) none it.takes in
-      let of_first : IsProg (moved one_of it.y) ts [] = subst (λ us. IsProg (moved one_of it.y) us []) (first-toks ts os words) ((program-carries one_of it.y).carry zs [] grown) in
-      let of_second : IsProg (moved two_of it.y) os [] = subst (λ us. IsProg (moved two_of it.y) us []) (second-toks ts os words) ((program-carries two_of it.y).carry zs [] grown) in
+      let of_first : IsProg (moved place_one it.y) ts [] = subst (λ us. IsProg (moved place_one it.y) us []) (first-toks ts os words) ((program-carries place_one it.y).carry zs [] grown) in
+      let of_second : IsProg (moved place_two it.y) os [] = subst (λ us. IsProg (moved place_two it.y) us []) (second-toks ts os words) ((program-carries place_two it.y).carry zs [] grown) in
       record {
         over = it.y;
-        one = laws.one_tree first.text first.toks (moved one_of it.y) g of_first first.reads;
-        two = laws.one_tree second.text second.toks (moved two_of it.y) h of_second second.reads;
+        one = laws.one_tree first.text first.toks (moved place_one it.y) g of_first first.reads;
+        two = laws.one_tree second.text second.toks (moved place_two it.y) h of_second second.reads;
       }
 
-  alike : AreAlike {X = Pair ts os} two_of one_of
+  alike : AreAlike {X = Pair ts os} place_two place_one
   alike x y = sym (pairs-alike ts os (tokens-apart first.text first.toks (laws.order first.text first.toks first.listed))
       (tokens-apart second.text second.toks (laws.order second.text second.toks second.listed)) x y)
 
   -- where a rule stays, it fails of neither if it does not fail of the first
   none-fails : (Fail : Prog Place → ℕ → Place → Type 0)
-      → ((number : ℕ) (place : Place) → Fail (moved two_of joined.over) number place → Stays two_of one_of place (Fail (moved one_of joined.over) number))
+      → ((number : ℕ) (place : Place) → Fail (moved place_two joined.over) number place → Stays place_two place_one place (Fail (moved place_one joined.over) number))
       → ((number : ℕ) (place : Place) → ¬ Fail g number place) → (number : ℕ) (place : Place) → ¬ Fail h number place
   none-fails Fail stays none number place fails =
       let it = stays number place (subst (λ x. Fail x number place) (sym joined.two) fails) in
-      none number (one_of it.at) (subst (λ x. Fail x number (one_of it.at)) joined.one it.holds)
+      none number (place_one it.at) (subst (λ x. Fail x number (place_one it.at)) joined.one it.holds)
 
   checked : IsChecked g → IsChecked h
   checked is = record {
     read = second;
-    named = none-fails names.Fails (names-stay two_of one_of alike joined.over) is.named;
+    named = none-fails names.Fails (names-stay place_two place_one alike joined.over) is.named;
     checked = none-fails Fails rules is.checked;
   }
     where
-      rules : (number : ℕ) (place : Place) → Fails (moved two_of joined.over) number place → Stays two_of one_of place (Fails (moved one_of joined.over) number)
-      rules number place (inl fails) = let it = statements-stay two_of one_of alike joined.over number place fails in record { at = it.at; is = it.is; holds = inl it.holds }
-      rules number place (inr (inl fails)) = let it = limits-stay two_of one_of alike joined.over number place fails in record { at = it.at; is = it.is; holds = inr (inl it.holds) }
-      rules number place (inr (inr fails)) = let it = reaching-stays two_of one_of alike joined.over number place fails in record { at = it.at; is = it.is; holds = inr (inr it.holds) }
+      rules : (number : ℕ) (place : Place) → Fails (moved place_two joined.over) number place → Stays place_two place_one place (Fails (moved place_one joined.over) number)
+      rules number place (inl fails) = let it = statements-stay place_two place_one alike joined.over number place fails in record { at = it.at; is = it.is; holds = inl it.holds }
+      rules number place (inr (inl fails)) = let it = limits-stay place_two place_one alike joined.over number place fails in record { at = it.at; is = it.is; holds = inr (inl it.holds) }
+      rules number place (inr (inr fails)) = let it = reaching-stays place_two place_one alike joined.over number place fails in record { at = it.at; is = it.is; holds = inr (inr it.holds) }
 
 pub checked-alike : Reading → TreesAreCheckedAlike
 checked-alike laws g h first second same is = checked laws g h first second same is
