@@ -1,9 +1,9 @@
 -- What is reached by calls in a tree and in the tree with other places.
-use Rattle.std.proofs.Common.{◌≡◌, ℕ, zero, suc, ◌<◌, Bool, true, false, ◌||◌, List, [], ◌∷◌, map, length, slice_index_or, ◌⊎◌, inl, inr, Option, Some, None, refl, sym, ◌∙◌, ap, subst, arith}
+use Rattle.std.proofs.Common.{◌≡◌, ℕ, zero, suc, true, ◌||◌, List, [], ◌∷◌, map, ◌⊎◌, inl, inr, Option, Some, None, refl, sym, ◌∙◌, ap, subst, arith}
 use Rattle.std.specs.Prelude.{Contains}
-use Rattle.syntax_tree.specs.Placed.{Expr, literal, truth, variable, element, call, minus, negation, paren, row, Exprs, no_exprs, exprs, Operands, no_operands, operand, Ref, whole, part, Stmt, assign, assign_entry, assign_empty, perform, perform_entry, when, when_else, loop, exit_when, get, put, wait, signal, broadcast, except, assert, Stmts, no_stmts, stmts, Routine, Handler, Process, Prog, optional}
+use Rattle.syntax_tree.specs.Placed.{Expr, literal, truth, variable, element, call, minus, negation, paren, row, Exprs, no_exprs, exprs, Operands, no_operands, operand, Ref, whole, part, Stmt, assign, assign_entry, assign_empty, perform, perform_entry, when, when_else, loop, exit_when, get, put, wait, signal, broadcast, except, assert, Stmts, no_stmts, stmts, Routine, Handler, Prog, optional}
 use Rattle.syntax_tree.specs.declared.place.Place.{Place}
-use Rattle.syntax_tree.specs.Parts.{same_place, routines, processes}
+use Rattle.syntax_tree.specs.Parts.{routines, processes}
 use Rattle.static_names.specs.Occurrences.{names, declared_at}
 use Rattle.static_calls.specs.Calls as of
 use Rattle.static_calls.specs.Calls.{Declared, called, routine_calls, stmts_calls, stmt_waits, stmts_wait}
@@ -12,7 +12,7 @@ use Rattle.placing_law.specs.Moved.{moved_expr, moved_exprs, moved_operands, mov
 use Rattle.placing_law.specs.Alike.{AreAlike, Stays}
 use Rattle.placing_law.proofs.Both.{Both, here, along, both-same, Likewise, Pairwise}
 use Rattle.placing_law.proofs.NameRules.{found-like}
-use Rattle.placing_law.proofs.Numbers.{processes-like, routines-of, routine-place, process-place}
+use Rattle.placing_law.proofs.Numbers.{processes-like, routines-of, routine-place}
 use Rattle.placing_law.proofs.Pairs.{same-true, itself}
 
 record Cs {X : Type 0} (a b : X → Place) (xs ys : List Place) : Type 0 where

@@ -1,6 +1,6 @@
 -- Two trees that are read and are the same apart from places are one tree with two placings, which
 -- are alike; so rules fail of both or of none.
-use Rattle.std.proofs.Common.{◌≡◌, ℕ, List, [], ◌∷◌, map, inl, inr, refl, sym, ◌∙◌, ap, subst}
+use Rattle.std.proofs.Common.{◌≡◌, ℕ, List, [], ◌∷◌, inl, inr, refl, sym, subst}
 use Rattle.syntax_tree.specs.declared.place.Place.{Place}
 use Rattle.syntax_tree.specs.Placed.{Prog}
 use Rattle.syntax_tree.specs.Bare.{bare}
@@ -10,13 +10,13 @@ use Rattle.syntax.specs.Words.{Tok, toks_of, words_of}
 use Rattle.syntax.specs.Grammar.{tree, IsProg}
 use Rattle.syntax_printer.proofs.MovedProgs.{prog-moves}
 use Rattle.static_names.specs.Rules as names
-use Rattle.static_names.specs.Resolved.{IsRead, IsNamed}
+use Rattle.static_names.specs.Resolved.{IsRead}
 use Rattle.static_semantics.specs.Static.{Fails, IsChecked}
 use Rattle.placing_law.specs.Moved.{moved}
 use Rattle.placing_law.specs.Alike.{AreAlike, Stays}
 use Rattle.placing_law.specs.Laws.{TreesAreCheckedAlike}
-use Rattle.placing_law.proofs.GrammarMoved.{moved_toks, program-carries}
-use Rattle.placing_law.proofs.TokenPlaces.{StandApart, tokens-apart}
+use Rattle.placing_law.proofs.GrammarMoved.{program-carries}
+use Rattle.placing_law.proofs.TokenPlaces.{tokens-apart}
 use Rattle.placing_law.proofs.Pairs.{Pair, both_toks, first-toks, second-toks, both-words, pairs-alike}
 use Rattle.placing_law.proofs.NameRules.{names-stay}
 use Rattle.placing_law.proofs.Statements.{statements-stay}

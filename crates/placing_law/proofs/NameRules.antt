@@ -1,16 +1,16 @@
 -- The rules for names in a tree and in the tree with other places.
-use Rattle.std.proofs.Common.{◌≡◌, ℕ, Bool, true, not, ◌⊎◌, inl, inr, List, [], ◌∷◌, Option, Some, None, refl, sym, ◌∙◌, ap}
+use Rattle.std.proofs.Common.{◌≡◌, ℕ, Bool, true, not, inl, inr, List, [], ◌∷◌, Some, None, refl, sym, ◌∙◌}
 use Rattle.std.specs.Prelude.{if◌then◌else◌}
 use Rattle.syntax_tree.specs.Placed.{Prog}
 use Rattle.syntax_tree.specs.declared.place.Place.{Place}
 use Rattle.syntax_tree.specs.Parts.{same_place}
-use Rattle.static_names.specs.Reach.{same, suits, or_else}
+use Rattle.static_names.specs.Reach.{same, suits}
 use Rattle.static_names.specs.Occurrences.{Occurrence, declares, closes, used, names, declared_at}
 use Rattle.static_names.specs.Rules.{Among, place_of, undeclared, shadows, misused, misclosed, Fails}
 use Rattle.placing_law.specs.Moved.{moved}
 use Rattle.placing_law.specs.Alike.{AreAlike, Stays}
 use Rattle.placing_law.proofs.Both.{Both, both-same, Likewise, Pairwise, chosen}
-use Rattle.placing_law.proofs.Sites.{LikeDeclared, or-else-like}
+use Rattle.placing_law.proofs.Sites.{or-else-like}
 use Rattle.placing_law.proofs.Names.{LikeOccurrence, names-like}
 
 module _ {X : Type 0} (a b : X → Place) where

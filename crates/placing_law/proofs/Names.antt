@@ -1,14 +1,13 @@
 -- The names of a tree and of the tree with other places, one by one.
-use Rattle.std.proofs.Common.{◌≡◌, Bool, true, false, ◌||◌, List, [], ◌∷◌, ◌++◌, map, Option, Some, None, is_some, refl, sym, ◌∙◌, ap}
+use Rattle.std.proofs.Common.{◌≡◌, ◌||◌, List, [], ◌∷◌, ◌++◌, map, Option, Some, None, is_some, refl, ◌∙◌, ap}
 use Rattle.syntax_tree.specs.Plain.{Name}
 use Rattle.syntax_tree.specs.Placed.{Constant, literal_constant, named_constant, Scalar, int, boolean, subrange, Kind, scalar, array, Var, Param, Expr, literal, truth, variable, element, call, minus, negation, paren, row, Exprs, no_exprs, exprs, Operands, no_operands, operand, Ref, whole, part, Stmt, assign, assign_entry, assign_empty, perform, perform_entry, when, when_else, loop, exit_when, get, put, wait, signal, broadcast, except, assert, Stmts, no_stmts, stmts, Routine, Member, variable_member, condition_member, Monitor, Activation, periodic, at_event, Handler, Process, Decl, constant, device, event, routine, monitor, process, Prog, optional}
 use Rattle.syntax_tree.specs.declared.place.Place.{Place}
 use Rattle.syntax_tree.specs.Parts.{same_place}
 use Rattle.static_names.specs.declared.kind.Declared.{Declared}
-use Rattle.static_names.specs.declared.kind.Kind.TheVariants as kind_is
 use Rattle.static_names.specs.declared.kind.NameUse.{NameUse}
 use Rattle.static_names.specs.declared.kind.NameUse.TheVariants as want_is
-use Rattle.static_names.specs.Reach.{Names, Reach, first, Site, inside, inside_monitor, through}
+use Rattle.static_names.specs.Reach.{Names, Reach, first, Site, inside, inside_monitor}
 use Rattle.static_names.specs.Occurrences as o
 use Rattle.static_names.specs.Occurrences.{Occurrence, declares, closes, used, uses}
 use Rattle.placing_law.specs.Moved.{moved_constant, moved_scalar, moved_kind, moved_var, moved_param, moved_expr, moved_exprs, moved_operands, moved_ref, moved_stmt, moved_stmts, moved_routine, moved_member, moved_monitor, moved_activation, moved_handler, moved_process, moved_decl, moved}
@@ -59,8 +58,10 @@ module _ {X : Type 0} (a b : X → Place) where
       let near : is_some (first before d.0) ≡ is_some (first after e.0) = taken-like (first before) (first after) (first-like a b before after earlier) d e like.0 in
       let far : is_some (m d.0) ≡ is_some (n e.0) = taken-like m n reach d e like.0 in
       record {
-        are = ((like.0.declared.place, λ i. near i || far i),
-            (declarations-like m n reach (before ++ d ∷ []) (after ++ e ∷ []) (appended (LikeNamed a b) before (d ∷ []) after (e ∷ []) earlier (like.0, tt)) ds es like.1 rest).are);
+        are = (
+          (like.0.declared.place, λ i. near i || far i),
+          (declarations-like m n reach (before ++ d ∷ []) (after ++ e ∷ []) (appended (LikeNamed a b) before (d ∷ []) after (e ∷ []) earlier (like.0, tt)) ds es like.1 rest).are,
+        );
       }
 
   constant-like : (k : Sites a b) (c : Constant X) {xs ys : List Occurrence} → Os a b xs ys → Os a b (o.constant_names k.one (moved_constant a c) xs) (o.constant_names k.two (moved_constant b c) ys)
@@ -294,8 +295,10 @@ module _ {X : Type 0} (a b : X → Place) where
           like = record { means = first-like a b ms ns names; members = are };
         } in
         record {
-          are = ((n.declared.place, taken-like (first before) (first after) (first-like a b before after earlier) c e n),
-              (decl-like k d (decls-like members others are (before ++ c ∷ []) (after ++ e ∷ []) (appended (LikeNamed a b) before (c ∷ []) after (e ∷ []) earlier (n, tt)) ds rest)).are);
+          are = (
+            (n.declared.place, taken-like (first before) (first after) (first-like a b before after earlier) c e n),
+            (decl-like k d (decls-like members others are (before ++ c ∷ []) (after ++ e ∷ []) (appended (LikeNamed a b) before (c ∷ []) after (e ∷ []) earlier (n, tt)) ds rest)).are,
+          );
         }
 
     pub names-like : (t : Prog X) → Pairwise (LikeOccurrence a b) (o.names (moved a t)) (o.names (moved b t))
@@ -303,6 +306,6 @@ module _ {X : Type 0} (a b : X → Place) where
         let rest : Os a b (closes t.close (a t.close_place) t.name ∷ []) (closes t.close (b t.close_place) t.name ∷ []) = closed-like t.close t.name t.close_place (record { are = tt }) in
         let own : LikeNames a b (o.program_name (moved a t) ∷ []) (o.program_name (moved b t) ∷ []) = (record { name = refl; declared = record { kind = refl; place = here a b t.place } }, tt) in
         let inner = decls-like (λ p. first (o.entries_at (map (moved_decl a) t.decls) p)) (λ q. first (o.entries_at (map (moved_decl b) t.decls) q))
-            (λ p q places. first-like a b (o.entries_at (map (moved_decl a) t.decls) p) (o.entries_at (map (moved_decl b) t.decls) q) (entries-at-like t.decls p q places))
-            (o.program_name (moved a t) ∷ []) (o.program_name (moved b t) ∷ []) own t.decls rest in
+        (λ p q places. first-like a b (o.entries_at (map (moved_decl a) t.decls) p) (o.entries_at (map (moved_decl b) t.decls) q) (entries-at-like t.decls p q places))
+        (o.program_name (moved a t) ∷ []) (o.program_name (moved b t) ∷ []) own t.decls rest in
         ((here a b t.place, refl), inner.are)

@@ -1,10 +1,10 @@
 -- The rules for declarations in a tree and in the tree with other places.
-use Rattle.std.proofs.Common.{◌≡◌, ℕ, zero, suc, ◌+◌, Bool, true, false, ◌&&◌, ◌||◌, List, [], ◌∷◌, ◌++◌, map, ◌⊎◌, inl, inr, Option, Some, None, ℤ, refl, sym, ◌∙◌, ap}
+use Rattle.std.proofs.Common.{◌≡◌, ℕ, zero, suc, ◌+◌, Bool, true, false, ◌&&◌, ◌||◌, List, [], ◌∷◌, ◌++◌, map, inl, inr, Option, Some, None, ℤ, refl, ap}
 use Rattle.std.specs.Prelude.{pos, ◌+ℤ◌, ◌-ℤ◌, int_le, int_lt, nat_eq, nat_lt, slice_get, if◌then◌else◌}
 use Rattle.base.specs.Words.{same}
 use Rattle.syntax_tree.specs.Placed.{Constant, Scalar, int, boolean, subrange, Kind, scalar, array, Var, Param, Routine, Member, variable_member, condition_member, Monitor, Activation, periodic, at_event, Handler, Process, Decl, constant, device, event, routine, monitor, process, Prog, optional}
 use Rattle.syntax_tree.specs.declared.place.Place.{Place}
-use Rattle.syntax_tree.specs.Parts.{same_place, processes, monitors, routines, devices, events}
+use Rattle.syntax_tree.specs.Parts.{processes, monitors, routines, devices, events}
 use Rattle.source_semantics.specs.Store.{up_to}
 use Rattle.static_rule.specs.Parts.{FailsAmong}
 use Rattle.static_names.specs.Occurrences.{names, declared_at}
@@ -18,9 +18,9 @@ use Rattle.static_numbers.specs.Counts.{process_places, monitor_places, conditio
 use Rattle.static_numbers.specs.Rules.{bounds_rules, process_rules, event_rules, handler_rules, count_rules, LimitFails}
 use Rattle.placing_law.specs.Moved.{moved_constant, moved_scalar, moved_kind, moved_var, moved_param, moved_routine, moved_member, moved_monitor, moved_activation, moved_handler, moved_process, moved_decl, moved}
 use Rattle.placing_law.specs.Alike.{AreAlike, Stays}
-use Rattle.placing_law.proofs.Both.{Both, here, along, both-same, Likewise, Pairwise, chosen, appended}
+use Rattle.placing_law.proofs.Both.{Both, here, along, both-same, Likewise, Pairwise, appended}
 use Rattle.placing_law.proofs.NameRules.{found-like}
-use Rattle.placing_law.proofs.Rules.{LikeRule, placed-if, placed-unless, among-stays}
+use Rattle.placing_law.proofs.Rules.{placed-if, placed-unless, among-stays}
 use Rattle.placing_law.proofs.Statements.{LikeWorth, worth-like, constant-place-like, out-like}
 
 pub data LikeBounds {X : Type 0} (a b : X → Place) : Bounds → Bounds → Type 0 where
@@ -233,9 +233,11 @@ module _ {X : Type 0} (a b : X → Place) where
     handled-like before after earlier (c ∷ cs) rest =
         let own = here (moved_constant a) (moved_constant b) c in
         record {
-          are = (record { before = earlier; number = own },
-              (handled-like (before ++ moved_constant a c ∷ []) (after ++ moved_constant b c ∷ [])
-              (appended (LikeConstant a b) before (moved_constant a c ∷ []) after (moved_constant b c ∷ []) earlier (own, tt)) cs rest).are);
+          are = (
+            record { before = earlier; number = own },
+            (handled-like (before ++ moved_constant a c ∷ []) (after ++ moved_constant b c ∷ [])
+                (appended (LikeConstant a b) before (moved_constant a c ∷ []) after (moved_constant b c ∷ []) earlier (own, tt)) cs rest).are,
+          );
         }
 
     handler-like : (h : Option (Handler X)) {xs ys : List Handled} → Hs a b xs ys → Hs a b (handler_numbers (optional (moved_handler a) h) xs) (handler_numbers (optional (moved_handler b) h) ys)
@@ -332,9 +334,10 @@ module _ {X : Type 0} (a b : X → Place) where
 
     bounds-stay : (number : ℕ) (p : Place) → FailsAmong (bounds_rules (moved a t)) (decls_bounds (map (moved_decl a) t.decls) []) number p
         → Stays a b p (FailsAmong (bounds_rules (moved b t)) (decls_bounds (map (moved_decl b) t.decls) []) number)
-    bounds-stay number p = among-stays a b (LikeBounds a b) (bounds_rules (moved a t)) (bounds_rules (moved b t))
-        (record { number = refl; fails = λ x y like. crossed-like (value (moved a t)) (value (moved b t)) worth like },
-            (record { number = refl; fails = λ x y like. too-long-like (value (moved a t)) (value (moved b t)) worth like }, tt))
+    bounds-stay number p = among-stays a b (LikeBounds a b) (bounds_rules (moved a t)) (bounds_rules (moved b t)) (
+      record { number = refl; fails = λ x y like. crossed-like (value (moved a t)) (value (moved b t)) worth like },
+      (record { number = refl; fails = λ x y like. too-long-like (value (moved a t)) (value (moved b t)) worth like }, tt),
+    )
         (decls_bounds (map (moved_decl a) t.decls) []) (decls_bounds (map (moved_decl b) t.decls) []) (bounds-like t.decls (record { are = tt })).are number p
 
     of-process : (f g : Process Place → Option Place) → ((x : Process X) → Likewise (Both a b) (f (moved_process a x)) (g (moved_process b x)))
@@ -350,21 +353,26 @@ module _ {X : Type 0} (a b : X → Place) where
     processes-stay number p =
         let v = value (moved a t) in
         let w = value (moved b t) in
-        among-stays a b (Both (moved_process a) (moved_process b)) (process_rules (moved a t)) (process_rules (moved b t))
-        (record { number = refl; fails = of-process (bad_frame v) (bad_frame w) (frame-like v w worth) },
-            (record { number = refl; fails = of-process (bad_deadline v) (bad_deadline w) (deadline-like v w worth) },
-            (record { number = refl; fails = of-process (bad_first v) (bad_first w) (start-like v w worth) }, tt)))
+        among-stays a b (Both (moved_process a) (moved_process b)) (process_rules (moved a t)) (process_rules (moved b t)) (
+          record { number = refl; fails = of-process (bad_frame v) (bad_frame w) (frame-like v w worth) },
+          (
+            record { number = refl; fails = of-process (bad_deadline v) (bad_deadline w) (deadline-like v w worth) },
+            (record { number = refl; fails = of-process (bad_first v) (bad_first w) (start-like v w worth) }, tt),
+          ),
+        )
         (processes (map (moved_decl a) t.decls)) (processes (map (moved_decl b) t.decls)) (processes-like t.decls) number p
 
     events-stay : (number : ℕ) (p : Place) → FailsAmong (event_rules (moved a t)) (events (map (moved_decl a) t.decls)) number p
         → Stays a b p (FailsAmong (event_rules (moved b t)) (events (map (moved_decl b) t.decls)) number)
     events-stay number p =
-        among-stays a b (Both a b) (event_rules (moved a t)) (event_rules (moved b t))
-        (record {
-          number = refl;
-          fails = misused-like apart (declared_at (names (moved a t))) (declared_at (names (moved b t))) (found-like a b apart t)
-              (processes (map (moved_decl a) t.decls)) (processes (map (moved_decl b) t.decls)) (processes-like t.decls);
-        }, tt)
+        among-stays a b (Both a b) (event_rules (moved a t)) (event_rules (moved b t)) (
+          record {
+            number = refl;
+            fails = misused-like apart (declared_at (names (moved a t))) (declared_at (names (moved b t))) (found-like a b apart t)
+                (processes (map (moved_decl a) t.decls)) (processes (map (moved_decl b) t.decls)) (processes-like t.decls);
+          },
+          tt,
+        )
         (events (map (moved_decl a) t.decls)) (events (map (moved_decl b) t.decls)) (events-like t.decls) number p
 
     handlers-stay : (number : ℕ) (p : Place) → FailsAmong (handler_rules (moved a t)) (all_handled (processes (map (moved_decl a) t.decls))) number p
@@ -380,44 +388,60 @@ module _ {X : Type 0} (a b : X → Place) where
     counts-stay number p =
         let v = value (moved a t) in
         let w = value (moved b t) in
-        among-stays a b (Both (moved a) (moved b)) (count_rules (moved a t)) (count_rules (moved b t))
-        (record {
-          number = refl;
-          fails = of-program no_process no_process (λ x. none-like (Both (moved_process a) (moved_process b)) (a x.place) (b x.place) (here a b x.place) (processes (map (moved_decl a) x.decls)) (processes (map (moved_decl b) x.decls)) (processes-like x.decls));
-        },
-            (record {
+        among-stays a b (Both (moved a) (moved b)) (count_rules (moved a t)) (count_rules (moved b t)) (
+          record {
+            number = refl;
+            fails = of-program no_process no_process (λ x. none-like (Both (moved_process a) (moved_process b)) (a x.place) (b x.place) (here a b x.place) (processes (map (moved_decl a) x.decls)) (processes (map (moved_decl b) x.decls)) (processes-like x.decls));
+          },
+          (
+            record {
               number = refl;
               fails = of-program (λ h. one_too_many 64 (process_places h.decls)) (λ h. one_too_many 64 (process_places h.decls)) (λ x. one-like 64 (process_places (map (moved_decl a) x.decls)) (process_places (map (moved_decl b) x.decls))
                   (places-like (Both (moved_process a) (moved_process b)) (λ y. y.place) process-place (processes (map (moved_decl a) x.decls)) (processes (map (moved_decl b) x.decls)) (processes-like x.decls)));
             },
-            (record {
-              number = refl;
-              fails = of-program (λ h. one_too_many 64 (monitor_places h.decls)) (λ h. one_too_many 64 (monitor_places h.decls)) (λ x. one-like 64 (monitor_places (map (moved_decl a) x.decls)) (monitor_places (map (moved_decl b) x.decls))
-                  (places-like (Both (moved_monitor a) (moved_monitor b)) (λ y. y.place) monitor-place (monitors (map (moved_decl a) x.decls)) (monitors (map (moved_decl b) x.decls)) (monitors-like x.decls)));
-            },
-            (record {
-              number = refl;
-              fails = of-program (λ h. one_too_many 64 (devices h.decls)) (λ h. one_too_many 64 (devices h.decls)) (λ x. one-like 64 (devices (map (moved_decl a) x.decls)) (devices (map (moved_decl b) x.decls)) (devices-like x.decls));
-            },
-            (record {
-              number = refl;
-              fails = of-program (λ h. one_too_many 64 (events h.decls)) (λ h. one_too_many 64 (events h.decls)) (λ x. one-like 64 (events (map (moved_decl a) x.decls)) (events (map (moved_decl b) x.decls)) (events-like x.decls));
-            },
-            (record {
-              number = refl;
-              fails = of-program (λ h. one_too_many 256 (conditions (monitors h.decls))) (λ h. one_too_many 256 (conditions (monitors h.decls))) (λ x. one-like 256 (conditions (monitors (map (moved_decl a) x.decls))) (conditions (monitors (map (moved_decl b) x.decls)))
-                  (conditions-like (monitors (map (moved_decl a) x.decls)) (monitors (map (moved_decl b) x.decls)) (monitors-like x.decls)));
-            },
-            (record {
-              number = refl;
-              fails = of-program (λ h. one_too_many 512 (routine_places h.decls)) (λ h. one_too_many 512 (routine_places h.decls)) (λ x. one-like 512 (routine_places (map (moved_decl a) x.decls)) (routine_places (map (moved_decl b) x.decls))
-                  (places-like (Both (moved_routine a) (moved_routine b)) (λ y. y.place) routine-place (routines (map (moved_decl a) x.decls)) (routines (map (moved_decl b) x.decls)) (routines-of x.decls)));
-            },
-            (record {
-              number = refl;
-              fails = of-program (too_many_words v) (too_many_words w) (λ x. placed-if a b (nat_lt 1048576 (words v (map (moved_decl a) x.decls))) (nat_lt 1048576 (words w (map (moved_decl b) x.decls)))
-                  (ap (nat_lt 1048576) (words-like v w worth x.decls)) (a x.place) (b x.place) (here a b x.place));
-            }, tt))))))))
+            (
+              record {
+                number = refl;
+                fails = of-program (λ h. one_too_many 64 (monitor_places h.decls)) (λ h. one_too_many 64 (monitor_places h.decls)) (λ x. one-like 64 (monitor_places (map (moved_decl a) x.decls)) (monitor_places (map (moved_decl b) x.decls))
+                    (places-like (Both (moved_monitor a) (moved_monitor b)) (λ y. y.place) monitor-place (monitors (map (moved_decl a) x.decls)) (monitors (map (moved_decl b) x.decls)) (monitors-like x.decls)));
+              },
+              (
+                record {
+                  number = refl;
+                  fails = of-program (λ h. one_too_many 64 (devices h.decls)) (λ h. one_too_many 64 (devices h.decls)) (λ x. one-like 64 (devices (map (moved_decl a) x.decls)) (devices (map (moved_decl b) x.decls)) (devices-like x.decls));
+                },
+                (
+                  record {
+                    number = refl;
+                    fails = of-program (λ h. one_too_many 64 (events h.decls)) (λ h. one_too_many 64 (events h.decls)) (λ x. one-like 64 (events (map (moved_decl a) x.decls)) (events (map (moved_decl b) x.decls)) (events-like x.decls));
+                  },
+                  (
+                    record {
+                      number = refl;
+                      fails = of-program (λ h. one_too_many 256 (conditions (monitors h.decls))) (λ h. one_too_many 256 (conditions (monitors h.decls))) (λ x. one-like 256 (conditions (monitors (map (moved_decl a) x.decls))) (conditions (monitors (map (moved_decl b) x.decls)))
+                          (conditions-like (monitors (map (moved_decl a) x.decls)) (monitors (map (moved_decl b) x.decls)) (monitors-like x.decls)));
+                    },
+                    (
+                      record {
+                        number = refl;
+                        fails = of-program (λ h. one_too_many 512 (routine_places h.decls)) (λ h. one_too_many 512 (routine_places h.decls)) (λ x. one-like 512 (routine_places (map (moved_decl a) x.decls)) (routine_places (map (moved_decl b) x.decls))
+                            (places-like (Both (moved_routine a) (moved_routine b)) (λ y. y.place) routine-place (routines (map (moved_decl a) x.decls)) (routines (map (moved_decl b) x.decls)) (routines-of x.decls)));
+                      },
+                      (
+                        record {
+                          number = refl;
+                          fails = of-program (too_many_words v) (too_many_words w) (λ x. placed-if a b (nat_lt 1048576 (words v (map (moved_decl a) x.decls))) (nat_lt 1048576 (words w (map (moved_decl b) x.decls)))
+                              (ap (nat_lt 1048576) (words-like v w worth x.decls)) (a x.place) (b x.place) (here a b x.place));
+                        },
+                        tt,
+                      ),
+                    ),
+                  ),
+                ),
+              ),
+            ),
+          ),
+        )
         (moved a t ∷ []) (moved b t ∷ []) (here (moved a) (moved b) t, tt) number p
 
     pub limits-stay : (number : ℕ) (p : Place) → LimitFails (moved a t) number p → Stays a b p (LimitFails (moved b t) number)

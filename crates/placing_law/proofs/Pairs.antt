@@ -1,11 +1,10 @@
 -- The tokens of two texts with the same words, one by one: a tree over the pairs of their places is
 -- the tree of either.
-use Rattle.std.proofs.Common.{◌≡◌, ℕ, Bool, true, false, ◌&&◌, List, [], ◌∷◌, map, ◌⊎◌, inl, inr, refl, ap, sym, ◌∙◌, subst, eqb, eqb-true}
+use Rattle.std.proofs.Common.{◌≡◌, Bool, true, false, List, [], ◌∷◌, ◌⊎◌, inl, inr, refl, ap, sym, ◌∙◌, eqb, eqb-true}
 use Rattle.std.proofs.lemmas.Bool.{and_parts, and_from, eq-eqb}
 use Rattle.syntax_tree.specs.declared.place.Place.{Place}
 use Rattle.syntax_tree.specs.Parts.{same_place}
-use Rattle.syntax_tree.specs.Placed.{Prog}
-use Rattle.syntax.specs.Words.{Word, Tok, words_of}
+use Rattle.syntax.specs.Words.{Tok, words_of}
 use Rattle.placing_law.specs.Alike.{AreAlike}
 use Rattle.placing_law.proofs.GrammarMoved.{moved_toks}
 use Rattle.placing_law.proofs.TokenPlaces.{Away, StandApart}

@@ -1,15 +1,14 @@
 -- What is in reach in a tree and in the tree with other places.
-use Rattle.std.proofs.Common.{◌≡◌, Bool, true, false, List, [], ◌∷◌, ◌++◌, map, Option, Some, None, is_some, refl, sym, ◌∙◌, ap, subst}
-use Rattle.std.specs.Prelude.{if◌then◌else◌}
+use Rattle.std.proofs.Common.{◌≡◌, [], ◌∷◌, Option, Some, None, ap, subst}
 use Rattle.syntax_tree.specs.Plain.{Name}
 use Rattle.syntax_tree.specs.declared.place.Place.{Place}
 use Rattle.syntax_tree.specs.Parts.{same_place}
 use Rattle.static_names.specs.declared.kind.Declared.{Declared}
 use Rattle.static_names.specs.declared.kind.Kind.{Kind}
 use Rattle.static_names.specs.declared.kind.Kind.TheVariants as kind_is
-use Rattle.static_names.specs.Reach.{Names, Reach, same, nowhere, first, or_else, within, Site, inside, inside_monitor, members_of, through}
+use Rattle.static_names.specs.Reach.{Names, Reach, same, first, or_else, within, Site, inside, inside_monitor, members_of, through}
 use Rattle.placing_law.specs.Alike.{AreAlike}
-use Rattle.placing_law.proofs.Both.{Both, both-same, Likewise, Pairwise, both-some, chosen}
+use Rattle.placing_law.proofs.Both.{Both, both-same, Likewise, Pairwise, chosen}
 
 -- declared as the same, at two places of one position
 pub record LikeDeclared {X : Type 0} (a b : X → Place) (d e : Declared) : Type 0 where

@@ -1,7 +1,7 @@
 -- The sorts of expressions, and what is called in them, in a tree and in the tree with other places.
-use Rattle.std.proofs.Common.{◌≡◌, Bool, true, false, not, ◌&&◌, ◌||◌, List, [], ◌∷◌, map, Option, Some, None, refl, sym, ◌∙◌, ap}
+use Rattle.std.proofs.Common.{◌≡◌, Bool, not, ◌&&◌, ◌||◌, List, [], ◌∷◌, map, Option, Some, None, refl, sym, ◌∙◌, ap}
 use Rattle.std.specs.Prelude.{option_map}
-use Rattle.syntax_tree.specs.Placed.{Scalar, Param, Expr, literal, truth, variable, element, call, minus, negation, paren, row, Exprs, no_exprs, exprs, Operands, no_operands, operand, Ref, whole, part, RoutineKind, Routine, optional}
+use Rattle.syntax_tree.specs.Placed.{Scalar, Param, Expr, literal, truth, variable, element, call, minus, negation, paren, row, Exprs, no_exprs, exprs, Operands, no_operands, operand, Ref, whole, part, Routine, optional}
 use Rattle.syntax_tree.specs.declared.place.Place.{Place}
 use Rattle.static_declarations.specs.declared.sort.Sort.{Sort}
 use Rattle.static_declarations.specs.declared.sort.Sort.TheVariants as sort_is
@@ -10,9 +10,9 @@ use Rattle.static_declarations.specs.declared.sort.VarType.TheVariants as shape_
 use Rattle.static_declarations.specs.Sorts.{fits, gives, takes}
 use Rattle.static_declarations.specs.Things.{Thing, constant_thing, device_thing, routine_thing, variable_thing, loop_thing, other_thing, sort_of}
 use Rattle.static_types.specs.Sorts.{Named, word_sort, element_sort, answer_sort, is_array, row_sort, sort, asked, agrees, operands_agree, call_agrees}
-use Rattle.static_types.specs.Conduct.{is_function_kind, is_function, is_procedure, is_barred, strays, exprs_stray, operands_stray, ref_strays}
+use Rattle.static_types.specs.Conduct.{is_function, is_procedure, is_barred, strays, exprs_stray, operands_stray, ref_strays}
 use Rattle.placing_law.specs.Moved.{moved_scalar, moved_param, moved_expr, moved_exprs, moved_operands, moved_ref, moved_routine}
-use Rattle.placing_law.proofs.Both.{Both, here, along, Likewise, Pairwise, mapped}
+use Rattle.placing_law.proofs.Both.{Both, here, along, Likewise, Pairwise}
 use Rattle.placing_law.proofs.Things.{LikeThing, sorts}
 
 -- parameters of the same sorts

@@ -1,12 +1,10 @@
 -- The rules for statements in a tree and in the tree with other places.
-use Rattle.std.proofs.Common.{◌≡◌, ℕ, Bool, true, false, not, ◌&&◌, ◌||◌, List, [], ◌∷◌, Option, Some, None, ℤ, refl, sym, ◌∙◌, ap}
-use Rattle.std.specs.Prelude.{pos, ◌+ℤ◌, int_le, int_lt, if◌then◌else◌}
+use Rattle.std.proofs.Common.{◌≡◌, ℕ, Bool, true, false, not, ◌&&◌, ◌||◌, Option, Some, None, refl, sym, ◌∙◌, ap}
+use Rattle.std.specs.Prelude.{pos, ◌+ℤ◌, int_le, int_lt}
 use Rattle.base.specs.Words.{same}
-use Rattle.syntax_tree.specs.Placed.{Constant, literal_constant, named_constant, Expr, Ref, whole, part, Stmt, assign, assign_entry, assign_empty, perform, perform_entry, when, when_else, loop, exit_when, get, put, wait, signal, broadcast, except, assert, Prog, plain, plain_constant}
+use Rattle.syntax_tree.specs.Placed.{Constant, literal_constant, named_constant, Expr, Ref, whole, part, Stmt, assign, assign_entry, assign_empty, perform, perform_entry, when, when_else, loop, exit_when, get, put, wait, signal, broadcast, except, assert, Prog}
 use Rattle.syntax_tree.specs.declared.place.Place.{Place}
-use Rattle.syntax_tree.specs.Parts.{same_place}
 use Rattle.source_semantics.specs.Names.{constant_value}
-use Rattle.static_rule.specs.Parts.{Rule}
 use Rattle.static_declarations.specs.declared.sort.Sort.{Sort}
 use Rattle.static_declarations.specs.declared.sort.Sort.TheVariants as sort_is
 use Rattle.static_declarations.specs.declared.home.StmtContext.{StmtContext}
@@ -14,9 +12,9 @@ use Rattle.static_declarations.specs.declared.home.StmtContext.TheVariants as ho
 use Rattle.static_declarations.specs.declared.home.Where.{Where}
 use Rattle.static_declarations.specs.Sorts.{fits, alike}
 use Rattle.static_declarations.specs.Things.{Thing, constant_thing, device_thing, routine_thing, variable_thing, loop_thing, other_thing, sort_of, named_at}
-use Rattle.static_declarations.specs.Parts.{Part, statement, answer, stmt_place, parts}
+use Rattle.static_declarations.specs.Parts.{Part, stmt_place, parts}
 use Rattle.static_declarations.specs.Values.{Worth, value, constant_place, is_within, out_of}
-use Rattle.static_types.specs.Sorts.{Named, word_sort, element_sort, answer_sort, is_array, sort, asked, agrees, call_agrees}
+use Rattle.static_types.specs.Sorts.{Named, asked}
 use Rattle.static_types.specs.Types.{target_sort, target_agrees, is_of, stmt_agrees, mistyped}
 use Rattle.static_types.specs.Conduct as conduct
 use Rattle.static_types.specs.Conduct.{is_foreign, target_place, target_strays, in_entry, in_function, calls_nothing, stmt_strays, misplaced, is_device, misdirected, is_function, is_procedure, strays}
@@ -29,7 +27,7 @@ use Rattle.placing_law.proofs.PlainMoved.{constants, plain-moved}
 use Rattle.placing_law.proofs.Things.{LikeThing, sorts, named-like}
 use Rattle.placing_law.proofs.Parts.{LikeHome, LikeWhere, LikePart, statements, results, stmt-place-like, parts-like}
 use Rattle.placing_law.proofs.Rules.{LikeRule, placed-if, placed-unless, among-stays}
-use Rattle.placing_law.proofs.Sorts.{word-like, element-like, array-like, answered-like, function-like, procedure-like, asked-like, sort-like, agrees-like, call-agrees-like, strays-like, exprs-stray-like, ref-strays-like}
+use Rattle.placing_law.proofs.Sorts.{word-like, element-like, array-like, answered-like, function-like, procedure-like, asked-like, sort-like, agrees-like, call-agrees-like, strays-like, exprs-stray-like}
 
 -- constants are worth the same
 abbrev pub LikeWorth : {X : Type 0} → (a b : X → Place) → Worth → Worth → Type 0
@@ -244,15 +242,28 @@ module _ {X : Type 0} (a b : X → Place) where
         let known = named-like a b apart t in
         let v = value (moved a t) in
         let w = value (moved b t) in
-        let worth = worth-like a b t in
-        (record { number = refl; fails = λ x y like. typed-like n m known like },
-            (record { number = refl; fails = λ x y like. crossed-like v w worth like },
-            (record { number = refl; fails = λ x y like. endless-like v w worth like },
-            (record { number = refl; fails = λ x y like. long-like v w worth like },
-            (record { number = refl; fails = λ x y like. placed-like n m known apart like },
-            (record { number = refl; fails = λ x y like. directed-like n m known like },
-            (record { number = refl; fails = λ x y like. number-like v w worth like },
-            (record { number = refl; fails = λ x y like. limit-like v w worth like }, tt))))))))
+        let worth = worth-like a b t in (
+          record { number = refl; fails = λ x y like. typed-like n m known like },
+          (
+            record { number = refl; fails = λ x y like. crossed-like v w worth like },
+            (
+              record { number = refl; fails = λ x y like. endless-like v w worth like },
+              (
+                record { number = refl; fails = λ x y like. long-like v w worth like },
+                (
+                  record { number = refl; fails = λ x y like. placed-like n m known apart like },
+                  (
+                    record { number = refl; fails = λ x y like. directed-like n m known like },
+                    (
+                      record { number = refl; fails = λ x y like. number-like v w worth like },
+                      (record { number = refl; fails = λ x y like. limit-like v w worth like }, tt),
+                    ),
+                  ),
+                ),
+              ),
+            ),
+          ),
+        )
 
     pub statements-stay : (t : Prog X) (number : ℕ) (p : Place) → StatementFails (moved a t) number p → Stays a b p (StatementFails (moved b t) number)
     statements-stay t number p fails =

@@ -5,7 +5,6 @@ use Rattle.syntax_tree.specs.Placed.{Scalar, int, boolean, subrange, Kind, scala
 use Rattle.syntax_tree.specs.declared.place.Place.{Place}
 use Rattle.syntax_tree.specs.Parts.{same_place}
 use Rattle.static_names.specs.Occurrences.{names, declared_at}
-use Rattle.static_declarations.specs.declared.sort.VarType.{VarType}
 use Rattle.static_declarations.specs.declared.sort.VarType.TheVariants as shape_is
 use Rattle.static_declarations.specs.Things as things
 use Rattle.static_declarations.specs.Things.{Thing, constant_thing, device_thing, routine_thing, variable_thing, loop_thing, other_thing, sort_of, shape_of, learn, thing_at, named_at}
@@ -58,8 +57,10 @@ module _ {X : Type 0} (a b : X → Place) where
   routine-like is_entry r rest =
       let own = here a b r.place in
       record {
-        are = (record { place = own; thing = (refl, here (moved_routine a) (moved_routine b) r) },
-            (params-like (Some (a r.place)) (Some (b r.place)) own r.params (vars-like (Some (a r.place)) (Some (b r.place)) own r.vars rest)).are);
+        are = (
+          record { place = own; thing = (refl, here (moved_routine a) (moved_routine b) r) },
+          (params-like (Some (a r.place)) (Some (b r.place)) own r.params (vars-like (Some (a r.place)) (Some (b r.place)) own r.vars rest)).are,
+        );
       }
 
   routines-like : (is_entry : Bool) (rs : List (Routine X)) {xs ys : List (Place × Thing)} → Ts a b xs ys

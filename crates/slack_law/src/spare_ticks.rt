@@ -5,14 +5,12 @@ ghost use Rattle.slack_law.specs.Spared.{SlackHolds, SpareTicksHold};
 
 use built_valid_law::runnable_image::built_images_are_ready;
 use sched_theorem::in_time::dispatched_runs_are_in_time;
-use valid_image_law::validity_law::valid_meets_premises;
 
 /// In each run of the tasks of a valid image in which an activation of one process may take the
 /// ticks more that its line tells, each activation ends within the bound that the line tells of it.
 pub fn spare_ticks_hold()
     ensures { SpareTicksHold }
 {
-    valid_meets_premises();
     dispatched_runs_are_in_time();
 }
 
