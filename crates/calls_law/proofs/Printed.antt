@@ -1,5 +1,5 @@
 -- Calls on the text that `print` has put.
-use Rattle.std.proofs.Common.{◌≡◌, ◌≤◌, ◌∙◌, ◌↔◌, ℕ, List, Option, Some, length, refl, sym, subst, ap, arith}
+use Rattle.std.proofs.Common.{◌≡◌, ◌≤◌, ◌∙◌, ℕ, List, Option, Some, length, refl, sym, subst, ap, arith}
 use Rattle.syntax.specs.declared.token.Token.{Token}
 use Rattle.syntax.specs.Tokens.{longest_text, tokens}
 use Rattle.syntax_tree.specs.declared.place.Place.{Place}
@@ -15,7 +15,7 @@ use Rattle.load_text_law.proofs.Plain.{plain-bare}
 use Rattle.built_image_law.specs.Limits.{StacksAreInLimits}
 use Rattle.built_image.specs.Built.{IsBuilt, IsLate}
 use Rattle.built_image.specs.Shown.{IsTableOf}
-use Rattle.command_due.specs.Source.{IsLateText, IsTextFault, IsTimelyText, IsWritten, Style, late_report}
+use Rattle.command_due.specs.Source.{IsLateText, IsTimelyText, IsWritten, Style, late_report}
 use Rattle.command_due.specs.CommandsDue.{IsCompileDue, IsGoDue, IsPrintDue, IsRefused, IsReportDue, Outcome, compile_refused, compiled, faulty, go_bad_script, go_refused, late, print_faulty, printed, report_refused, report_timely, told, went}
 use Rattle.command_due_law.specs.DueOnce.{PrintIsOne, WrittenOnce, WrittenOrFaulty}
 use Rattle.command_due_law.proofs.DueOnceScripts.{text_once}
