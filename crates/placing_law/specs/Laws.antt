@@ -14,7 +14,8 @@ use Rattle.placing_law.specs.Moved.{moved}
 use Rattle.placing_law.specs.Alike.{AreAlike, Stays}
 
 -- where a rule fails of the tree at a place, this is that of a position, and the rule fails at the
--- other place of that position of the tree with the other places
+-- other place of that position of the tree with the other places; so it does the other way round
+-- too, since either placing may be the first
 abbrev pub FailsAlike : (Prog Place → ℕ → Place → Type 0) → Type 0
 FailsAlike Fails =
     (a b : ℕ → Place) → AreAlike a b → (tree : Prog ℕ) (number : ℕ) (place : Place) → Fails (moved a tree) number place
