@@ -20,7 +20,7 @@ use Rattle.command_due.specs.CommandsDue.{IsCompileDue, IsGoDue, IsPrintDue, IsR
 use Rattle.command_due_law.specs.DueOnce.{PrintIsOne, WrittenOnce, WrittenOrFaulty}
 use Rattle.command_due_law.proofs.DueOnceScripts.{text_once}
 use Rattle.sched_table.specs.Report.{report_text}
-use Rattle.calls_law.specs.Printed.{HaveOneProgram, PrintThenCompileIsTheSame, PrintThenGoIsTheSame, PrintThenPrintKeeps, PrintThenReportIsTheSame, PrintedTextsHaveTheProgram, Prints}
+use Rattle.calls_law.specs.Printed.{HaveOneProgram, PrintThenCompileIsTheSame, PrintThenGoIsTheSame, PrintThenPrintKeeps, PrintThenReportIsTheSame, PrintedTextsHaveTheProgram}
 use Rattle.calls_law.proofs.Sizes.{sizes_kept}
 
 -- the laws of the canonical text, and of two trees that are the same apart from places

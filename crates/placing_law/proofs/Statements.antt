@@ -17,7 +17,7 @@ use Rattle.static_declarations.specs.Values.{Worth, value, constant_place, is_wi
 use Rattle.static_types.specs.Sorts.{Named, asked}
 use Rattle.static_types.specs.Types.{target_sort, target_agrees, is_of, stmt_agrees, mistyped}
 use Rattle.static_types.specs.Conduct as conduct
-use Rattle.static_types.specs.Conduct.{is_foreign, target_place, target_strays, in_entry, in_function, calls_nothing, stmt_strays, misplaced, is_device, misdirected, is_function, is_procedure, strays}
+use Rattle.static_types.specs.Conduct.{is_foreign, target_strays, in_entry, in_function, calls_nothing, stmt_strays, misplaced, is_device, misdirected, strays}
 use Rattle.static_types.specs.Numbers.{crossed_loop, endless_loop, long_loop, bad_number, bad_limit}
 use Rattle.static_types.specs.Rules.{statement_rules, StatementFails}
 use Rattle.placing_law.specs.Moved.{moved_constant, moved_scalar, moved_expr, moved_ref, moved_stmt, moved}

@@ -1,6 +1,6 @@
 -- Each level of the tasks with more ticks has a bound, that of a process being the printed one; so
 -- the theorem of abstract runs gives it.
-use Rattle.std.proofs.Common.{◌≡◌, ◌≤◌, ◌<◌, ◌+◌, ◌-◌, ◌∙◌, ◌⊎◌, inl, inr, ℕ, Bool, true, false, List, length, Option, Some, None, refl, sym, ap, subst, arith}
+use Rattle.std.proofs.Common.{◌≡◌, ◌≤◌, ◌<◌, ◌+◌, ◌-◌, ◌⊎◌, inl, inr, ℕ, Bool, true, false, List, length, Some, None, refl, sym, ap, subst, arith}
 use Rattle.std.specs.Prelude.{slice_get, cond, nat_eq}
 use Rattle.std.proofs.lemmas.Bool.{cases_lt, eqb-true, eq-eqb}
 use Rattle.std.proofs.lemmas.List.{get_or-set_same}
@@ -23,10 +23,10 @@ use Rattle.valid_image.specs.Valid.{HasLimits, IsValid, Ranks}
 use Rattle.valid_image_law.proofs.Ranking.{ranked}
 use Rattle.loader.proofs.InOrder.{are_tasks, tasks_long}
 use Rattle.built_valid_law.specs.Ready.{BuiltImagesAreReady}
-use Rattle.command_due.specs.CommandsDue.{Outcome, faulty, late, told}
+use Rattle.command_due.specs.CommandsDue.{Outcome, faulty, late}
 use Rattle.command_due.specs.Lines.{IsSlackLine, IsSlackText, name_at}
-use Rattle.command_due.specs.SpareDue.{IsSlackDue, slack_refused, slack_told}
-use Rattle.slack_law.specs.Spared.{EndWithin, IsSpared, AreSpared, SpareTicksHold, SlackHolds}
+use Rattle.command_due.specs.SpareDue.{slack_refused, slack_told}
+use Rattle.slack_law.specs.Spared.{IsSpared, AreSpared, SpareTicksHold, SlackHolds}
 
 abbrev RunsAreInTime : Type 0
 RunsAreInTime = (ts : List Task) (bounds : ℕ → ℕ) (end : ℕ) (t : Trace) (d : Dispatch) → AreLimited ts → AreBounds ts bounds → IsDispatched ts end t d → IsInTime ts bounds end t
