@@ -5,7 +5,7 @@ use Rattle.table_format.specs.Program.{made_tail, program_with, program_of}
 use Rattle.table_ticks_law.proofs.Fits.{LineFits, table_fits}
 use Rattle.table_law.proofs.Members.{elem_of}
 use Rattle.table_law.proofs.Costs.{got_is_in, stays_there}
-use Rattle.table_law.proofs.Code.{few_instructions}
+use Rattle.table_law.proofs.Instructions.{few_instructions}
 use Rattle.table_law.proofs.Stacks.{entry_stack, process_stack}
 use Rattle.table_law.proofs.table_sizes.table_sizes.Goals as goal
 

@@ -8,7 +8,7 @@ use Rattle.table_format.specs.declared.table.TaskTable.{TaskTable}
 use Rattle.table_format.specs.Rules.{task_names, names_of_tasks, names_of_monitors, names, stays, IsBegun}
 use Rattle.table_format.specs.Program.{tail_of, is_in_the_way, made_tail}
 
-length-range : (a n : ℕ) → length (range_with_len a n) ≡ n
+pub length-range : (a n : ℕ) → length (range_with_len a n) ≡ n
 length-range a zero = omega arith
 length-range a (suc n) = omega (arith, length-range (a + 1) n)
 
@@ -24,7 +24,7 @@ two_names : (ps : List TaskLine) → length (flat_map task_names ps) ≤ 2 * len
 two_names [] = omega arith
 two_names (p ∷ ps) = omega (arith, one_or_none p.event, two_names ps, length-append (task_names p) (flat_map task_names ps))
 
-few_names : (t : TaskTable) → IsBegun t → length (names t) ≤ 641
+pub few_names : (t : TaskTable) → IsBegun t → length (names t) ≤ 641
 few_names t is =
     omega (arith, is.small.tasks, is.small.stays, two_names t.tasks, length-map (λ s. s.monitor) (stays t), length-append (names_of_tasks t) (names_of_monitors t))
 
