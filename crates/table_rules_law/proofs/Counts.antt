@@ -170,19 +170,32 @@ pub counts_kept : (tail : Name) (t : TaskTable) → IsBegun t → t.tasks ≢ []
     → (number : ℕ) (place : Place) → ¬ FailsAmong (count_rules g) (g ∷ []) number place
 counts_kept tail t is some g same are number place fails =
     let counts = subst (λ ds. AtMost tail t ds (length t.tasks + 0) (length (of_table.monitors t) + 0) (length t.tasks) (sum_of (λ name. length (stays_in t name)) (of_table.monitors t) + 0))
-        (sym (ap (λ x. x.decls) same)) (table_counts tail t) in
+    (sym (ap (λ x. x.decls) same)) (table_counts tail t) in
     let all_processes : length (processes g.decls) ≡ length t.tasks = omega (arith, processes_bare g.decls, counts.of_processes) in
     let all_monitors : length (monitors g.decls) ≤ 64 = omega (arith, monitors_bare g.decls, counts.of_monitors, is.small.monitors) in
     let all_events : length (events g.decls) ≤ 64 = omega (arith, events_bare g.decls, counts.of_events, is.small.tasks) in
     let all_routines : length (routines g.decls) ≤ 512 = omega (arith, routines_bare g.decls, counts.of_routines, few_entries t, is.small.stays) in
     let o : Option Place = None in
-    let none : NoneOf (count_rules g) g =
-        (some_there g.place (processes g.decls) (omega (arith, all_processes, some_line t.tasks some)),
-        (past_end (process_places g.decls) 64 (omega (arith, map_length (λ p. p.place) (processes g.decls), all_processes, is.small.tasks)),
-        (past_end (monitor_places g.decls) 64 (omega (arith, map_length (λ m. m.place) (monitors g.decls), all_monitors)),
-        (ap (λ (ps : List Place). slice_get ps 64) (no_devices tail t g.decls are),
-        (past_end (events g.decls) 64 all_events,
-        (ap (λ (ps : List Place). slice_get ps 256) (no_conditions tail t g.decls are),
-        (past_end (routine_places g.decls) 512 (omega (arith, map_length (λ r. r.place) (routines g.decls), all_routines)),
-        (ap (λ b. if b then Some g.place else o) (le-ltb 1048576 (words (value g) g.decls) (omega (arith, few_words tail t (value g) g.decls are, all_processes, is.small.tasks))), tt)))))))) in
+    let none : NoneOf (count_rules g) g = (
+      some_there g.place (processes g.decls) (omega (arith, all_processes, some_line t.tasks some)),
+      (
+        past_end (process_places g.decls) 64 (omega (arith, map_length (λ p. p.place) (processes g.decls), all_processes, is.small.tasks)),
+        (
+          past_end (monitor_places g.decls) 64 (omega (arith, map_length (λ m. m.place) (monitors g.decls), all_monitors)),
+          (
+            ap (λ (ps : List Place). slice_get ps 64) (no_devices tail t g.decls are),
+            (
+              past_end (events g.decls) 64 all_events,
+              (
+                ap (λ (ps : List Place). slice_get ps 256) (no_conditions tail t g.decls are),
+                (
+                  past_end (routine_places g.decls) 512 (omega (arith, map_length (λ r. r.place) (routines g.decls), all_routines)),
+                  (ap (λ b. if b then Some g.place else o) (le-ltb 1048576 (words (value g) g.decls) (omega (arith, few_words tail t (value g) g.decls are, all_processes, is.small.tasks))), tt),
+                ),
+              ),
+            ),
+          ),
+        ),
+      ),
+    ) in
     none_among (count_rules g) (g ∷ []) (none, tt) number place fails

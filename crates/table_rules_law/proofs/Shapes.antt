@@ -149,10 +149,10 @@ module _ (tail : Name) (May : Name → Name → Type 0) where
       let front = front_of it.inner _ no_stmts it.like in
       let in_it = looped front.first (codes "j" ++ tail) 1000 no_stmts front.first_like in
       let one : front.first ≡ loop in_it.p (codes "j" ++ tail) in_it.q in_it.low in_it.high no_stmts =
-          in_it.is ∙ ap (λ b. loop in_it.p (codes "j" ++ tail) in_it.q in_it.low in_it.high b) (no_more in_it.inner in_it.like) in
+      in_it.is ∙ ap (λ b. loop in_it.p (codes "j" ++ tail) in_it.q in_it.low in_it.high b) (no_more in_it.inner in_it.like) in
       let two = no_more front.others front.others_like in
       let is : s ≡ loop it.p (codes "i" ++ tail) it.q it.low it.high (stmts (loop in_it.p (codes "j" ++ tail) in_it.q in_it.low in_it.high no_stmts) no_stmts) =
-          it.is ∙ ap (λ b. loop it.p (codes "i" ++ tail) it.q it.low it.high b) (front.is ∙ (λ i. stmts (one i) (two i))) in
+      it.is ∙ ap (λ b. loop it.p (codes "i" ++ tail) it.q it.low it.high b) (front.is ∙ (λ i. stmts (one i) (two i))) in
       subst (λ u. IsBody tail May (stmts u ss)) (sym {b = loop it.p (codes "i" ++ tail) it.q it.low it.high (stmts (loop in_it.p (codes "j" ++ tail) in_it.q in_it.low in_it.high no_stmts) no_stmts)} is)
       (turns_twice it.p it.q it.low it.high k in_it.p in_it.q in_it.low in_it.high ss it.from it.up_to some few in_it.from in_it.up_to rest)
 

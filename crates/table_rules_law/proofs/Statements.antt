@@ -79,9 +79,19 @@ module _ (tail : Name) (t : TaskTable) (g : Prog Place) (are : Every (IsDeclOf t
       → long_loop (value g) (statement here s) ≡ None → stmt_strays named here s ≡ false → misdirected named (statement here s) ≡ None
       → bad_number (value g) (statement here s) ≡ None → bad_limit (value g) (statement here s) ≡ None → IsFine (statement here s)
   unfolding statement_rules
-  fine here s agrees crossed endless long strays directed number limit =
-      (ap (λ (b : Bool). if b then None else Some (stmt_place s)) agrees, (crossed, (endless, (long,
-      (ap (λ (b : Bool). if b then Some (stmt_place s) else None) strays, (directed, (number, (limit, tt))))))))
+  fine here s agrees crossed endless long strays directed number limit = (
+    ap (λ (b : Bool). if b then None else Some (stmt_place s)) agrees,
+    (
+      crossed,
+      (
+        endless,
+        (
+          long,
+          (ap (λ (b : Bool). if b then Some (stmt_place s) else None) strays, (directed, (number, (limit, tt)))),
+        ),
+      ),
+    ),
+  )
 
   to_number : (p : Place) (o : Option Sort) → IsNumber o → (not (is_array (named p)) && (true && alike (word_sort (named p)) o)) ≡ true
   to_number p o is =
@@ -116,24 +126,33 @@ module _ (tail : Name) (t : TaskTable) (g : Prog Place) (are : Every (IsDeclOf t
     body_fine : (in_loop : Bool) (ss : Stmts Place) → IsBody tail May ss → (more : List Part) → Every IsFine more
         → Every IsFine (stmts_parts (record { home = home; in_loop = in_loop }) ss more)
     body_fine in_loop ss ended more all = all
-    body_fine in_loop ss (clears p q v rest body) more all =
-        (fine (record { home = home; in_loop = in_loop }) (assign (whole p (of_x tail)) (literal q v)) (to_number p (Some sort_is.Number) (inr refl)) refl refl refl
-        (ap (λ b. (b || false) || false) (free (named p))) refl refl refl, body_fine in_loop rest body more all)
-    body_fine in_loop ss (keeps p q rest body) more all =
-        (fine (record { home = home; in_loop = in_loop }) (assign (whole p (of_x tail)) (variable q (of_x tail))) (from_name p q) refl refl refl
-        (ap (λ b. (b || false) || false) (free (named p))) refl refl refl, body_fine in_loop rest body more all)
-    body_fine in_loop ss (lowers p q r v rest body) more all =
-        (fine (record { home = home; in_loop = in_loop }) (assign (whole p (of_x tail)) (minus q (literal r v))) (to_number p (Some sort_is.Number) (inr refl)) refl refl refl
-        (ap (λ b. (b || false) || false) (free (named p))) refl refl refl, body_fine in_loop rest body more all)
+    body_fine in_loop ss (clears p q v rest body) more all = (
+      fine (record { home = home; in_loop = in_loop }) (assign (whole p (of_x tail)) (literal q v)) (to_number p (Some sort_is.Number) (inr refl)) refl refl refl
+          (ap (λ b. (b || false) || false) (free (named p))) refl refl refl,
+      body_fine in_loop rest body more all,
+    )
+    body_fine in_loop ss (keeps p q rest body) more all = (
+      fine (record { home = home; in_loop = in_loop }) (assign (whole p (of_x tail)) (variable q (of_x tail))) (from_name p q) refl refl refl
+          (ap (λ b. (b || false) || false) (free (named p))) refl refl refl,
+      body_fine in_loop rest body more all,
+    )
+    body_fine in_loop ss (lowers p q r v rest body) more all = (
+      fine (record { home = home; in_loop = in_loop }) (assign (whole p (of_x tail)) (minus q (literal r v))) (to_number p (Some sort_is.Number) (inr refl)) refl refl refl
+          (ap (λ b. (b || false) || false) (free (named p))) refl refl refl,
+      body_fine in_loop rest body more all,
+    )
     body_fine in_loop ss (turns p q low high k rest from up some few body) more all =
         (looping (record { home = home; in_loop = in_loop }) p (codes "i" ++ tail) q low high k no_stmts from up some few, body_fine in_loop rest body more all)
-    body_fine in_loop ss (turns_twice p q low high k a b least most rest from up some few from_one to_most body) more all =
-        (looping (record { home = home; in_loop = in_loop }) p (codes "i" ++ tail) q low high k (stmts (loop a (codes "j" ++ tail) b least most no_stmts) no_stmts) from up some few,
-        (looping (record { home = home; in_loop = true }) a (codes "j" ++ tail) b least most 1000 no_stmts from_one to_most (omega arith) (omega arith), body_fine in_loop rest body more all))
+    body_fine in_loop ss (turns_twice p q low high k a b least most rest from up some few from_one to_most body) more all = (
+      looping (record { home = home; in_loop = in_loop }) p (codes "i" ++ tail) q low high k (stmts (loop a (codes "j" ++ tail) b least most no_stmts) no_stmts) from up some few,
+      (looping (record { home = home; in_loop = true }) a (codes "j" ++ tail) b least most 1000 no_stmts from_one to_most (omega arith) (omega arith), body_fine in_loop rest body more all),
+    )
     body_fine in_loop ss (enters p q m e rest is body) more all =
-        (let none = may m e is in let call = no_function (named q) (tame q) in
-        (fine (record { home = home; in_loop = in_loop }) (perform_entry p m e q no_exprs) (no_asked named (named q) (tame q)) refl refl refl
-        (λ i. none i || (call i || false)) refl refl refl, body_fine in_loop rest body more all))
+        (let none = may m e is in let call = no_function (named q) (tame q) in (
+          fine (record { home = home; in_loop = in_loop }) (perform_entry p m e q no_exprs) (no_asked named (named q) (tame q)) refl refl refl
+              (λ i. none i || (call i || false)) refl refl refl,
+          body_fine in_loop rest body more all,
+        ))
 
   -- ---- the whole program
 
@@ -148,7 +167,7 @@ module _ (tail : Name) (t : TaskTable) (g : Prog Place) (are : Every (IsDeclOf t
   entries_fine (r ∷ rs) is more all =
       let rest = entries_fine rs is.1 more all in
       let answered : Every IsFine (answer_parts r.place r.result r.value (routines_parts true rs more)) =
-          subst (λ o. Every IsFine (answer_parts r.place o r.value (routines_parts true rs more))) (sym is.0.is.result) rest in
+      subst (λ o. Every IsFine (answer_parts r.place o r.value (routines_parts true rs more))) (sym is.0.is.result) rest in
       body_fine Nothing home_is.Entry free_entry (λ m e none. absurd none) false r.body is.0.is.body (answer_parts r.place r.result r.value (routines_parts true rs more)) answered
 
   decl_fine : (d : Decl Place) → IsDeclOf tail t d → (more : List Part) → Every IsFine more → Every IsFine (decl_parts d more)

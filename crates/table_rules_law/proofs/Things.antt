@@ -50,9 +50,11 @@ decls_tame tail t (d ∷ ds) are more tame = one d are.0 (decls_things ds more) 
     one d (an_event name place) more tame = (tt, tame)
     one d (a_monitor name m is) more tame =
         (tt, subst (λ ms. AreTame (members_things ms (routines_things true m.entries more))) (sym is.members) (entries_tame tail m.entries is.entries more tame))
-    one d (a_process line p is) more tame =
-        (tt, vars_tame None (of_x tail) p.vars is.x (routines_things false p.routines more)
-        (subst (λ rs. AreTame (routines_things false rs more)) (sym is.routines) tame))
+    one d (a_process line p is) more tame = (
+      tt,
+      vars_tame None (of_x tail) p.vars is.x (routines_things false p.routines more)
+          (subst (λ rs. AreTame (routines_things false rs more)) (sym is.routines) tame),
+    )
 
 -- ---- what a name is declared as
 

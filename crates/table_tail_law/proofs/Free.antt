@@ -164,7 +164,7 @@ free_number t is = by (stops (is_in_the_way t) 0 (length (names t) + 1))
     by (inl free) = free
     by (inr all) =
         (let every = all_counted (is_in_the_way t) (length (names t) + 1)
-            (λ k less. (let same : 0 + k ≡ k = omega arith in subst (λ m. is_in_the_way t m ≡ true) same (all k less))) in
+        (λ k less. (let same : 0 + k ≡ k = omega arith in subst (λ m. is_in_the_way t m ≡ true) same (all k less))) in
         let most = by_all t (table_fits t is) (length (names t) + 1) (omega (arith, few_names t is)) (names t) in
         absurd (omega (arith, every, most)))
 

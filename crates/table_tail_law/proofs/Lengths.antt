@@ -35,5 +35,10 @@ tail_short (suc number) few = omega (arith, length-decimal-le 3 (suc number) (om
 pub made_short : (t : TaskTable) → IsBegun t → (made : Name) → Contains (made_names t) made → length (made ++ made_tail t) ≤ 18
 made_short t is made in_made =
     let has = has_tail t is in
-    omega (arith, one_of_all (made_names t) made (all_short t (table_fits t is)) in_made, tail_short has.number has.few, length-append made (made_tail t),
-    ap (λ (tail : List ℕ). length tail) has.is)
+    omega (
+      arith,
+      one_of_all (made_names t) made (all_short t (table_fits t is)) in_made,
+      tail_short has.number has.few,
+      length-append made (made_tail t),
+      ap (λ (tail : List ℕ). length tail) has.is,
+    )

@@ -42,7 +42,7 @@ one_process tail p fits =
     let left = p.cost - least_cost p in
     let body = calling tail p.stays (spend tail left) (spending tail left (spend tail left) (spent tail left fits.met (omega (arith, fits.cost_few)))) in
     let activation = activated p p.event in
-    λ i. record (table_process tail p) { activation = activation i; body = body i; }
+    λ i. record (table_process tail p) { activation = activation i; body = body i }
 
 all_processes : (tail : Name) (ps : List TaskLine) → Every LineFits ps → map bare_decl (map (λ p. process (table_process tail p)) ps) ≡ map (λ p. process (table_process tail p)) ps
 all_processes tail [] fits = refl
@@ -52,7 +52,7 @@ one_entry : (tail : Name) (ticks : ℕ) → TicksFit ticks → bare_routine (sta
 one_entry tail ticks fits =
     let left = ticks - 3 in
     let body = spending tail left (spend tail left) (spent tail left fits.met (omega (arith, fits.few))) in
-    λ i. record (stay_entry tail ticks) { body = body i; }
+    λ i. record (stay_entry tail ticks) { body = body i }
 
 all_entries : (tail : Name) (ticks : List ℕ) → Every TicksFit ticks → map bare_routine (map (stay_entry tail) ticks) ≡ map (stay_entry tail) ticks
 all_entries tail [] fits = refl
@@ -60,7 +60,7 @@ all_entries tail (n ∷ ns) fits = (let one = one_entry tail n fits.0 in let mor
 
 module _ (tail : Name) (t : TaskTable) (fits : TableFits t) where
   one_monitor : (name : Name) → bare_monitor (table_monitor tail t name) ≡ table_monitor tail t name
-  one_monitor name = (let all = all_entries tail (stays_in t name) (stays_in_fit t fits name) in λ i. record (table_monitor tail t name) { entries = all i; })
+  one_monitor name = (let all = all_entries tail (stays_in t name) (stays_in_fit t fits name) in λ i. record (table_monitor tail t name) { entries = all i })
 
   all_monitors : (names : List Name) (ds : List (Decl Nowhere)) → map bare_decl ds ≡ ds
       → map bare_decl (map (λ name. monitor (table_monitor tail t name)) names ++ ds) ≡ map (λ name. monitor (table_monitor tail t name)) names ++ ds
@@ -83,4 +83,4 @@ module _ (tail : Name) (t : TaskTable) (fits : TableFits t) where
       let three = all_processes tail t.tasks fits.tasks in
       let two = all_monitors (monitors t) processes three in
       let one = all_events t.tasks (map (λ name. monitor (table_monitor tail t name)) (monitors t) ++ processes) two in
-      λ i. record (program_with tail t) { decls = one i; }
+      λ i. record (program_with tail t) { decls = one i }

@@ -42,10 +42,43 @@ spending tail n ss (by_four m _ more is few spends) ws = (_, (_, refl, (_, (tt, 
 spending tail n ss (by_five m _ more is few spends) ws = (_, (_, refl, (_, (tt, refl), (_, refl, refl))), spending tail m more spends ws)
 spending tail n ss (by_short turns m _ more is some few least most spends) ws =
     (_, (_, refl, (_, refl, (_, (tt, refl), (_, (refl, refl), (_, (tt, refl), (_, (refl, refl), (_, (tt, refl), (_, refl, (_, (tt, refl), (tt, refl)))))))))), spending tail m more spends ws)
-spending tail n ss (by_long turns m _ more is some few least most spends) ws =
-    (_, (_, refl, (_, refl, (_, (tt, refl), (_, (refl, refl), (_, (tt, refl), (_, (refl, refl), (_, (tt, refl),
-    (_, (_, (_, refl, (_, refl, (_, (tt, refl), (_, (refl, refl), (_, (tt, refl), (_, (refl, refl), (_, (tt, refl), (_, refl, (_, (tt, refl), (tt, refl)))))))))), refl),
-    (_, (tt, refl), (tt, refl)))))))))), spending tail m more spends ws)
+spending tail n ss (by_long turns m _ more is some few least most spends) ws = (
+  _,
+  (
+    _,
+    refl,
+    (
+      _,
+      refl,
+      (
+        _,
+        (tt, refl),
+        (
+          _,
+          (refl, refl),
+          (
+            _,
+            (tt, refl),
+            (
+              _,
+              (refl, refl),
+              (
+                _,
+                (tt, refl),
+                (
+                  _,
+                  (_, (_, refl, (_, refl, (_, (tt, refl), (_, (refl, refl), (_, (tt, refl), (_, (refl, refl), (_, (tt, refl), (_, refl, (_, (tt, refl), (tt, refl)))))))))), refl),
+                  (_, (tt, refl), (tt, refl)),
+                ),
+              ),
+            ),
+          ),
+        ),
+      ),
+    ),
+  ),
+  spending tail m more spends ws,
+)
 
 calling : (tail : Name) (stays : List Stay) (ss : List (Stmt Nowhere)) → Grown ss → Grown (map (stay_call tail) stays ++ ss)
 calling tail [] ss grown ws = grown ws
@@ -70,9 +103,35 @@ activated p (Some e) ws = (_, (tt, refl), (_, refl, (_, (tt, refl), (_, (refl, r
 one_process : (tail : Name) (p : TaskLine) → LineFits p → (ws : List Word) → IsProcess (table_process tail p) (toks (process_words (table_process tail p) ws)) (toks ws)
 one_process tail p fits ws =
     let left = p.cost - least_cost p in
-    let body = calling tail p.stays (spend tail left) (spending tail left (spend tail left) (spent tail left fits.met (omega (arith, fits.cost_few)))) in
-    (_, (tt, refl), (_, refl, (_, (tt, refl), (_, activated p p.event _, (_, (_, (_, (tt, refl), (_, refl, (_, (tt, refl), (tt, refl)))), refl), (_, refl, (_, (tt, refl),
-    (_, body _, (_, refl, (_, (tt, refl), refl))))))))))
+    let body = calling tail p.stays (spend tail left) (spending tail left (spend tail left) (spent tail left fits.met (omega (arith, fits.cost_few)))) in (
+      _,
+      (tt, refl),
+      (
+        _,
+        refl,
+        (
+          _,
+          (tt, refl),
+          (
+            _,
+            activated p p.event _,
+            (
+              _,
+              (_, (_, (tt, refl), (_, refl, (_, (tt, refl), (tt, refl)))), refl),
+              (
+                _,
+                refl,
+                (
+                  _,
+                  (tt, refl),
+                  (_, body _, (_, refl, (_, (tt, refl), refl))),
+                ),
+              ),
+            ),
+          ),
+        ),
+      ),
+    )
 
 all_processes : (tail : Name) (ps : List TaskLine) → Every LineFits ps → (ws : List Word)
     → Each IsDecl (map (λ p. process (table_process tail p)) ps) (toks (each_words decl_words (map (λ p. process (table_process tail p)) ps) ws)) (toks ws)
@@ -84,9 +143,43 @@ all_processes tail (p ∷ ps) fits ws = (_, one_process tail p fits.0 _, all_pro
 one_entry : (tail : Name) (ticks : ℕ) → TicksFit ticks → (ws : List Word) → IsEntry (stay_entry tail ticks) (toks (entry_words (stay_entry tail ticks) ws)) (toks ws)
 one_entry tail ticks fits ws =
     let left = ticks - 3 in
-    let body = spending tail left (spend tail left) (spent tail left fits.met (omega (arith, fits.few))) in
-    (_, (tt, refl), (_, (tt, refl), (_, refl, (_, (tt, refl), (_, refl, (_, (tt, refl), (_, refl, (_, (_, (_, (tt, refl), (_, refl, (_, (tt, refl), (tt, refl)))), refl), (_, (tt, refl),
-    (_, body _, (_, refl, (_, (tt, refl), refl))))))))))))
+    let body = spending tail left (spend tail left) (spent tail left fits.met (omega (arith, fits.few))) in (
+      _,
+      (tt, refl),
+      (
+        _,
+        (tt, refl),
+        (
+          _,
+          refl,
+          (
+            _,
+            (tt, refl),
+            (
+              _,
+              refl,
+              (
+                _,
+                (tt, refl),
+                (
+                  _,
+                  refl,
+                  (
+                    _,
+                    (_, (_, (tt, refl), (_, refl, (_, (tt, refl), (tt, refl)))), refl),
+                    (
+                      _,
+                      (tt, refl),
+                      (_, body _, (_, refl, (_, (tt, refl), refl))),
+                    ),
+                  ),
+                ),
+              ),
+            ),
+          ),
+        ),
+      ),
+    )
 
 all_entries : (tail : Name) (ticks : List ℕ) → Every TicksFit ticks → (ws : List Word)
     → Each IsEntry (map (stay_entry tail) ticks) (toks (each_words entry_words (map (stay_entry tail) ticks) ws)) (toks ws)

@@ -89,8 +89,12 @@ module _ (tail : Name) (made : MadeShort tail) where
 
   activated : (p : TaskLine) → LineFits p → (o : Option Name) → EventFits o → (ws : List Word) → weight (activation_words (activation_of p o) ws) ≤ 109 + weight ws
   activated p fits None event ws =
-      omega (arith, ten_digits p.frame fits.frame_few, first p.first fits.first ws,
-      deadline p.frame p.deadline fits.frame_few fits.deadline (optional_words first_words (option_map of_number p.first) ws))
+      omega (
+        arith,
+        ten_digits p.frame fits.frame_few,
+        first p.first fits.first ws,
+        deadline p.frame p.deadline fits.frame_few fits.deadline (optional_words first_words (option_map of_number p.first) ws),
+      )
   activated p fits (Some e) event ws = omega (arith, event.2, ten_digits p.frame fits.frame_few, deadline p.frame p.deadline fits.frame_few fits.deadline ws)
 
   one_process : (p : TaskLine) → LineFits p → (ws : List Word) → weight (process_words (table_process tail p) ws) ≤ 89 * length p.stays + 421 + weight ws

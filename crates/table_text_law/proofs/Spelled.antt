@@ -45,10 +45,55 @@ module _ (tail : Name) (made : MadeSpelled tail) where
   spending n ss (by_five m _ more is few spends) ws rest = (made.x, (refl, (refl, (number_spelled 1 (omega arith), spending m more spends ws rest))))
   spending n ss (by_short turns m _ more is some few least most spends) ws rest =
       (refl, (made.i, (refl, (number_spelled 1 (omega arith), (refl, (number_spelled turns (omega (arith, few)), (refl, (refl, (refl, spending m more spends ws rest)))))))))
-  spending n ss (by_long turns m _ more is some few least most spends) ws rest =
-      (refl, (made.i, (refl, (number_spelled 1 (omega arith), (refl, (number_spelled turns (omega (arith, few)), (refl,
-      (refl, (made.j, (refl, (number_spelled 1 (omega arith), (refl, (number_spelled 1000 (omega arith), (refl, (refl, (refl,
-      (refl, (refl, spending m more spends ws rest))))))))))))))))))
+  spending n ss (by_long turns m _ more is some few least most spends) ws rest = (
+    refl,
+    (
+      made.i,
+      (
+        refl,
+        (
+          number_spelled 1 (omega arith),
+          (
+            refl,
+            (
+              number_spelled turns (omega (arith, few)),
+              (
+                refl,
+                (
+                  refl,
+                  (
+                    made.j,
+                    (
+                      refl,
+                      (
+                        number_spelled 1 (omega arith),
+                        (
+                          refl,
+                          (
+                            number_spelled 1000 (omega arith),
+                            (
+                              refl,
+                              (
+                                refl,
+                                (
+                                  refl,
+                                  (refl, (refl, spending m more spends ws rest)),
+                                ),
+                              ),
+                            ),
+                          ),
+                        ),
+                      ),
+                    ),
+                  ),
+                ),
+              ),
+            ),
+          ),
+        ),
+      ),
+    ),
+  )
 
   calling : (stays : List Stay) (ss : List (Stmt Nowhere)) → Every StayFits stays → ((ws : List Word) → AreSpelled ws → AreSpelled (stmts_words (in_turn ss) ws))
       → (ws : List Word) → AreSpelled ws → AreSpelled (stmts_words (in_turn (map (stay_call tail) stays ++ ss)) ws)
@@ -67,9 +112,16 @@ module _ (tail : Name) (made : MadeSpelled tail) where
   first (Some n) fits ws rest = (refl, (refl, (refl, (number_spelled n (omega (arith, fits.1)), rest))))
 
   activated : (p : TaskLine) → LineFits p → (o : Option Name) → EventFits o → (ws : List Word) → AreSpelled ws → AreSpelled (activation_words (activation_of p o) ws)
-  activated p fits None event ws rest =
-      (refl, (refl, (number_spelled p.frame (omega (arith, fits.frame_few)),
-      deadline p.frame p.deadline fits.frame_few fits.deadline (optional_words first_words (option_map of_number p.first) ws) (first p.first fits.first ws rest))))
+  activated p fits None event ws rest = (
+    refl,
+    (
+      refl,
+      (
+        number_spelled p.frame (omega (arith, fits.frame_few)),
+        deadline p.frame p.deadline fits.frame_few fits.deadline (optional_words first_words (option_map of_number p.first) ws) (first p.first fits.first ws rest),
+      ),
+    ),
+  )
   activated p fits (Some e) event ws rest =
       (refl, (event, (refl, (number_spelled p.frame (omega (arith, fits.frame_few)), deadline p.frame p.deadline fits.frame_few fits.deadline ws rest))))
 

@@ -55,9 +55,10 @@ falses test (x ∷ xs) all = (not_false (test x) all.0, falses test xs all.1)
 
 pub distinct_differ : {A : Type 0} (same : A → A → Bool) (xs : List A) → AllDiffer same (distinct same xs)
 distinct_differ same [] = tt
-distinct_differ same (x ∷ xs) =
-    (falses (same x) (filter (λ y. not (same x y)) (distinct same xs)) (passes (λ y. not (same x y)) (distinct same xs)),
-    differ_filter same (λ y. not (same x y)) (distinct same xs) (distinct_differ same xs))
+distinct_differ same (x ∷ xs) = (
+  falses (same x) (filter (λ y. not (same x y)) (distinct same xs)) (passes (λ y. not (same x y)) (distinct same xs)),
+  differ_filter same (λ y. not (same x y)) (distinct same xs) (distinct_differ same xs),
+)
 
 -- ---- lengths
 
