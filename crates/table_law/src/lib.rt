@@ -5,8 +5,8 @@
 //! run.
 #![tactic(auto)]
 
-mod table_costs;
-mod table_sizes;
+mod costs_law;
+mod sizes_law;
 
-pub use table_costs::table_costs;
-pub use table_sizes::table_sizes;
+pub use costs_law::table_costs;
+pub use sizes_law::table_sizes;

@@ -7,7 +7,7 @@ use Rattle.table_law.proofs.Members.{elem_of}
 use Rattle.table_law.proofs.Costs.{got_is_in, stays_there}
 use Rattle.table_law.proofs.Instructions.{few_instructions}
 use Rattle.table_law.proofs.Stacks.{entry_stack, process_stack}
-use Rattle.table_law.proofs.table_sizes.table_sizes.Goals as goal
+use Rattle.table_law.proofs.sizes_law.table_sizes.Goals as goal
 
 pub returns-clause-short : goal.returns-clause-short
 unfolding program_of

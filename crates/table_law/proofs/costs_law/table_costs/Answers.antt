@@ -7,7 +7,7 @@ use Rattle.table_ticks_law.proofs.Fits.{LineFits, table_fits}
 use Rattle.table_law.proofs.Members.{elem_of}
 use Rattle.table_law.proofs.Parts.{processes_are}
 use Rattle.table_law.proofs.Costs.{stays_so_long, process_takes, got_is_in, stays_there}
-use Rattle.table_law.proofs.table_costs.table_costs.Goals as goal
+use Rattle.table_law.proofs.costs_law.table_costs.Goals as goal
 
 pub returns-clause-processes : goal.returns-clause-processes
 unfolding program_of
