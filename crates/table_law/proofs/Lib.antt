@@ -1,0 +1,5 @@
+pub mod Members
+pub mod Parts
+pub mod Costs
+pub mod Instructions
+pub mod Stacks

@@ -1,0 +1,7 @@
+mod Fine
+pub mod Apart
+mod Bodies
+pub mod Firsts
+pub mod Sites
+mod Whole
+pub mod Processes
