@@ -1,7 +1,6 @@
 -- Calls on the text that `print` has put.
-use Rattle.std.proofs.Common.{◌≡◌, ◌≢◌, ◌≤◌, ◌∙◌, ◌⊎◌, ℕ, List, Option, Some, length, inl, inr, refl, sym, subst, ap, arith}
+use Rattle.std.proofs.Common.{◌≡◌, ◌≤◌, ◌∙◌, ℕ, List, Option, Some, length, refl, sym, subst, ap, arith}
 use Rattle.syntax.specs.declared.token.Token.{Token}
-use Rattle.syntax.specs.Lex.{HasOneList, HasTokensOrFault}
 use Rattle.syntax.specs.Tokens.{longest_text, tokens}
 use Rattle.syntax_tree.specs.declared.place.Place.{Place}
 use Rattle.syntax_tree.specs.Placed.{Prog, plain}
@@ -9,31 +8,31 @@ use Rattle.syntax_tree.specs.Plain as plain_of
 use Rattle.syntax_tree.specs.Bare.{bare}
 use Rattle.syntax_printer.specs.Canonical.{canonical}
 use Rattle.syntax_printer.specs.ReadBack.{AreSpelled, HasTree, IsPrinted}
-use Rattle.front_end.specs.Source.{IsTreeOf}
+use Rattle.static_names.specs.Resolved.{IsRead}
 use Rattle.image.specs.Named.{NamedImage}
-use Rattle.front_end.specs.Program.{IsMisnamed, IsMisruled, of_names, of_rules, of_text}
-use Rattle.front_end.specs.ProgramLaws.{HasOneTree}
-use Rattle.front_end.proofs.Texts.{HasTreeOrFault, tree_or_fault}
+use Rattle.placing_law.specs.Laws.{TreesAreCheckedAlike}
 use Rattle.load_text_law.proofs.Plain.{plain-bare}
 use Rattle.built_image_law.specs.Limits.{StacksAreInLimits}
 use Rattle.built_image.specs.Built.{IsBuilt, IsLate}
 use Rattle.built_image.specs.Shown.{IsTableOf}
-use Rattle.command_due.specs.Source.{IsLateText, IsTextFault, IsTimelyText, IsWritten, Style, late_report, of_program, of_size}
-use Rattle.command_due.specs.CommandsDue.{IsGoDue, IsPrintDue, IsRefused, IsReportDue, Outcome, faulty, go_bad_script, go_refused, late, print_faulty, printed, report_refused, report_timely, told, went}
-use Rattle.command_due_law.specs.DueOnce.{GoIsOne, ReportsAreOne, WrittenOnce}
+use Rattle.command_due.specs.Source.{IsLateText, IsTimelyText, IsWritten, Style, late_report}
+use Rattle.command_due.specs.CommandsDue.{IsCompileDue, IsGoDue, IsPrintDue, IsRefused, IsReportDue, Outcome, compile_refused, compiled, faulty, go_bad_script, go_refused, late, print_faulty, printed, report_refused, report_timely, told, went}
+use Rattle.command_due_law.specs.DueOnce.{PrintIsOne, WrittenOnce, WrittenOrFaulty}
 use Rattle.command_due_law.proofs.DueOnceScripts.{text_once}
 use Rattle.sched_table.specs.Report.{report_text}
-use Rattle.calls_law.specs.Printed.{PrintThenGoIsTheSame, PrintThenPrintKeeps, PrintThenReportIsTheSame, PrintedTextsBreakRulesOnly, PrintedTextsHaveTheTree, Prints}
+use Rattle.calls_law.specs.Printed.{HaveOneProgram, PrintThenCompileIsTheSame, PrintThenGoIsTheSame, PrintThenPrintKeeps, PrintThenReportIsTheSame, PrintedTextsHaveTheProgram}
 use Rattle.calls_law.proofs.Sizes.{sizes_kept}
 
--- the laws of the canonical text
+-- the laws of the canonical text, and of two trees that are the same apart from places
 pub record Printing : Type 0 where
   pub spelled : (text : List ℕ) (toks : List Token) → tokens text toks → AreSpelled text toks
   pub tokens_of : (g : Prog Place) → IsPrinted g → (toks : List Token) × tokens (canonical (bare g)) toks
   pub tree_of : (g : Prog Place) → IsPrinted g → (toks : List Token) → tokens (canonical (bare g)) toks → HasTree (canonical (bare g)) toks g
+  pub checked : TreesAreCheckedAlike
+  pub stacks : StacksAreInLimits
 
 -- the program that is printed
-pub record Source (text other : List ℕ) : Type 0 where
+record Source (text other : List ℕ) : Type 0 where
   g : Prog Place
   written : IsWritten text g
   is : other ≡ canonical (bare g)
@@ -42,97 +41,99 @@ source : (text other : List ℕ) → IsPrintDue text (told 0 other) → Source t
 source text other (print_faulty number place fault same) = let two : 0 ≡ 2 = ap (λ (x : Outcome). x.status) same in absurd (omega (arith, two))
 source text other (printed g written same) = record { g = g; written = written; is = ap (λ (x : Outcome). x.text) same }
 
-pub has_tree : Printing → WrittenOnce → PrintedTextsHaveTheTree
-has_tree laws once text other g p written =
+same_plain : (g h : Prog Place) → bare g ≡ bare h → plain g ≡ plain h
+same_plain g h same = sym (plain-bare g) ∙ (ap plain same ∙ plain-bare h)
+
+-- another text of the tree, apart from places, is one of the program
+rewritten : Printing → (other : List ℕ) (g : Prog Place) (text : List ℕ) → IsWritten text g → (toks : List Token) → tokens other toks → (back : HasTree other toks g) → IsWritten other back.h
+rewritten laws other g text written toks listed back =
+    let read : IsRead back.h = record { text = other; toks = toks; listed = listed; reads = back.reads } in
+    record {
+      program = record {
+        tree = record { toks = toks; listed = listed; grown = back.reads };
+        checked = laws.checked g back.h written.program.checked.read read (sym back.same) written.program.checked;
+      };
+      fits = sizes_kept laws.stacks g back.h (same_plain back.h g back.same) written.fits;
+    }
+
+pub has_program : Printing → PrintedTextsHaveTheProgram
+has_program laws text other p =
     let s = source text other p.prints in
-    let same : s.g ≡ g = once text s.g g s.written written in
-    let is : other ≡ canonical (bare g) = s.is ∙ ap (λ (x : Prog Place). canonical (bare x)) same in
-    let tree = written.program.tree in
-    let short : length (canonical (bare g)) ≤ longest_text = subst (λ (x : List ℕ). length x ≤ longest_text) is p.short in
-    let printed_is : IsPrinted g = record { text = text; toks = tree.toks; spelled = laws.spelled text tree.toks tree.listed; reads = tree.grown; short = short } in
-    let found = laws.tokens_of g printed_is in
-    let back : HasTree (canonical (bare g)) found.0 g = laws.tree_of g printed_is found.0 found.1 in
-    let of_canonical : IsTreeOf (canonical (bare g)) back.h = record { toks = found.0; listed = found.1; grown = back.reads } in
-    record { tree = back.h; is = subst (λ (x : List ℕ). IsTreeOf x back.h) (sym is) of_canonical; same = back.same }
+    let tree = s.written.program.tree in
+    let short : length (canonical (bare s.g)) ≤ longest_text = subst (λ (x : List ℕ). length x ≤ longest_text) s.is p.short in
+    let printed_is : IsPrinted s.g = record { text = text; toks = tree.toks; spelled = laws.spelled text tree.toks tree.listed; reads = tree.grown; short = short } in
+    let found = laws.tokens_of s.g printed_is in
+    let back : HasTree (canonical (bare s.g)) found.0 s.g = laws.tree_of s.g printed_is found.0 found.1 in
+    let again : IsWritten (canonical (bare s.g)) back.h = rewritten laws (canonical (bare s.g)) s.g text s.written found.0 found.1 back in
+    record { one = s.g; two = back.h; of_one = s.written; of_two = subst (λ (x : List ℕ). IsWritten x back.h) (sym s.is) again; same = sym back.same }
 
-module _ (one : HasOneTree) (trees : PrintedTextsHaveTheTree) (text other : List ℕ) (p : Prints text other) where
-  first : Source text other
-  first = source text other p.prints
+turned : (text other : List ℕ) → HaveOneProgram text other → HaveOneProgram other text
+turned text other x = record { one = x.two; two = x.one; of_one = x.of_two; of_two = x.of_one; same = sym x.same }
 
-  -- a tree of the other text is that of the first, apart from places
-  same_bare : (h : Prog Place) → IsTreeOf other h → bare h ≡ bare first.g
-  same_bare h is =
-      let t = trees text other first.g p first.written in
-      ap (λ (x : Prog Place). bare x) (one other h t.tree is t.is) ∙ t.same
+module _ (once : WrittenOnce) (sound : WrittenOrFaulty) where
+  module _ (text other : List ℕ) (x : HaveOneProgram text other) where
+    same_program : (g : Prog Place) → IsWritten text g → plain g ≡ plain x.two
+    same_program g written = ap plain (once text g x.one written x.of_one) ∙ same_plain x.one x.two x.same
 
-  same_plain : (h : Prog Place) → IsTreeOf other h → plain h ≡ plain first.g
-  same_plain h is = sym (plain-bare h) ∙ (ap plain (same_bare h is) ∙ plain-bare first.g)
+    timely_too : (over : ℕ) (n : NamedImage) → IsTimelyText over text n → IsTimelyText over other n
+    timely_too over n t = record { tree = x.two; written = x.of_two; built = subst (λ (p : plain_of.Program). IsBuilt p over n) (same_program t.tree t.written) t.built }
 
-  timely_too : (over : ℕ) (n : NamedImage) → IsTimelyText over other n → IsTimelyText over text n
-  timely_too over n t = record {
-    tree = first.g;
-    written = first.written;
-    built = subst (λ (x : plain_of.Program). IsBuilt x over n) (same_plain t.tree t.written.program.tree) t.built;
-  }
+    late_too : (show : Style) (over : ℕ) (report : List ℕ) → IsLateText show over text report → IsLateText show over other report
+    late_too show over report l =
+        let same = same_program l.tree l.written in
+        record {
+          tree = x.two;
+          written = x.of_two;
+          late = subst (λ (p : plain_of.Program). IsLate p over) same l.late;
+          table = l.table;
+          tabled = subst (λ (p : plain_of.Program). IsTableOf p over l.table) same l.tabled;
+          shown = l.shown ∙ ap (λ (p : plain_of.Program). late_report show p l.table) same;
+        }
 
-  late_too : (show : Style) (over : ℕ) (report : List ℕ) → IsLateText show over other report → IsLateText show over text report
-  late_too show over report l =
-      let same = same_plain l.tree l.written.program.tree in
-      record {
-        tree = first.g;
-        written = first.written;
-        late = subst (λ (x : plain_of.Program). IsLate x over) same l.late;
-        table = l.table;
-        tabled = subst (λ (x : plain_of.Program). IsTableOf x over l.table) same l.tabled;
-        shown = l.shown ∙ ap (λ (x : plain_of.Program). late_report show x l.table) same;
-      }
+    refusals : (show : Style) (over : ℕ) (outcome : Outcome) → IsRefused show over text outcome → IsRefused show over other outcome
+    refusals show over outcome (faulty number place fault same) = absurd (sound text x.one number place x.of_one fault)
+    refusals show over outcome (late report l same) = late report (late_too show over report l) same
 
-  refusals : (show : Style) (over : ℕ) (outcome : Outcome) → outcome.status ≢ 2 → IsRefused show over other outcome → IsRefused show over text outcome
-  refusals show over outcome sound (faulty number place fault same) = absurd (sound (ap (λ (x : Outcome). x.status) same))
-  refusals show over outcome sound (late report l same) = late report (late_too show over report l) same
+    reports : (show : Style) (over : ℕ) (outcome : Outcome) → IsReportDue show over text outcome → IsReportDue show over other outcome
+    reports show over outcome (report_refused refused) = report_refused (refusals show over outcome refused)
+    reports show over outcome (report_timely n t same) = report_timely n (timely_too over n t) same
 
-  reports : (show : Style) (over : ℕ) (outcome : Outcome) → outcome.status ≢ 2 → IsReportDue show over other outcome → IsReportDue show over text outcome
-  reports show over outcome sound (report_refused refused) = report_refused (refusals show over outcome sound refused)
-  reports show over outcome sound (report_timely n t same) = report_timely n (timely_too over n t) same
+    compiles : (over : ℕ) (outcome : Outcome) → IsCompileDue over text outcome → IsCompileDue over other outcome
+    compiles over outcome (compile_refused refused) = compile_refused (refusals report_text over outcome refused)
+    compiles over outcome (compiled n t same) = compiled n (timely_too over n t) same
 
-  -- what is held of the other text
-  held_is : (t : List ℕ) → Some other ≡ Some t → t ≡ other
-  held_is t held = text_once (Some other) t other held refl
+    -- what is held of the text
+    held_is : (t : List ℕ) → Some text ≡ Some t → t ≡ text
+    held_is t held = text_once (Some text) t text held refl
 
-  goes : (over : ℕ) (script : Option (List ℕ)) (outcome : Outcome) → outcome.status ≢ 2 → IsGoDue over (Some other) script outcome → IsGoDue over (Some text) script outcome
-  goes over script outcome sound (go_refused t held refused) =
-      go_refused text refl (refusals report_text over outcome sound (subst (λ (x : List ℕ). IsRefused report_text over x outcome) (held_is t held) refused))
-  goes over script outcome sound (go_bad_script t s n fault held timely there bad same) =
-      go_bad_script text s n fault refl (timely_too over n (subst (λ (x : List ℕ). IsTimelyText over x n) (held_is t held) timely)) there bad same
-  goes over script outcome sound (went t s n lines end held timely there says same) =
-      went text s n lines end refl (timely_too over n (subst (λ (x : List ℕ). IsTimelyText over x n) (held_is t held) timely)) there says same
+    goes : (over : ℕ) (script : Option (List ℕ)) (outcome : Outcome) → IsGoDue over (Some text) script outcome → IsGoDue over (Some other) script outcome
+    goes over script outcome (go_refused t held refused) =
+        go_refused other refl (refusals report_text over outcome (subst (λ (y : List ℕ). IsRefused report_text over y outcome) (held_is t held) refused))
+    goes over script outcome (go_bad_script t s n fault held timely there bad same) =
+        go_bad_script other s n fault refl (timely_too over n (subst (λ (y : List ℕ). IsTimelyText over y n) (held_is t held) timely)) there bad same
+    goes over script outcome (went t s n lines end held timely there says same) =
+        went other s n lines end refl (timely_too over n (subst (λ (y : List ℕ). IsTimelyText over y n) (held_is t held) timely)) there says same
 
-  prints_again : (outcome : Outcome) → outcome.status ≢ 2 → IsPrintDue other outcome → outcome ≡ told 0 other
-  prints_again outcome sound (print_faulty number place fault same) = absurd (sound (ap (λ (x : Outcome). x.status) same))
-  prints_again outcome sound (printed h written same) =
-      same ∙ (ap (λ (x : List ℕ). told 0 x) (ap canonical (same_bare h written.program.tree)) ∙ ap (λ (x : List ℕ). told 0 x) (sym first.is))
+  module _ (programs : PrintedTextsHaveTheProgram) where
+    pub report_is_same : PrintThenReportIsTheSame
+    report_is_same show over text other outcome p =
+        let x = programs text other p in
+        (reports text other x show over outcome, reports other text (turned text other x) show over outcome)
 
-  -- a fault of it is none of its spelling, its grammar or its size
-  faults : HasTreeOrFault → StacksAreInLimits → (number : ℕ) (place : Place) → IsTextFault other number place → IsMisnamed other number place ⊎ IsMisruled other number place
-  faults apart stacks number place (of_program (of_text fault)) =
-      let t = trees text other first.g p first.written in absurd (apart other t.tree number place t.is fault)
-  faults apart stacks number place (of_program (of_names m)) = inl m
-  faults apart stacks number place (of_program (of_rules m)) = inr m
-  faults apart stacks number place (of_size h is large) =
-      absurd (sizes_kept stacks first.g h (same_plain h is.tree) first.written.fits number place large.broken)
+    pub compile_is_same : PrintThenCompileIsTheSame
+    compile_is_same over text other outcome p =
+        let x = programs text other p in
+        (compiles text other x over outcome, compiles other text (turned text other x) over outcome)
 
-pub rules_only : HasOneTree → PrintedTextsHaveTheTree → HasOneList → HasTokensOrFault → StacksAreInLimits → PrintedTextsBreakRulesOnly
-rules_only one trees one_list tokens_apart stacks text other number place p fault = faults one trees text other p (tree_or_fault one_list tokens_apart) stacks number place fault
+    pub go_is_same : PrintThenGoIsTheSame
+    go_is_same over text other script outcome p =
+        let x = programs text other p in
+        (goes text other x over script outcome, goes other text (turned text other x) over script outcome)
 
-pub report_is_same : HasOneTree → PrintedTextsHaveTheTree → ReportsAreOne → PrintThenReportIsTheSame
-report_is_same one trees only show over text other outcome p due sound =
-    let own : IsReportDue show over text outcome = reports one trees text other p show over outcome sound due in
-    record { is = own; only = λ another also. only show over text another outcome also own }
-
-pub go_is_same : HasOneTree → PrintedTextsHaveTheTree → GoIsOne → PrintThenGoIsTheSame
-go_is_same one trees only over text other script outcome p due sound =
-    let own : IsGoDue over (Some text) script outcome = goes one trees text other p over script outcome sound due in
-    record { is = own; only = λ another also. only over (Some text) script another outcome also own }
-
-pub print_again : HasOneTree → PrintedTextsHaveTheTree → PrintThenPrintKeeps
-print_again one trees text other outcome p due sound = prints_again one trees text other p outcome sound due
+    pub print_again : PrintIsOne → PrintThenPrintKeeps
+    print_again only text other p =
+        let x = programs text other p in
+        let s = source text other p.prints in
+        let same : other ≡ canonical (bare x.two) = s.is ∙ ap (λ (g : Prog Place). canonical (bare g)) (once text s.g x.one s.written x.of_one) ∙ ap canonical x.same in
+        let own : IsPrintDue other (told 0 other) = printed x.two x.of_two (ap (told 0) same) in
+        record { is = own; only = λ another also. only other another (told 0 other) also own }

@@ -2,4 +2,4 @@ use Rattle.calls_law.proofs.Printed.{go_is_same}
 use Rattle.calls_law.proofs.printed_programs.print_then_go_is_the_same.Goals as goal
 
 pub returns : goal.returns
-returns c = go_is_same c.one_tree.ensures c.printed_texts_have_the_tree.ensures c.go_is_one.ensures
+returns c = go_is_same c.written_once.ensures c.written_or_faulty.ensures c.printed_texts_have_the_program.ensures
