@@ -4,5 +4,4 @@ pub mod Images
 pub mod Counted
 pub mod Accepted
 pub mod Loads
-pub mod Sizes
 pub mod Printed

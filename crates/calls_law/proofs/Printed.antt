@@ -1,18 +1,12 @@
 -- Calls on the text that `print` has put.
 use Rattle.std.proofs.Common.{◌≡◌, ◌≤◌, ◌∙◌, ℕ, List, Option, Some, length, refl, sym, subst, ap, arith}
-use Rattle.syntax.specs.declared.token.Token.{Token}
-use Rattle.syntax.specs.Tokens.{longest_text, tokens}
+use Rattle.syntax.specs.Tokens.{longest_text}
 use Rattle.syntax_tree.specs.declared.place.Place.{Place}
 use Rattle.syntax_tree.specs.Placed.{Prog, plain}
 use Rattle.syntax_tree.specs.Plain as plain_of
 use Rattle.syntax_tree.specs.Bare.{bare}
 use Rattle.syntax_printer.specs.Canonical.{canonical}
-use Rattle.syntax_printer.specs.ReadBack.{AreSpelled, HasTree, IsPrinted}
-use Rattle.static_names.specs.Resolved.{IsRead}
 use Rattle.image.specs.Named.{NamedImage}
-use Rattle.placing_law.specs.Laws.{TreesAreCheckedAlike}
-use Rattle.load_text_law.proofs.Plain.{plain-bare}
-use Rattle.built_image_law.specs.Limits.{StacksAreInLimits}
 use Rattle.built_image.specs.Built.{IsBuilt, IsLate}
 use Rattle.built_image.specs.Shown.{IsTableOf}
 use Rattle.command_due.specs.Source.{IsLateText, IsTimelyText, IsWritten, Style, late_report}
@@ -20,16 +14,9 @@ use Rattle.command_due.specs.CommandsDue.{IsCompileDue, IsGoDue, IsPrintDue, IsR
 use Rattle.command_due_law.specs.DueOnce.{PrintIsOne, WrittenOnce, WrittenOrFaulty}
 use Rattle.command_due_law.proofs.DueOnceScripts.{text_once}
 use Rattle.sched_table.specs.Report.{report_text}
+use Rattle.printed_law.specs.Printed.{PrintedTreesAreWritten}
+use Rattle.printed_law.proofs.Printed.{same_plain}
 use Rattle.calls_law.specs.Printed.{HaveOneProgram, PrintThenCompileIsTheSame, PrintThenGoIsTheSame, PrintThenPrintKeeps, PrintThenReportIsTheSame, PrintedTextsHaveTheProgram}
-use Rattle.calls_law.proofs.Sizes.{sizes_kept}
-
--- the laws of the canonical text, and of two trees that are the same apart from places
-pub record Printing : Type 0 where
-  pub spelled : (text : List ℕ) (toks : List Token) → tokens text toks → AreSpelled text toks
-  pub tokens_of : (g : Prog Place) → IsPrinted g → (toks : List Token) × tokens (canonical (bare g)) toks
-  pub tree_of : (g : Prog Place) → IsPrinted g → (toks : List Token) → tokens (canonical (bare g)) toks → HasTree (canonical (bare g)) toks g
-  pub checked : TreesAreCheckedAlike
-  pub stacks : StacksAreInLimits
 
 -- the program that is printed
 record Source (text other : List ℕ) : Type 0 where
@@ -41,31 +28,12 @@ source : (text other : List ℕ) → IsPrintDue text (told 0 other) → Source t
 source text other (print_faulty number place fault same) = let two : 0 ≡ 2 = ap (λ (x : Outcome). x.status) same in absurd (omega (arith, two))
 source text other (printed g written same) = record { g = g; written = written; is = ap (λ (x : Outcome). x.text) same }
 
-same_plain : (g h : Prog Place) → bare g ≡ bare h → plain g ≡ plain h
-same_plain g h same = sym (plain-bare g) ∙ (ap plain same ∙ plain-bare h)
-
--- another text of the tree, apart from places, is one of the program
-rewritten : Printing → (other : List ℕ) (g : Prog Place) (text : List ℕ) → IsWritten text g → (toks : List Token) → tokens other toks → (back : HasTree other toks g) → IsWritten other back.h
-rewritten laws other g text written toks listed back =
-    let read : IsRead back.h = record { text = other; toks = toks; listed = listed; reads = back.reads } in
-    record {
-      program = record {
-        tree = record { toks = toks; listed = listed; grown = back.reads };
-        checked = laws.checked g back.h written.program.checked.read read (sym back.same) written.program.checked;
-      };
-      fits = sizes_kept laws.stacks g back.h (same_plain back.h g back.same) written.fits;
-    }
-
-pub has_program : Printing → PrintedTextsHaveTheProgram
-has_program laws text other p =
+pub has_program : PrintedTreesAreWritten → PrintedTextsHaveTheProgram
+has_program law text other p =
     let s = source text other p.prints in
-    let tree = s.written.program.tree in
     let short : length (canonical (bare s.g)) ≤ longest_text = subst (λ (x : List ℕ). length x ≤ longest_text) s.is p.short in
-    let printed_is : IsPrinted s.g = record { text = text; toks = tree.toks; spelled = laws.spelled text tree.toks tree.listed; reads = tree.grown; short = short } in
-    let found = laws.tokens_of s.g printed_is in
-    let back : HasTree (canonical (bare s.g)) found.0 s.g = laws.tree_of s.g printed_is found.0 found.1 in
-    let again : IsWritten (canonical (bare s.g)) back.h = rewritten laws (canonical (bare s.g)) s.g text s.written found.0 found.1 back in
-    record { one = s.g; two = back.h; of_one = s.written; of_two = subst (λ (x : List ℕ). IsWritten x back.h) (sym s.is) again; same = sym back.same }
+    let again = law text s.g s.written short in
+    record { one = s.g; two = again.tree; of_one = s.written; of_two = subst (λ (x : List ℕ). IsWritten x again.tree) (sym s.is) again.written; same = sym again.same }
 
 turned : (text other : List ℕ) → HaveOneProgram text other → HaveOneProgram other text
 turned text other x = record { one = x.two; two = x.one; of_one = x.of_two; of_two = x.of_one; same = sym x.same }

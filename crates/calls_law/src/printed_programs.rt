@@ -2,27 +2,22 @@
 //!
 //! `specs/Printed.antt` says so of a canonical text that is no longer than a text may be, for each
 //! text that is that of a program. No rule is taken for granted of the canonical text: that they
-//! all hold of it is `placing_law`.
+//! all hold of it is `printed_law`.
 //! Nothing here can run.
 //!
 //! The laws.
 
 ghost use Rattle.calls_law.specs.Printed.{PrintThenCompileIsTheSame, PrintThenGoIsTheSame, PrintThenPrintKeeps, PrintThenReportIsTheSame, PrintedTextsHaveTheProgram};
 
-use built_image_law::number_limits::stacks_are_in_limits;
 use command_due_law::one_answer::{print_is_one, written_once, written_or_faulty};
-use placing_law::trees_are_checked_alike;
-use syntax_printer::{reads_back, tokens_are_spelled};
+use printed_law::printed_programs::printed_trees_are_written;
 
 /// The text that `print` puts is that of the same program: its tree is the first, apart from
 /// places, it keeps to all rules, and it is not too large.
 pub fn printed_texts_have_the_program()
     ensures { PrintedTextsHaveTheProgram }
 {
-    tokens_are_spelled();
-    reads_back();
-    trees_are_checked_alike();
-    stacks_are_in_limits();
+    printed_trees_are_written();
 }
 
 /// Just what is due of `check` and of `json` of the first is due of it, with any overhead: the same

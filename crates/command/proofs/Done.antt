@@ -10,6 +10,7 @@ use Rattle.syntax.specs.declared.token.Token.{Token}
 use Rattle.syntax.specs.Tokens.{tokens}
 use Rattle.syntax_printer.specs.Canonical.{canonical}
 use Rattle.syntax_printer.specs.ReadBack.{AreSpelled, HasTree, IsPrinted}
+use Rattle.printed_law.specs.Printed.{PrintedTreesAreWritten}
 use Rattle.image.specs.Named.{NamedImage}
 use Rattle.image.specs.Raw.{image_of, named_of}
 use Rattle.image.specs.declared.raw.RawImage.{RawImage}
@@ -113,6 +114,7 @@ pub record Printing : Type 0 where
   pub spelled : (text : List ℕ) (toks : List Token) → tokens text toks → AreSpelled text toks
   pub tokens_of : (g : Prog Place) → IsPrinted g → (toks : List Token) × tokens (canonical (bare g)) toks
   pub tree_of : (g : Prog Place) → IsPrinted g → (toks : List Token) → tokens (canonical (bare g)) toks → HasTree (canonical (bare g)) toks g
+  pub again : PrintedTreesAreWritten
 
 reads_back : Printing → (text : List ℕ) (g : Prog Place) → IsWritten text g → ReadsBack g
 reads_back laws text g w short =
@@ -133,7 +135,7 @@ module _ (laws : Printing) (building : Building) (before now : Outside) (o : Out
   printed_whole : (program : List ℕ) (text : List ℕ) → before.files.held program ≡ Some text → IsPrintDue text o → HasPrinted program before now
   printed_whole program text is (print_faulty number place fault same) = absurd (let two = status_of o _ same in omega (arith, two, zero))
   printed_whole program text is (printed tree w same) =
-      record { text = text; held = is; tree = tree; written = w; put = put_is before now o (canonical (bare tree)) (text_of o _ same) put; back = reads_back laws text tree w }
+      record { text = text; held = is; tree = tree; written = w; put = put_is before now o (canonical (bare tree)) (text_of o _ same) put; back = reads_back laws text tree w; again = laws.again text tree w }
 
   reported : (show : Style) (over : ℕ) (program : List ℕ) (text : List ℕ) → before.files.held program ≡ Some text → IsReportDue show over text o → HasReported show over program before now
   reported show over program text is (report_refused r) = absurd (refused_zero show over text o r zero)

@@ -32,6 +32,7 @@ use edf_correct::feasible_texts::feasible_texts_keep_their_word;
 use image_reader_law::images_read_are_in_their_ranges;
 use image_stored_law::stored_images::images_read_are_held_again;
 use outside::{Files, Sink};
+use printed_law::printed_programs::printed_trees_are_written;
 use sched_program_law::one_judgement::never_in_time_and_not;
 use std::alloc::Global;
 use syntax_printer::{reads_back, tokens_are_spelled};
@@ -160,6 +161,7 @@ pub fn rte<F: Files, O: Sink>(alloc: Global, words: &[String], files: &mut F, ou
     never_in_time_and_not();
     bounds_are_of_the_text();
     reads_back();
+    printed_trees_are_written();
     tokens_are_spelled();
     carry_out(alloc, words, files, out)
 }

@@ -16,7 +16,7 @@ use Rattle.sched_table.specs.Json.{report_json}
 use Rattle.script.specs.declared.script.ScriptLine.{ScriptLine}
 use Rattle.script.specs.Scripts.{IsScript}
 use Rattle.command_words.specs.Calls.{Call, go, check, compile, json, slack, print, run, migrate, asm, dis, watch, replay, edf, why, fit, chart, table}
-use Rattle.command_due.specs.Source.{IsWritten, Style, report_of}
+use Rattle.command_due.specs.Source.{IsWritten, IsWrittenAgain, Style, report_of}
 use Rattle.command_due.specs.CommandsDue.{IsImageFile, stored, log}
 use Rattle.command_due.specs.Runs.{KeepsItsWord, IsAccepted, IsUnsolved, IsDone}
 use Rattle.command_due.specs.Lines.{IsSlackText}
@@ -88,8 +88,8 @@ pub record HasSpared (over : ℕ) (program : List ℕ) (before now : Outside) : 
 abbrev pub ReadsBack : Prog Place → Type 0
 ReadsBack tree = length (canonical (bare tree)) ≤ longest_text → (toks : List Token) × tokens (canonical (bare tree)) toks × HasTree (canonical (bare tree)) toks tree
 
--- `print`: the canonical text of a program is put, and reads back where it is no longer than a text
--- may be
+-- `print`: the canonical text of a program is put; where it is no longer than a text may be it reads
+-- back, and is that of a program with the same tree, apart from places
 pub record HasPrinted (program : List ℕ) (before now : Outside) : Type 0 where
   pub text : List ℕ
   pub held : before.files.held program ≡ Some text
@@ -97,6 +97,7 @@ pub record HasPrinted (program : List ℕ) (before now : Outside) : Type 0 where
   pub written : IsWritten text tree
   pub put : Appends before.out.taken now.out.taken (canonical (bare tree))
   pub back : ReadsBack tree
+  pub again : length (canonical (bare tree)) ≤ longest_text → IsWrittenAgain tree
 
 -- `run`: an image is valid, whoever made it, and its log over the script is put; every run of it
 -- over a script for its names is in time and size

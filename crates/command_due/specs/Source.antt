@@ -3,6 +3,8 @@ use Rattle.std.specs.Prelude.{◌≡◌, ◌++◌, ℕ, List, codes, decimal, ma
 use Rattle.syntax_tree.specs.declared.place.Place.{Place}
 use Rattle.syntax_tree.specs.Placed.{Prog, plain}
 use Rattle.syntax_tree.specs.Plain as plain_of
+use Rattle.syntax_tree.specs.Bare.{bare}
+use Rattle.syntax_printer.specs.Canonical.{canonical}
 use Rattle.static_rule.specs.First.{IsFirst}
 use Rattle.image.specs.declared.names.ImageNames.{ImageNames}
 use Rattle.image.specs.Named.{NamedImage}
@@ -17,6 +19,12 @@ use Rattle.built_image.specs.Shown.{IsTableOf, table_of}
 pub record IsWritten (text : List ℕ) (g : Prog Place) : Type 0 where
   pub program : IsProgramOf text g
   pub fits : (number : ℕ) (place : Place) → ¬ SizeFails g number place
+
+-- the canonical text of a program is that of a program with the same tree, apart from places
+pub record IsWrittenAgain (g : Prog Place) : Type 0 where
+  pub tree : Prog Place
+  pub written : IsWritten (canonical (bare g)) tree
+  pub same : bare tree ≡ bare g
 
 -- the fault of a text: of its spelling, grammar, names and rules, or else that its program is too
 -- large

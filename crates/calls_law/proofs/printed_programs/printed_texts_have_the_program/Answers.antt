@@ -1,13 +1,5 @@
-use Rattle.calls_law.proofs.Printed.{Printing, has_program}
+use Rattle.calls_law.proofs.Printed.{has_program}
 use Rattle.calls_law.proofs.printed_programs.printed_texts_have_the_program.Goals as goal
 
 pub returns : goal.returns
-returns c =
-    let laws : Printing = record {
-      spelled = c.tokens_are_spelled.ensures;
-      tokens_of = c.reads_back.ensures.tokens;
-      tree_of = c.reads_back.ensures.tree;
-      checked = c.trees_are_checked_alike.ensures;
-      stacks = c.stacks_are_in_limits.ensures;
-    } in
-    has_program laws
+returns c = has_program c.printed_trees_are_written.ensures
