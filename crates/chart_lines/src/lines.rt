@@ -38,7 +38,7 @@ fn label_len(names: &[Name]) -> usize
 /// Puts a mark of the scale at its place.
 fn put_mark(text: &mut Text, columns: &Columns, mark: usize) -> Result<(), AllocError>
     requires few { AreFew columns.now }
-    requires mark { mark ≤ 100 }
+    requires mark { 10 * mark < columns.now.count }
     ensures { OnOk result (text.new ≡
         filled (10 * mark) text.old ++ decimal (first_tick columns.now (10 * mark))) }
 {
