@@ -61,12 +61,7 @@ fn scale(alloc: Global, columns: &Columns) -> Result<Text, AllocError>
 }
 
 /// Puts a label and a text, each filled to its length.
-fn put_front(
-    text: &mut Text,
-    lengths: Lengths,
-    label: &[u8],
-    body: &[u8],
-) -> Result<(), AllocError>
+fn put_front(text: &mut Text, lengths: Lengths, label: &[u8], body: &[u8]) -> Result<(), AllocError>
     ensures { OnOk result (text.new ≡ text.old ++ (filled lengths.labels label.now ++
         (codes "  " ++ (filled lengths.texts body.now ++ codes "  ")))) }
 {

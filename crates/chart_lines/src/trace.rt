@@ -67,7 +67,9 @@ impl Trace {
     /// The column is over. An error says that memory is short.
     pub fn end_column(&mut self) -> Result<(), AllocError>
         ensures { OnOk result (self.new ≡ record self.old {
-            row = self.old.row ++ drawn self.old.letter ∷ []; letter = Letter.Blank }) }
+          row = self.old.row ++ drawn self.old.letter ∷ [];
+          letter = Letter.Blank;
+        }) }
     {
         let drawn = [drawn(self.letter)];
         self.letter = Letter::Blank;
@@ -77,8 +79,10 @@ impl Trace {
     /// An activation of so many ticks ended.
     fn end(&mut self, response: u64)
         requires { self.old.ended < 2 ^ 63 }
-        ensures { self.new ≡ record self.old { ended = self.old.ended + 1;
-            longest = with_longest self.old.longest response } }
+        ensures { self.new ≡ record self.old {
+          ended = self.old.ended + 1;
+          longest = with_longest self.old.longest response;
+        } }
     {
         self.ended += 1;
         self.longest = Some(match self.longest {
