@@ -2,8 +2,7 @@
 use Rattle.std.proofs.Common.{◌≡◌, ◌-◌, ℕ, zero, suc, Bool, true, false, Option, Some, None, arith, refl, ap, sym, ◌∙◌}
 use Rattle.std.specs.Prelude.{min, nat_eq, slice_get}
 use Rattle.std.proofs.lemmas.Bool.Decides.{nat_tests}
-use Rattle.machine_semantics.specs.Image.{Image}
-use Rattle.machine_semantics.specs.State.{Thread, Idle, Ready, Waiting, State}
+use Rattle.machine_semantics.specs.State.{Thread, Idle, Ready, Waiting}
 use Rattle.machine_semantics.specs.Tick.{pick}
 use Rattle.vm_stretch.specs.Stretch.{place_of}
 use Rattle.vm_runner.proofs.Passing.{IsReady, is_ready}

@@ -1,6 +1,6 @@
 //! Columns of ticks.
 
-ghost use Rattle.std.specs.Prelude.{◌≡◌, ◌≤◌, ◌-◌};
+ghost use Rattle.std.specs.Prelude.{◌≡◌, ◌≤◌, ◌<◌, ◌-◌};
 ghost use Rattle.run_chart.specs.Spans.{columns_of, first_tick, first_width, widths};
 ghost use Rattle.chart_lines.specs.Columns.{AreFew, end_of};
 
@@ -30,7 +30,6 @@ fn first_width(widths: &[u64], ticks: u64) -> u64
 /// As many columns of a width as hold so many ticks from the first one on.
 fn with_width(first: u64, end: u64, width: u64) -> Columns
     requires width { width ≡ first_width widths (end - first) }
-    requires first { first ≤ 1000000000 }
     requires end { end ≤ 1000000000 }
     ensures are { result ≡ columns_of first end }
     ensures few { AreFew result }
@@ -43,9 +42,8 @@ fn with_width(first: u64, end: u64, width: u64) -> Columns
     }
 }
 
-/// The columns of the ticks from the first one up to before the end, each at most 1,000,000,000.
+/// The columns of the ticks from the first one up to before the end, which is at most 1,000,000,000.
 pub fn columns_of(first: u64, end: u64) -> Columns
-    requires first { first ≤ 1000000000 }
     requires end { end ≤ 1000000000 }
     ensures are { result ≡ columns_of first end }
     ensures few { AreFew result }
@@ -57,7 +55,7 @@ pub fn columns_of(first: u64, end: u64) -> Columns
 /// The first tick of a column, counted from 0.
 pub fn first_tick(columns: &Columns, column: usize) -> u64
     requires few { AreFew columns.now }
-    requires column { column ≤ 1000 }
+    requires column { column < columns.now.count }
     ensures { result ≡ first_tick columns.now column }
 {
     columns.first + column as u64 * columns.width
@@ -66,7 +64,7 @@ pub fn first_tick(columns: &Columns, column: usize) -> u64
 /// The tick that follows the last of a column.
 pub fn end_of(columns: &Columns, column: usize) -> u64
     requires few { AreFew columns.now }
-    requires column { column ≤ 1000 }
+    requires column { column < columns.now.count }
     ensures { result ≡ end_of columns.now column }
 {
     let first = first_tick(columns, column);

@@ -38,7 +38,7 @@ fn label_len(names: &[Name]) -> usize
 /// Puts a mark of the scale at its place.
 fn put_mark(text: &mut Text, columns: &Columns, mark: usize) -> Result<(), AllocError>
     requires few { AreFew columns.now }
-    requires mark { mark ≤ 100 }
+    requires mark { 10 * mark < columns.now.count }
     ensures { OnOk result (text.new ≡
         filled (10 * mark) text.old ++ decimal (first_tick columns.now (10 * mark))) }
 {
@@ -61,12 +61,7 @@ fn scale(alloc: Global, columns: &Columns) -> Result<Text, AllocError>
 }
 
 /// Puts a label and a text, each filled to its length.
-fn put_front(
-    text: &mut Text,
-    lengths: Lengths,
-    label: &[u8],
-    body: &[u8],
-) -> Result<(), AllocError>
+fn put_front(text: &mut Text, lengths: Lengths, label: &[u8], body: &[u8]) -> Result<(), AllocError>
     ensures { OnOk result (text.new ≡ text.old ++ (filled lengths.labels label.now ++
         (codes "  " ++ (filled lengths.texts body.now ++ codes "  ")))) }
 {

@@ -3,6 +3,7 @@
 ghost use Rattle.std.specs.Prelude.{◌≡◌, ◌<◌, ◌≤◌, ◌+◌, ◌^◌, ◌++◌, [], ◌∷◌, ℕ, OnOk, List};
 ghost use Rattle.base.specs.declared.event.Event.{Event as Fell};
 ghost use Rattle.run_chart.specs.Letters.{drawn, first_of_two};
+ghost use Rattle.run_chart.specs.Responses.{is_end, is_release};
 ghost use Rattle.chart_lines.specs.Traces.{Counts, with_longest};
 
 use crate::letters::{drawn, first_of_two};
@@ -24,6 +25,20 @@ pub struct Trace {
     pub ended: u64,
     /// The longest of their responses, in ticks.
     pub longest: Option<u64>,
+}
+
+/// Whether an activation begins.
+fn is_release(act: Act) -> bool
+    ensures { result ≡ is_release act }
+{
+    matches!(act, Act::Release)
+}
+
+/// Whether an activation ends.
+fn is_end(act: Act) -> bool
+    ensures { result ≡ is_end act }
+{
+    matches!(act, Act::End)
 }
 
 impl Trace {
@@ -52,7 +67,9 @@ impl Trace {
     /// The column is over. An error says that memory is short.
     pub fn end_column(&mut self) -> Result<(), AllocError>
         ensures { OnOk result (self.new ≡ record self.old {
-            row = self.old.row ++ drawn self.old.letter ∷ []; letter = Letter.Blank }) }
+          row = self.old.row ++ drawn self.old.letter ∷ [];
+          letter = Letter.Blank;
+        }) }
     {
         let drawn = [drawn(self.letter)];
         self.letter = Letter::Blank;
@@ -62,8 +79,10 @@ impl Trace {
     /// An activation of so many ticks ended.
     fn end(&mut self, response: u64)
         requires { self.old.ended < 2 ^ 63 }
-        ensures { self.new ≡ record self.old { ended = self.old.ended + 1;
-            longest = with_longest self.old.longest response } }
+        ensures { self.new ≡ record self.old {
+          ended = self.old.ended + 1;
+          longest = with_longest self.old.longest response;
+        } }
     {
         self.ended += 1;
         self.longest = Some(match self.longest {
@@ -83,12 +102,10 @@ impl Trace {
         ensures letter { self.new.letter ≡ self.old.letter }
         ensures few { self.new.ended ≤ self.old.ended + 1 }
     {
-        match event.act {
-            Act::Release => self.released = event.tick,
-            Act::End if event.tick >= first => {
-                self.end((event.tick + 1).saturating_sub(self.released));
-            }
-            _ => {}
+        if is_release(event.act) {
+            self.released = event.tick;
+        } else if is_end(event.act) && event.tick >= first {
+            self.end((event.tick + 1).saturating_sub(self.released));
         }
     }
 }
