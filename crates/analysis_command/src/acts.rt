@@ -22,11 +22,7 @@ use syntax_tree::Place;
 const START: Place = Place { line: 1, col: 1 };
 
 /// The act that puts the bounds of a program, taken apart.
-fn put_why<'a>(
-    alloc: Global,
-    program: &Checked,
-    over: u16,
-) -> Result<PreparedCall<'a>, AllocError>
+fn put_why<'a>(alloc: Global, program: &Checked, over: u16) -> Result<PreparedCall<'a>, AllocError>
     ghost text: { List ℕ }
     requires over { over ≤ 1000 }
     requires written { IsWritten text (placed program.now) }
@@ -72,11 +68,7 @@ pub fn why_act<'a>(
 }
 
 /// The act that puts what fits of a program.
-fn put_fit<'a>(
-    alloc: Global,
-    program: &Checked,
-    over: u16,
-) -> Result<PreparedCall<'a>, AllocError>
+fn put_fit<'a>(alloc: Global, program: &Checked, over: u16) -> Result<PreparedCall<'a>, AllocError>
     ghost text: { List ℕ }
     requires over { over ≤ 1000 }
     requires written { IsWritten text (placed program.now) }

@@ -1,4 +1,4 @@
 pub mod Shape
 pub mod Analysed
-pub mod Why
+pub mod Apart
 pub mod Fits

@@ -32,11 +32,7 @@ fn all_bounded(levels: &[Level]) -> bool
 }
 
 /// The text on a program, by its image.
-fn why_of_image(
-    alloc: Global,
-    program: &Program,
-    image: &RawImage,
-) -> Result<WhyText, AllocError>
+fn why_of_image(alloc: Global, program: &Program, image: &RawImage) -> Result<WhyText, AllocError>
     requires checked { IsChecked (placed program.now) }
     requires image { IsRanked (placed program.now) image.now.overhead image.now }
     ensures { IfOk result (IsWhyOf (plain (placed program.now)) image.now.overhead) }

@@ -80,16 +80,15 @@ monitor_is b k m r is own = sym (ap (λ (o : RoutineOwner). owner_number (owner_
 
 -- ---- what is found
 
-pub found_of : (m : Image) (graph : CallGraph) (held block n : ℕ) (goals row gs rs : List (Option ℕ)) (ps lower : List ℕ) (cs ds : List (List ℕ)) (found : Option Reached) → ps ≡ graph.places.items → AreGoals m ps held block goals
-    → gs ≡ goals → cs ≡ graph.calls.items → AreFirstPlaces gs cs (length gs) row → rs ≡ row → ds ≡ graph.calls.items → n ≡ length m.routines → lower ≡ graph.ranked.items
-    → IsFirst (λ k. earliest_of rs (calls_at (drop n ds) k)) (drop held lower) found → IsFoundOf m graph held block found
-found_of m graph held block n goals row gs rs ps lower cs ds found is_places are_goals is_goals is_calls first is_row is_rest is_many is_lower is_first = record {
+pub found_of : (m : Image) (graph : CallGraph) (held block n : ℕ) (goals row gs rs : List (Option ℕ)) (ps ranked lower : List ℕ) (cs ds of : List (List ℕ)) (found : Option Reached) → ps ≡ graph.places.items → AreGoals m ps held block goals
+    → gs ≡ goals → cs ≡ graph.calls.items → AreFirstPlaces gs cs (length gs) row → rs ≡ row → ds ≡ graph.calls.items → n ≡ length m.routines → of ≡ drop n ds → ranked ≡ graph.ranked.items → lower ≡ drop held ranked
+    → IsFirst (λ k. earliest_of rs (calls_at of k)) lower found → IsFoundOf m graph held block found
+found_of m graph held block n goals row gs rs ps ranked lower cs ds of found is_places are_goals is_goals is_calls first is_row is_rest is_many is_of is_ranked is_lower is_first = record {
   goals = goals;
   are_goals = subst (λ (xs : List ℕ). AreGoals m xs held block goals) is_places are_goals;
   row = row;
   are_first = subst (λ (xs : List (Option ℕ)). AreFirstPlaces xs graph.calls.items (length xs) row) is_goals (subst (λ (ys : List (List ℕ)). AreFirstPlaces gs ys (length gs) row) is_calls first);
-  is_first = subst (λ (xs : List ℕ). IsFirst (λ k. earliest_of row (calls_at (drop (length m.routines) graph.calls.items) k)) (drop held xs) found) is_lower
-      (subst (λ (j : ℕ). IsFirst (λ k. earliest_of row (calls_at (drop j graph.calls.items) k)) (drop held lower) found) is_many
-      (subst (λ (ys : List (List ℕ)). IsFirst (λ k. earliest_of row (calls_at (drop n ys) k)) (drop held lower) found) is_rest
-      (subst (λ (xs : List (Option ℕ)). IsFirst (λ k. earliest_of xs (calls_at (drop n ds) k)) (drop held lower) found) is_row is_first)));
+  is_first = subst (λ (xs : List ℕ). IsFirst (λ k. earliest_of row (calls_at (drop (length m.routines) graph.calls.items) k)) xs found) (is_lower ∙ ap (λ (xs : List ℕ). drop held xs) is_ranked)
+      (subst (λ (ys : List (List ℕ)). IsFirst (λ k. earliest_of row (calls_at ys k)) lower found) (is_of ∙ (ap (λ (ys : List (List ℕ)). drop n ys) is_rest ∙ ap (λ (j : ℕ). drop j graph.calls.items) is_many))
+      (subst (λ (xs : List (Option ℕ)). IsFirst (λ k. earliest_of xs (calls_at of k)) lower found) is_row is_first));
 }

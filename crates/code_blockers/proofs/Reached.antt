@@ -105,7 +105,6 @@ module _ (g : Program) (m : image.Image) (of : IsImageOfText g m) (ceilings : Ce
 
   goal_same : (r : ℕ) (t : Text) (x : image.Routine) → slice_get (numbered g) r ≡ Some t → slice_get m.routines r ≡ Some x → IsRoutine g t x → goal_of m held block x ≡ text_goal g held block t
   goal_same r t x at there own = by t.owner refl where
-
     no_entry : (o : Owner) → t.owner ≡ o → nat_eq (kind_number o) 2 ≡ false → owner_low g held o ≡ false → goal_of m held block x ≡ text_goal g held block t
     no_entry o e kind low =
         ap (λ n. nat_eq n 2 && (nat_eq x.stay block && low_ceiling (slice_get m.monitors x.owner) held)) (own.kind ∙ ap (λ w. kind_number w) e)
@@ -128,7 +127,6 @@ module _ (g : Program) (m : image.Image) (of : IsImageOfText g m) (ceilings : Ce
 
   module _ (routines : RoutinesCallTheirTexts) (bodies : ProcessesCallTheirTexts) (places : List ℕ) (are_places : places ≡ map (place_in g) (numbered g)) (goals : List (Option ℕ)) (are_goals : AreGoals m places held block goals)
       (calls : List (List ℕ)) (are_calls : AreCalls m calls) (row : List (Option ℕ)) (are_first : AreFirstPlaces goals calls (length goals) row) (s : ℕ) where
-
     goal_row : (r : ℕ) (t : Text) → slice_get (numbered g) r ≡ Some t → at_most s (place_at goals r) ≡ goal_within g held block s t
     goal_row r t at =
         let x = stands g m of.code r t at in

@@ -1,6 +1,6 @@
 //! The search for what makes a block.
 
-ghost use Rattle.std.specs.Prelude.{◌≡◌, ◌≤◌, IfOk, length};
+ghost use Rattle.std.specs.Prelude.{◌≡◌, ◌≤◌, IfOk, drop, length};
 ghost use Rattle.syntax_tree.specs.Placed.{placed, plain};
 ghost use Rattle.image.specs.Raw.{image_of};
 ghost use Rattle.loader_code.specs.Owned.{AreCalls};
@@ -18,6 +18,23 @@ use code_names::Numbering;
 use image::RawImage;
 use sched_sections::Blocker;
 use std::alloc::{AllocError, Global};
+use syntax_tree::List;
+
+/// The processes of lower rank, of those in the order of ranks.
+fn ranked_below(ranked: &[usize], rank: u16) -> &[usize]
+    requires { rank ≤ length ranked.now }
+    ensures { result.now ≡ drop rank ranked.now }
+{
+    &ranked[rank as usize..]
+}
+
+/// What the processes call, whose pieces stand behind those of so many routines.
+fn calls_of_processes(calls: &[List<usize>], routines: usize) -> &[List<usize>]
+    requires { routines ≤ length calls.now }
+    ensures { result.now ≡ drop routines calls.now }
+{
+    &calls[routines..]
+}
 
 /// Which place is reached first, and from which piece, of the processes below a rank.
 fn found(
@@ -34,8 +51,8 @@ fn found(
 {
     let goals = goals(alloc, image, graph.places.as_slice(), rank, block)?;
     let row = first_places(alloc, goals.as_slice(), graph.calls.as_slice())?;
-    let of_processes = &graph.calls.as_slice()[image.routines.len()..];
-    let lower = &graph.ranked.as_slice()[rank as usize..];
+    let of_processes = calls_of_processes(graph.calls.as_slice(), image.routines.len());
+    let lower = ranked_below(graph.ranked.as_slice(), rank);
     Ok(first_reached(row.as_slice(), of_processes, lower))
 }
 
@@ -61,7 +78,8 @@ pub fn blocker(
     if block == 0 {
         return Ok(None);
     }
-    match found(alloc, image, graph, rank, block)? {
+    let first = found(alloc, image, graph, rank, block)?;
+    match first {
         None => Ok(None),
         Some(reached) => {
             let directory = numbering.directory();

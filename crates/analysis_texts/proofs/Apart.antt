@@ -1,7 +1,8 @@
 -- Levels that are read from the image are those of the program.
-use Rattle.std.specs.Prelude.{◌≡◌, ◌≤◌, ◌<◌, ◌+◌, ◌-◌, ◌↔◌, ℕ, zero, suc, Bool, true, false, List, [], ◌∷◌, Option, Some, None, All, IsSome, length, slice_get, unwrap_or}
+use Rattle.std.specs.Prelude.{◌≡◌, ◌≤◌, ◌<◌, ◌+◌, ◌-◌, ◌↔◌, ℕ, zero, suc, Bool, true, false, List, [], ◌∷◌, Option, Some, None, All, IfNone, IfSome, IsSome, length, slice_get, unwrap_or}
 use Rattle.std.proofs.Common.{refl, sym, ap, subst, ◌∙◌, arith, get_or}
 use Rattle.std.proofs.lemmas.List.Elements.{All-cons, All-nil, All-get_or}
+use Rattle.std.proofs.lemmas.Bool.{false≢true}
 use Rattle.std.proofs.lemmas.Option.{get_or_from_slice_get, slice_get_within}
 use Rattle.base.proofs.Lists.{all_of, same_elements}
 use Rattle.syntax_tree.specs.declared.place.Place.{Place}
@@ -13,7 +14,7 @@ use Rattle.image.specs.declared.raw.RawImage.{RawImage}
 use Rattle.image.specs.Raw.{image_of}
 use Rattle.valid_image.specs.Tasks.{process_at, tasks_of}
 use Rattle.sched_response.specs.declared.tasks.Task.{Task}
-use Rattle.sched_response.specs.Demand.{deadline_at, task_at, AreTasks, IsTask, Solves}
+use Rattle.sched_response.specs.Demand.{deadline_at, task_at, AreTasks, IsBound, IsTask, Solves}
 use Rattle.sched_table.specs.Table.{IsBoundAt}
 use Rattle.sched_sections.specs.declared.levels.Level.{Level}
 use Rattle.sched_sections.specs.Levels.{level_at, shown_at, tasks_in}
@@ -40,14 +41,19 @@ later l ls u = record { at = suc u.at; low = omega (arith, u.low); none = u.none
 
 unbounded : (ls : List Level) → (All (λ l. IsSome l.bound) ls → ⊥) → Unbounded ls
 unbounded [] not = absurd (not (All-nil (λ l. IsSome l.bound)))
-unbounded (l ∷ ls) not = by l.bound refl where
-  by : (o : Option ℕ) → l.bound ≡ o → Unbounded (l ∷ ls)
-  by None e = record { at = 0; low = omega arith; none = e }
-  by (Some r) e = later l ls (unbounded ls (λ rest. not (All-cons (λ l. IsSome l.bound) l ls (subst (λ (o : Option ℕ). IsSome o) (sym e) tt) rest)))
+unbounded (l ∷ ls) not = by l.bound refl (λ more. unbounded ls more) where
+  by : (o : Option ℕ) → l.bound ≡ o → ((All (λ l. IsSome l.bound) ls → ⊥) → Unbounded ls) → Unbounded (l ∷ ls)
+  by None e rest = record { at = 0; low = omega arith; none = e }
+  by (Some r) e rest = later l ls (rest (λ every. not (All-cons (λ l. IsSome l.bound) l ls (subst (λ (o : Option ℕ). IsSome o) (sym e) refl) every)))
 
 some_of_bound : (o : Option ℕ) → IsSome o → (r : ℕ) × (o ≡ Some r)
-some_of_bound None h = absurd h
+some_of_bound None h = absurd (false≢true h)
 some_of_bound (Some r) h = (r, refl)
+
+-- the bound that is found, or none
+pub bound_is : (ts : List Task) (level : ℕ) (o : Option ℕ) → IfSome o (IsBound ts level) → IfNone o ((r : ℕ) → ¬ Solves ts level r) → IsBoundAt ts level o
+bound_is ts level None some none = none
+bound_is ts level (Some r) some none = some
 
 module _ (g : Prog Place) (over : ℕ) (raw : RawImage) (is : IsRanked g over raw) (ls : List Level) (are : AreLevels g raw ls) where
   pub tasks_same : tasks_in ls ≡ tasks_of (image_of raw)
