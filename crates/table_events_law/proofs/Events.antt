@@ -98,8 +98,8 @@ module _ (tail : Name) (t : TaskTable) where
 
 module _ (t : TaskTable) (begun : IsBegun t) (g : Prog Place) (like : bare g ≡ program_with (made_tail t) t) (are : Every (IsDeclOf (made_tail t) t) g.decls)
     (lists : (before : List (Decl Place)) (p : Process Place) (after : List (Decl Place)) → g.decls ≡ before ++ process p ∷ after → (o : Occurrence)
-        → Contains (inner_names (record { means = first ((program_name g ∷ map decl_name before) ++ others (process p ∷ after)); members = λ place. first (entries_at g.decls place) }) (process p) []) o
-        → Contains (all_occurrences g) o)
+    → Contains (inner_names (record { means = first ((program_name g ∷ map decl_name before) ++ others (process p ∷ after)); members = λ place. first (entries_at g.decls place) }) (process p) []) o
+    → Contains (all_occurrences g) o)
     (finds : (name : Name) (place : Place) (want : NameUse) (d : Declared) → Contains (all_occurrences g) (used name place want (Some d)) → declared_at (all_occurrences g) place ≡ Some d.place) where
   abbrev tail : Name
   tail = made_tail t
@@ -208,19 +208,19 @@ module _ (t : TaskTable) (begun : IsBegun t) (g : Prog Place) (like : bare g ≡
       let whole : g.decls ≡ (a.one ++ b.one) ++ b.other = a.is ∙ ap (λ (ds : List (Decl Place)). a.one ++ ds) b.is ∙ sym (append_assoc a.one b.one b.other) in
       let some = counted e0 t.tasks (λ line e. e) a.one b.other (a.one ++ b.one) a.one_like (λ d e. elem_front d a.one a.other a.is e) b.other_like whole in
       let no_mon_events = no_events b.one (pulled bare_decl NoEvent b.one mons b.one_like (every_map (λ y. (d : Decl Place) → bare_decl d ≡ y → NoEvent d) (λ name. monitor (table_monitor tail t name)) (of_table.monitors t)
-          (each_of (λ name. (d : Decl Place) → bare_decl d ≡ monitor (table_monitor tail t name) → NoEvent d) (of_table.monitors t) (λ name e. monitor_no_event tail t name)))) in
+      (each_of (λ name. (d : Decl Place) → bare_decl d ≡ monitor (table_monitor tail t name) → NoEvent d) (of_table.monitors t) (λ name e. monitor_no_event tail t name)))) in
       let no_proc_events = no_events b.other (pulled bare_decl NoEvent b.other procs b.other_like (every_map (λ y. (d : Decl Place) → bare_decl d ≡ y → NoEvent d) (λ p. process (table_process tail p)) t.tasks
-          (each_of (λ p. (d : Decl Place) → bare_decl d ≡ process (table_process tail p) → NoEvent d) t.tasks (λ p e. process_no_event tail t p)))) in
+      (each_of (λ p. (d : Decl Place) → bare_decl d ≡ process (table_process tail p) → NoEvent d) t.tasks (λ p e. process_no_event tail t p)))) in
       let no_mon_processes = no_processes b.one (pulled bare_decl NoProcess b.one mons b.one_like (every_map (λ y. (d : Decl Place) → bare_decl d ≡ y → NoProcess d) (λ name. monitor (table_monitor tail t name)) (of_table.monitors t)
-          (each_of (λ name. (d : Decl Place) → bare_decl d ≡ monitor (table_monitor tail t name) → NoProcess d) (of_table.monitors t) (λ name e. monitor_no_process tail t name)))) in
+      (each_of (λ name. (d : Decl Place) → bare_decl d ≡ monitor (table_monitor tail t name) → NoProcess d) (of_table.monitors t) (λ name e. monitor_no_process tail t name)))) in
       let no_ev_processes = no_processes a.one (pulled bare_decl NoProcess a.one evs a.one_like (every_flat (λ y. (d : Decl Place) → bare_decl d ≡ y → NoProcess d) (λ p. event_of p.event) t.tasks
-          (each_of (λ p. Every (λ y. (d : Decl Place) → bare_decl d ≡ y → NoProcess d) (event_of p.event)) t.tasks (λ p e. events_no_process tail t p.event)))) in
+      (each_of (λ p. Every (λ y. (d : Decl Place) → bare_decl d ≡ y → NoProcess d) (event_of p.event)) t.tasks (λ p e. events_no_process tail t p.event)))) in
       let all_processes : processes g.decls ≡ processes b.other =
-          ap (λ ds. processes ds) whole ∙ processes_both (a.one ++ b.one) b.other ∙ ap (λ (qs : List (Process Place)). qs ++ processes b.other) (processes_both a.one b.one)
-          ∙ (λ i. (no_ev_processes i ++ no_mon_processes i) ++ processes b.other) in
+      ap (λ ds. processes ds) whole ∙ processes_both (a.one ++ b.one) b.other ∙ ap (λ (qs : List (Process Place)). qs ++ processes b.other) (processes_both a.one b.one)
+      ∙ (λ i. (no_ev_processes i ++ no_mon_processes i) ++ processes b.other) in
       let all_events : events g.decls ≡ events a.one ++ [] =
-          ap (λ ds. events ds) whole ∙ events_both (a.one ++ b.one) b.other ∙ ap (λ (qs : List Place). qs ++ events b.other) (events_both a.one b.one)
-          ∙ (λ i. (events a.one ++ no_mon_events i) ++ no_proc_events i) ∙ append_assoc (events a.one) [] [] in
+      ap (λ ds. events ds) whole ∙ events_both (a.one ++ b.one) b.other ∙ ap (λ (qs : List Place). qs ++ events b.other) (events_both a.one b.one)
+      ∙ (λ i. (events a.one ++ no_mon_events i) ++ no_proc_events i) ∙ append_assoc (events a.one) [] [] in
       let same_count : count e0 (events g.decls) ≡ count e0 (events a.one) = ap (λ ps. count e0 ps) (all_events ∙ append-nil (events a.one)) in
       let at_least = some_counted e0 (events g.decls) there in
       let one : users found e0 (processes g.decls) ≡ 1 = omega (arith, ap (λ ps. users found e0 ps) all_processes, some, same_count, at_least, few e0) in

@@ -88,13 +88,13 @@ module _ (t : TaskTable) (begun : IsBegun t) (g : Prog Place) (like : bare g ≡
         let site : Names → Site = λ ns. record { means = first ns; members = λ place. first (entries_at g.decls place) } in
         let ns = (program_name g ∷ map decl_name before) ++ others (process p ∷ after) in
         let means : (inside scope (site ns)).means e ≡ Some d =
-            ap (λ b. or_else (if b then Some v else None) (first ns e)) (not_x t begun g like are e (event_named t begun g like are line listed e has))
-            ∙ ap (λ ks. first ks e) (site_known before p after split) ∙ decl_known t begun g like are (event e at) there in
+        ap (λ b. or_else (if b then Some v else None) (first ns e)) (not_x t begun g like are e (event_named t begun g like are line listed e has))
+        ∙ ap (λ ks. first ks e) (site_known before p after split) ∙ decl_known t begun g like are (event e at) there in
         let here : Site = inside scope (site ns) in
         let others_there = vars_names here p.vars (routines_names here p.routines (stmts_names here p.body (optional_names (handler_names here) p.handler (closes p.close p.close_place p.name ∷ [])))) in
         let in_scope : Contains (declarations (first ns) [] scope (process_inner (inside scope (site ns)) p [])) (used e q want_is.Event (Some d)) =
-            subst (λ a. Contains (declarations (first ns) [] scope (activation_names here a others_there)) (used e q want_is.Event (Some d))) (sym activation)
-            (1, omega arith, ap (λ o. used e q want_is.Event o) means) in
+        subst (λ a. Contains (declarations (first ns) [] scope (activation_names here a others_there)) (used e q want_is.Event (Some d))) (sym activation)
+        (1, omega arith, ap (λ o. used e q want_is.Event o) means) in
         let in_process : Contains (inner_names (site ns) (process p) []) (used e q want_is.Event (Some d)) =
-            subst (λ (ds : Names). Contains (declarations (first ns) [] ds (process_inner (inside ds (site ns)) p [])) (used e q want_is.Event (Some d))) (sym scope_is) in_scope in
+        subst (λ (ds : Names). Contains (declarations (first ns) [] ds (process_inner (inside ds (site ns)) p [])) (used e q want_is.Event (Some d))) (sym scope_is) in_scope in
         finds e q want_is.Event d (lists before p after split (used e q want_is.Event (Some d)) in_process)
