@@ -134,11 +134,11 @@ module _ (t : TaskTable) (begun : IsBegun t) (g : Prog Place) (like : bare g ≡
   abbrev site : Site
   site = outer t begun g like are
 
-  abbrev known : Names
+  abbrev pub known : Names
   known = all_names t begun g like are
 
   -- what a declaration of the program is known as
-  decl_known : (d : Decl Place) → Elem d g.decls → first known (decl_name d).0 ≡ Some (decl_name d).1
+  pub decl_known : (d : Decl Place) → Elem d g.decls → first known (decl_name d).0 ≡ Some (decl_name d).1
   decl_known d e = first_of known (decl_name d) (all_apart t begun g like are) (inr (decl_there tail t d g.decls are e))
 
   event_known : (e : Name) → Elem (event e tt) (program_with tail t).decls → kind_of (first known e) ≡ Some kind_is.Event
@@ -161,14 +161,14 @@ module _ (t : TaskTable) (begun : IsBegun t) (g : Prog Place) (like : bare g ≡
       record { one = m.one; there = in_it; same_one = m.like; means = ap (first known) (sym (ap (λ x. x.name) m.like)) ∙ decl_known (monitor m.one) in_it }
 
   -- a name of the table is not x
-  not_x : (n : Name) → Contains (names t) n → same n (of_x tail) ≡ false
+  pub not_x : (n : Name) → Contains (names t) n → same n (of_x tail) ≡ false
   not_x n there = differs n (of_x tail) (λ e. is_free t begun n (codes "x") there (0, omega arith, refl) e)
 
   module _ (line : TaskLine) (listed : Elem line t.tasks) where
     event_there : (e : Name) → line.event ≡ Some e → Elem (event e tt) (program_with tail t).decls
     event_there e is = elem_left (event e tt) (flat_map (λ p. event_of p.event) t.tasks) _ (elem_flat (λ p. event_of p.event) (event e tt) line t.tasks (elem_event line.event e is) listed)
 
-    event_named : (e : Name) → line.event ≡ Some e → Contains (names t) e
+    pub event_named : (e : Name) → line.event ≡ Some e → Contains (names t) e
     event_named e is =
         let in_tasks = elem_flat (λ p. p.name ∷ option_to_list p.event) e line t.tasks (inr (elem_some line.event e is)) listed in
         elem_of (λ n. Contains (names t) n) e (t.name ∷ flat_map of_table.task_names t.tasks) (tasks_there t) (inr in_tasks)

@@ -1,6 +1,6 @@
 pub mod Shapes
 mod Things
-mod Statements
+pub mod Statements
 mod Reach
 mod Limits
 mod Counts

@@ -1,0 +1,4 @@
+mod Users
+mod Events
+mod Standing
+mod Kept
