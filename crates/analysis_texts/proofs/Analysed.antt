@@ -65,3 +65,9 @@ module _ (ranks : RanksAreOfTheMeaning) (g : Prog Place) (raw : RawImage) (graph
       let at : rank (plain g) (process_at (image_of raw) level) - 1 ≡ level = omega (arith, o.is_rank) in
       subst (λ (n : ℕ). IsBlock (plain g) n (task_at (tasks_of (image_of raw)) level).block) o.is_rank
       (subst (λ (n : ℕ). IsBlock (plain g) (rank (plain g) (process_at (image_of raw) level)) (task_at (tasks_of (image_of raw)) n).block) at of.block)
+
+  pub process_is : (level process : ℕ) (ps : List ℕ) → level < length ts → ps ≡ graph.ranked.items → process ≡ slice_index ps level → process ≡ process_at (image_of raw) level
+  process_is level process ps low same is = is ∙ (ap (λ (xs : List ℕ). slice_index xs level) same ∙ ranked_is level low)
+
+  pub own_task : (level process : ℕ) (t : Task) → level < length ts → process ≡ process_at (image_of raw) level → t ≡ task_of (slice_get (image_of raw).processes process) → t ≡ task_at (tasks_of (image_of raw)) level
+  own_task level process t low at is = is ∙ (ap (λ (k : ℕ). task_of (slice_get (image_of raw).processes k)) at ∙ sym (task_is level low))

@@ -16,7 +16,6 @@ use Rattle.image.specs.declared.raw.RawProcess.{RawProcess}
 use Rattle.image.specs.Raw.{image_of, process_of}
 use Rattle.valid_image.specs.Tasks.{process_at, tasks_of}
 use Rattle.valid_image.specs.Times.{rank_fault}
-use Rattle.code_spec.specs.Compiled.{IsCodeOf}
 use Rattle.code_measures.proofs.Valid.{no_rank_fault}
 use Rattle.checked_law.specs.Ready.{CheckedProgramsAreReady}
 use Rattle.checked_law.specs.Small.{GeneratedCodeIsCode}
@@ -25,7 +24,6 @@ use Rattle.sched_response.specs.Demand.{AreTasks}
 use Rattle.sched_program_law.proofs.Levels.{rank_low, rank_high, had}
 use Rattle.sched_why.specs.Levels.{order}
 use Rattle.loader.proofs.InOrder.{are_tasks, tasks_long}
-use Rattle.codegen_ranks.proofs.Whole.{as_many_processes}
 use Rattle.built_tasks_law.specs.Tasks.{RanksAreOfTheText}
 use Rattle.compile.specs.Steps.{IsRanked}
 use Rattle.code_blockers.specs.Graphs.{IsImageOfText}

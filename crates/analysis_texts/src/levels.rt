@@ -79,6 +79,7 @@ fn all_levels(
     requires { IsAnalysed (placed numbering.now) image.now graph.now set.now }
     ensures { IfOk result (AreLevels (placed numbering.now) image.now) }
 {
+    ranks_are_of_the_meaning();
     let mut all = List::new(alloc);
     for number in 0..set.levels() {
         let one = level(alloc, image, numbering, graph, set, number)?;
