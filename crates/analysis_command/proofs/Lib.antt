@@ -1,1 +1,9 @@
+pub mod Reached
+pub mod Pieces
+pub mod Blocking
+pub mod Places
+pub mod Shape
+pub mod Analysed
+pub mod Apart
+pub mod Fits
 pub mod Due

@@ -10,7 +10,7 @@ ghost use Rattle.command_answers.specs.Acting.{IsQuiet};
 ghost use Rattle.command_answers.specs.Acts.{outcome_of};
 ghost use Rattle.command_answers.specs.Contents.{IsContent};
 
-use analysis_texts::{fit_text, why_text};
+use crate::{fit_text, why_text};
 use command_answers::{Content, PreparedCall, Status, put, put_fault};
 use compile::{ProgramTextFault, read_written};
 use static_rule::rule;

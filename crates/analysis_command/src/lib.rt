@@ -1,12 +1,27 @@
-//! Takes the bounds of a program apart, and tells what fits: why, fit.
+//! `why` and `fit`: the bounds of a program taken apart, and what fits.
 //!
-//! Each reads a program's text, judges it, and puts the text on its program (`analysis_texts`) or
-//! the line of its fault. `why` has status 3 where the program is not in time by its text, `fit`
-//! never. For each of the two a call promises an act that comes to what is due; or a read that
-//! failed (`Prepares` of `command_answers`).
+//! `sched_why` says which text takes the bounds of a program apart (`IsWhyText`), and which tells what
+//! fits (`IsFitText`), both by its text alone. `prepare_why` and `prepare_fit` read a text, judge it,
+//! and make the act that puts these: the levels of the program by its image, the entry and the process
+//! that make each block (`code_goals` finds the first goal that calls come to), and what fits by
+//! `sched_fits`.
 #![tactic(auto)]
 
 mod acts;
 mod commands;
+mod fit;
+pub mod found_law;
+mod goals;
+mod graph;
+mod image_of_program;
+mod levels;
+mod naming;
+mod order;
+mod search;
+mod why;
 
+pub use graph::{CallGraph, call_graph};
+pub use search::blocker;
+pub use fit::fit_text;
+pub use why::{WhyText, why_text};
 pub use commands::{prepare_fit, prepare_why};

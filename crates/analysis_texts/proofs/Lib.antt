@@ -1,4 +1,0 @@
-pub mod Shape
-pub mod Analysed
-pub mod Apart
-pub mod Fits

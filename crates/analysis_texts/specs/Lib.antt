@@ -1,3 +1,0 @@
-pub mod Analysed
-pub mod Told
-pub mod Fitted

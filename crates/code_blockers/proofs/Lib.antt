@@ -1,4 +1,0 @@
-pub mod Reached
-pub mod Pieces
-pub mod Blocking
-pub mod Places
