@@ -5,8 +5,6 @@
 #![tactic(auto)]
 
 #[cfg(test)]
-mod charts;
-#[cfg(test)]
 mod commands;
 #[cfg(test)]
 mod devices;
@@ -14,7 +12,5 @@ mod devices;
 mod earliest;
 #[cfg(test)]
 mod stops;
-#[cfg(test)]
-mod tables;
 #[cfg(test)]
 mod words;
