@@ -35,6 +35,7 @@ pub fn start<'a>(
     Ok(Running {
         rules,
         config,
-        next_clock: 0,
+        next_start: 0,
+        first: None,
     })
 }
