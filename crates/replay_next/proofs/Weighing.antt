@@ -68,7 +68,7 @@ pub turns_weight : (g : Program) (p : Process) (w : run.Found → ℕ) (s : Stmt
 turns_weight g p w s q i r low high a xs n is same count =
     let whole = for_weight g p w s q i r low high a is in
     let here : n * suc (stmts_told g p w xs) ≡ up_to (constant_value g (plain_constant (placed_constant high.value)) -ℤ constant_value g (plain_constant (placed_constant low.value))) * suc (stmts_told g p w a) =
-        ap (λ k. k * suc (stmts_told g p w xs)) count ∙ ap (λ ys. up_to (constant_value g (plain_constant (placed_constant high.value)) -ℤ constant_value g (plain_constant (placed_constant low.value))) * suc (stmts_told g p w ys)) same in
+    ap (λ k. k * suc (stmts_told g p w xs)) count ∙ ap (λ ys. up_to (constant_value g (plain_constant (placed_constant high.value)) -ℤ constant_value g (plain_constant (placed_constant low.value))) * suc (stmts_told g p w ys)) same in
     omega (arith, whole, here)
 
 -- less than the weight is less than any that is no smaller

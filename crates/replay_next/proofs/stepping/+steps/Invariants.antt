@@ -22,7 +22,7 @@ invariant-step_turns-turns l =
     record {
       fewer : l.left ≤ l.fn.count;
       told : run.turns (λ k. run.run_all c k ss) l.name ss l.left l.at (memory_of l.memory)
-        ≡ run.turns (λ k. run.run_all c k ss) l.name ss l.fn.count l.fn.first (memory_of l.initial.memory);
+          ≡ run.turns (λ k. run.run_all c k ss) l.name ss l.fn.count l.fn.first (memory_of l.initial.memory);
     }
 
 abbrev pub decreases-step_turns-turns : goal.decreases-step_turns-turns
