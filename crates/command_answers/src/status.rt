@@ -19,7 +19,7 @@ pub enum Status {
     Unread,
     /// 7: the store or a put failed.
     Unwritten,
-    /// 8: there was not enough memory, or `replay` met a program that is too deep for it.
+    /// 8: there was not enough memory, or `replay` met functions that nest too deep for it.
     Memory,
     /// 9: the text is no log, or its events are no run of the program.
     Log,
