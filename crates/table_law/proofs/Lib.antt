@@ -3,3 +3,4 @@ pub mod Parts
 pub mod Costs
 pub mod Instructions
 pub mod Stacks
+mod Frames

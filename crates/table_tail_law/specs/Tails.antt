@@ -1,5 +1,5 @@
 -- The names that are made beside those of a table.
-use Rattle.std.specs.Prelude.{◌≡◌, ◌≢◌, ◌≤◌, ◌++◌, length, Contains}
+use Rattle.std.specs.Prelude.{◌≢◌, ◌≤◌, ◌++◌, length, Contains}
 use Rattle.syntax_tree.specs.Plain.{Name}
 use Rattle.table_format.specs.declared.table.TaskTable.{TaskTable}
 use Rattle.table_format.specs.Rules.{names, IsBegun}

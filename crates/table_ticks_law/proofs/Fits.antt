@@ -1,6 +1,6 @@
 -- What the parts of a table keep to.
-use Rattle.std.proofs.Common.{◌≡◌, ◌≤◌, ◌<◌, ◌+◌, ◌-◌, ◌⊎◌, inl, inr, ℕ, List, [], ◌∷◌, ◌++◌, All, Option, Some, None, map, arith}
-use Rattle.std.specs.Prelude.{IfSome, flat_map, option_to_list}
+use Rattle.std.proofs.Common.{◌≡◌, ◌≤◌, ◌+◌, ◌-◌, ◌⊎◌, inl, inr, ℕ, List, [], ◌∷◌, Option, Some, None, map, arith}
+use Rattle.std.specs.Prelude.{IfSome, option_to_list}
 use Rattle.table_format.specs.declared.table.Stay.{Stay}
 use Rattle.table_format.specs.declared.table.TaskLine.{TaskLine}
 use Rattle.table_format.specs.declared.table.TaskTable.{TaskTable}

@@ -1,5 +1,5 @@
 -- The size of statements that spend ticks.
-use Rattle.std.proofs.Common.{◌≡◌, ◌≤◌, ◌+◌, ◌*◌, ℕ, List, [], ◌∷◌, refl, arith}
+use Rattle.std.proofs.Common.{◌≡◌, ◌≤◌, ◌*◌, ℕ, List, refl, arith}
 use Rattle.syntax_tree.specs.Plain.{Name, Program}
 use Rattle.syntax_tree.specs.Placed.{Stmt, plain_stmts}
 use Rattle.code_spec.specs.Layout.{Owner, loops}

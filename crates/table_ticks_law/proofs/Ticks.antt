@@ -1,5 +1,5 @@
 -- The ticks of statements that spend them.
-use Rattle.std.proofs.Common.{◌≡◌, ◌≤◌, ◌<◌, ◌+◌, ◌-◌, ◌*◌, ℕ, zero, suc, pos, negsuc, List, [], ◌∷◌, refl, ap, ◌∙◌, arith}
+use Rattle.std.proofs.Common.{◌≡◌, ◌≤◌, ◌-◌, ℕ, zero, suc, pos, negsuc, List, refl, ap, ◌∙◌, arith}
 use Rattle.std.specs.Prelude.{◌-ℤ◌, cond}
 use Rattle.std.proofs.lemmas.Bool.{le-ltb}
 use Rattle.base.specs.declared.capped.Cost.{Cost}

@@ -9,7 +9,7 @@ mod ExprWritten
 mod DeclWritten
 mod Appends
 mod Listed
-mod WellformedScopesCounts
+pub mod WellformedScopesCounts
 mod Things
 pub mod Members
 pub mod Lookups
