@@ -56,7 +56,6 @@ fi
 "$rte" run K S > L
 "$rte" dis K A
 echo 'program e device a : out process p : periodic frame 30 begin put a 1 end p process q : periodic frame 52 begin put a 2 end q end e' > Q
-printf 'table set\nprocess t1 frame 1000 deadline 900 cost 400 stay m 100\nprocess t2 event alarm frame 2000 cost 7\nend\n' > F
 wrong=0
 
 # call N WORD..: the status of the call whose allocation N fails, over files I and J of old
@@ -112,11 +111,9 @@ try_all slack P
 try_all why P
 try_all fit P
 try_all watch K S 40
-try_all chart K S 0 100
 try_all dis K I
 try_all asm A I
 try_all replay P S L
 try_all edf Q S
-try_all table F I
 try_all make 7 2 I J
 exit "$wrong"
