@@ -1,6 +1,6 @@
 -- What is due of a task table is one.
 use Rattle.std.proofs.Common.{◌≡◌, ℕ, List}
-use Rattle.table_once_law.specs.Once.{TablesAreOne, TablesHaveNoFault, FaultsAreOne}
+use Rattle.table_law.specs.Once.{TablesAreOne, TablesHaveNoFault, FaultsAreOne}
 use Rattle.command_due.specs.CommandsDue.{Outcome}
 use Rattle.command_due.specs.TableDue.{IsTableDue, table_faulty, tabled}
 

@@ -16,7 +16,7 @@ use asm_law::text_and_image::{
 use built_image_law::one_image::{built_images_are_one, tables_are_one, timely_or_late};
 use front_end::{one_fault, one_program, program_or_fault};
 use script::{one_answer, one_script};
-use table_once_law::table_law::{faults_are_one, tables_are_one, tables_have_no_fault};
+use table_law::once_law::{faults_are_one, tables_are_one, tables_have_no_fault};
 use valid_image_law::validity_law::valid_is_without_fault;
 
 /// A text is that of one program that keeps to all rules and is not too large.

@@ -4,3 +4,9 @@ pub mod Costs
 pub mod Instructions
 pub mod Stacks
 mod Frames
+mod Words
+mod Numbers
+mod Lines
+mod Begun
+mod Once
+mod Single

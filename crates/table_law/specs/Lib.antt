@@ -1,3 +1,4 @@
 pub mod Costs
 pub mod Sizes
 pub mod Frames
+pub mod Once

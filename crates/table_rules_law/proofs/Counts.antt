@@ -17,8 +17,8 @@ use Rattle.table_format.specs.Rules as of_table
 use Rattle.table_format.specs.Rules.{stays, IsBegun}
 use Rattle.table_format.specs.Spending.{Nowhere, of_x}
 use Rattle.table_format.specs.Program.{stay_entry, stays_in, table_monitor, table_process, event_of, program_with}
-use Rattle.table_ticks_law.proofs.Lists.{Every}
-use Rattle.table_ticks_law.proofs.Few.{sum_of, few_entries, map_length}
+use Rattle.table_text_law.proofs.Lists.{Every}
+use Rattle.table_text_law.proofs.Few.{sum_of, few_entries, map_length}
 use Rattle.table_rules_law.proofs.Shapes.{OneInt, IsDeclOf, an_event, a_monitor, a_process}
 use Rattle.table_rules_law.proofs.Statements.{NoneOf, none_among}
 

@@ -16,8 +16,8 @@ use Rattle.table_format.specs.declared.table.TaskLine.{TaskLine}
 use Rattle.table_format.specs.declared.table.TaskTable.{TaskTable}
 use Rattle.table_format.specs.Spending.{of_number, of_x}
 use Rattle.table_format.specs.Program.{activation_of}
-use Rattle.table_ticks_law.proofs.Lists.{Every}
-use Rattle.table_ticks_law.proofs.Fits.{OptionFits, LineFits}
+use Rattle.table_text_law.proofs.Lists.{Every}
+use Rattle.table_text_law.proofs.Fits.{OptionFits, LineFits}
 use Rattle.table_rules_law.proofs.Shapes.{OneInt, IsSomeEntry, IsProcessOf, IsDeclOf, an_event, a_monitor, a_process}
 use Rattle.table_rules_law.proofs.Statements.{NoneOf, none_among, is_worth}
 

@@ -9,7 +9,7 @@ use Rattle.static_names.specs.Occurrences.{names, declared_at}
 use Rattle.static_calls.specs.Calls.{Declared, stmts_calls, answer_calls, routine_calls}
 use Rattle.static_calls.specs.Reaching.{Calls, Reaches, by_call, by_calls, ReachFails}
 use Rattle.table_format.specs.declared.table.TaskTable.{TaskTable}
-use Rattle.table_ticks_law.proofs.Lists.{Every, both}
+use Rattle.table_text_law.proofs.Lists.{Every, both}
 use Rattle.table_rules_law.proofs.Shapes.{IsBody, ended, clears, keeps, lowers, turns, turns_twice, enters, Nothing, IsSomeEntry, IsDeclOf, an_event, a_monitor, a_process}
 
 pub one_of_all : {A : Type 0} (P : A → Type 0) (xs : List A) (x : A) → Every P xs → Contains xs x → P x

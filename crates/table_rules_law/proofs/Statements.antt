@@ -24,7 +24,7 @@ use Rattle.static_types.specs.Numbers.{crossed_loop, endless_loop, long_loop, ba
 use Rattle.static_types.specs.Rules.{statement_rules, StatementFails}
 use Rattle.table_format.specs.declared.table.TaskTable.{TaskTable}
 use Rattle.table_format.specs.Spending.{of_number, of_x}
-use Rattle.table_ticks_law.proofs.Lists.{Every}
+use Rattle.table_text_law.proofs.Lists.{Every}
 use Rattle.table_rules_law.proofs.Shapes.{IsBody, ended, clears, keeps, lowers, turns, turns_twice, enters, Nothing, Stayed, IsEntryOf, IsSomeEntry, IsMonitorOf, IsProcessOf, IsDeclOf, an_event, a_monitor, a_process}
 use Rattle.table_rules_law.proofs.Things.{IsTameOption, named_tame, no_array, a_number, no_function, no_asked}
 

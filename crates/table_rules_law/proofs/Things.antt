@@ -15,7 +15,7 @@ use Rattle.static_types.specs.Sorts.{Named, word_sort, is_array, asked, call_agr
 use Rattle.static_types.specs.Conduct.{is_function, is_function_kind}
 use Rattle.table_format.specs.declared.table.TaskTable.{TaskTable}
 use Rattle.table_format.specs.Spending.{of_x}
-use Rattle.table_ticks_law.proofs.Lists.{Every}
+use Rattle.table_text_law.proofs.Lists.{Every}
 use Rattle.table_rules_law.proofs.Shapes.{OneInt, IsEntryOf, IsSomeEntry, IsMonitorOf, IsProcessOf, IsDeclOf, an_event, a_monitor, a_process}
 
 abbrev pub IsTame : Thing → Type 0

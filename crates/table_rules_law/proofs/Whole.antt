@@ -11,8 +11,8 @@ use Rattle.static_numbers.specs.Rules.{event_rules, LimitFails}
 use Rattle.table_format.specs.declared.table.TaskTable.{TaskTable}
 use Rattle.table_format.specs.Rules.{IsBegun}
 use Rattle.table_format.specs.Program.{made_tail, program_of}
-use Rattle.table_ticks_law.proofs.Lists.{Every}
-use Rattle.table_ticks_law.proofs.Fits.{table_fits}
+use Rattle.table_text_law.proofs.Lists.{Every}
+use Rattle.table_text_law.proofs.Fits.{table_fits}
 use Rattle.table_rules_law.proofs.Shapes.{IsDeclOf, decls_are}
 use Rattle.table_rules_law.proofs.Statements.{no_statement_fails}
 use Rattle.table_rules_law.proofs.Reach.{no_reach_fails}

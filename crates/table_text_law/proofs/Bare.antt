@@ -10,9 +10,9 @@ use Rattle.table_format.specs.declared.table.TaskTable.{TaskTable}
 use Rattle.table_format.specs.Rules.{monitors, least_cost}
 use Rattle.table_format.specs.Spending.{Nowhere, of_number, three, four, five, short_turns, long_turns, in_turn, spend}
 use Rattle.table_format.specs.Program.{stay_entry, stays_in, table_monitor, activation_of, stay_call, table_process, event_of, program_with}
-use Rattle.table_ticks_law.proofs.Spends.{Spends, nothing, by_three, by_four, by_five, by_short, by_long, spent}
-use Rattle.table_ticks_law.proofs.Lists.{Every}
-use Rattle.table_ticks_law.proofs.Fits.{TicksFit, LineFits, TableFits, stays_in_fit}
+use Rattle.table_text_law.proofs.Spends.{Spends, nothing, by_three, by_four, by_five, by_short, by_long, spent}
+use Rattle.table_text_law.proofs.Lists.{Every}
+use Rattle.table_text_law.proofs.Fits.{TicksFit, LineFits, TableFits, stays_in_fit}
 
 abbrev IsBare : List (Stmt Nowhere) → Type 0
 IsBare ss = bare_stmts (in_turn ss) ≡ in_turn ss

@@ -16,9 +16,9 @@ use Rattle.table_format.specs.declared.table.TaskTable.{TaskTable}
 use Rattle.table_format.specs.Rules.{IsName, monitors, least_cost}
 use Rattle.table_format.specs.Spending.{Nowhere, of_number, of_x, in_turn, spend}
 use Rattle.table_format.specs.Program.{stay_name, stay_entry, stays_in, table_monitor, activation_of, stay_call, table_process, event_of, program_with}
-use Rattle.table_ticks_law.proofs.Spends.{Spends, nothing, by_three, by_four, by_five, by_short, by_long, spent}
-use Rattle.table_ticks_law.proofs.Lists.{Every}
-use Rattle.table_ticks_law.proofs.Fits.{TicksFit, StayFits, OptionFits, EventFits, LineFits, TableFits, monitors_fit, stays_in_fit}
+use Rattle.table_text_law.proofs.Spends.{Spends, nothing, by_three, by_four, by_five, by_short, by_long, spent}
+use Rattle.table_text_law.proofs.Lists.{Every}
+use Rattle.table_text_law.proofs.Fits.{TicksFit, StayFits, OptionFits, EventFits, LineFits, TableFits, monitors_fit, stays_in_fit}
 
 pub number_spelled : (n : ℕ) → n ≤ 2147483647 → IsSpelled (number n)
 number_spelled n low = let it = decimal_reads n (omega arith) in (it.are, it.value, low)

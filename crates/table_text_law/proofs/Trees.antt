@@ -20,9 +20,9 @@ use Rattle.table_format.specs.declared.table.TaskTable.{TaskTable}
 use Rattle.table_format.specs.Rules.{IsBegun}
 use Rattle.table_format.specs.Program.{made_tail, program_with, program_of, table_text}
 use Rattle.table_text_law.specs.Tree.{TableTree}
-use Rattle.table_ticks_law.proofs.Fits.{TableFits, table_fits}
-use Rattle.table_ticks_law.proofs.Few.{sum_of, few_entries}
-use Rattle.table_tail_law.proofs.Tails.{has_tail}
+use Rattle.table_text_law.proofs.Fits.{TableFits, table_fits}
+use Rattle.table_text_law.proofs.Few.{sum_of, few_entries}
+use Rattle.table_text_law.proofs.Tails.{has_tail}
 use Rattle.table_text_law.proofs.Made.{made_spelled, made_short}
 use Rattle.table_text_law.proofs.Weights.{weight, text_length}
 use Rattle.table_text_law.proofs.Lines.{have_words}

@@ -3,7 +3,7 @@ use Rattle.std.proofs.Common.{◌≡◌, ◌≤◌, ◌+◌, ℕ, List, [], ◌�
 use Rattle.syntax.specs.Words.{Word}
 use Rattle.syntax_printer.specs.Canonical.{Line, spelling, line_text, text_of}
 use Rattle.syntax_printer.proofs.Spelled.{flat}
-use Rattle.table_ticks_law.proofs.Lists.{Every}
+use Rattle.table_text_law.proofs.Lists.{Every}
 
 abbrev pub weight : List Word → ℕ
 weight [] = 0

@@ -1,9 +1,15 @@
-//! Law: the text of a table's program has its tree, and is its canonical text.
+//! Laws: the text of a task table's program, from the ticks of its statements to its tree.
 //!
-//! `specs/Tree.antt` says so of each table: the text is short enough, it has tokens and a tree, and
-//! printing the tree gives the same bytes. Nothing here can run.
+//! `specs/Ticks.antt` says that the statements that spend so many ticks take just these, in a process
+//! and in an entry alike, and how many they are; `specs/Tails.antt` that the tail of the made names
+//! is free; `specs/Tree.antt` that the text has a tree, which is that of the definition, that it is
+//! canonical, and how long it is at most. Nothing here can run.
 #![tactic(auto)]
 
-mod table_text_law;
+mod spend_law;
+mod tail_law;
+mod tree_law;
 
-pub use table_text_law::table_tree;
+pub use spend_law::spend_takes;
+pub use tail_law::tail_is_free;
+pub use tree_law::table_tree;

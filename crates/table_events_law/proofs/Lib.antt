@@ -1,4 +1,0 @@
-mod Users
-mod Events
-mod Standing
-mod Kept

@@ -1,7 +1,0 @@
-mod Fine
-pub mod Apart
-mod Bodies
-pub mod Firsts
-pub mod Sites
-mod Whole
-pub mod Processes

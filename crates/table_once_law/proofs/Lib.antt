@@ -1,6 +1,0 @@
-mod Words
-mod Numbers
-mod Lines
-mod Begun
-mod Once
-mod Single

@@ -1,5 +1,0 @@
-use Rattle.table_once_law.proofs.Single.{one_fault}
-use Rattle.table_once_law.proofs.table_law.faults_are_one.Goals as goal
-
-pub returns : goal.returns
-returns c = one_fault

@@ -1,5 +1,0 @@
-use Rattle.table_once_law.proofs.Once.{one_table}
-use Rattle.table_once_law.proofs.table_law.tables_are_one.Goals as goal
-
-pub returns : goal.returns
-returns c = one_table

@@ -1,5 +1,0 @@
-use Rattle.table_once_law.proofs.Once.{no_fault}
-use Rattle.table_once_law.proofs.table_law.tables_have_no_fault.Goals as goal
-
-pub returns : goal.returns
-returns c = no_fault

@@ -1,3 +1,0 @@
-pub mod Tails
-pub mod Free
-mod Lengths
