@@ -1,15 +1,22 @@
 -- What is due of texts, by what was read of them.
 use Rattle.std.proofs.Common.{◌≡◌, ◌<◌, ◌∙◌, ℕ, List, Bool, true, false, Err, ap, length, refl, subst}
 use Rattle.std.specs.Prelude.{IfOk, Result}
+use Rattle.static_rule.specs.First.{IsFirst}
+use Rattle.front_end.specs.Source.{start, too_long}
+use Rattle.front_end.specs.Program.{of_text}
+use Rattle.code_size.specs.Rules.{SizeFails}
 use Rattle.syntax.specs.Tokens.{longest_text}
 use Rattle.syntax_tree.specs.declared.place.Place.{Place}
 use Rattle.syntax_tree.specs.Placed.{Prog, plain}
+use Rattle.compile.specs.Steps.{IsSizeFault}
 use Rattle.compile.specs.Written.{ReadsWritten}
+use Rattle.compile.specs.declared.built.BuildFault.{BuildFault}
+use Rattle.compile.specs.declared.built.BuildFault.TheVariants as size_fault
 use Rattle.compile.specs.declared.read_text.ProgramTextFault.{ProgramTextFault}
 use Rattle.compile.specs.declared.read_text.ProgramTextFault.TheVariants as text_fault
 use Rattle.command_due.specs.CommandsDue.{Outcome, told}
 use Rattle.command_due.specs.FitDue.{IsFitDue, fit_faulty, fitted}
-use Rattle.command_due.specs.Source.{IsTextFault, IsWritten, fault_line}
+use Rattle.command_due.specs.Source.{IsTextFault, IsWritten, fault_line, of_program}
 use Rattle.command_due.specs.WhyDue.{IsWhyDue, why_faulty, why_in_time, why_late}
 use Rattle.command_answers.specs.declared.act.PreparedCall.{PreparedCall}
 use Rattle.command_answers.specs.declared.status.Status.TheVariants as status
@@ -43,3 +50,14 @@ fit_told over text g fits written is = fitted g fits written is (outcome_of_puts
 
 pub fault_of : (why : ProgramTextFault) (number : ℕ) (place : Place) → why ≡ text_fault.Text number place → (text : List ℕ) → ReadsWritten text (Err why) → IsTextFault text number place
 fault_of why number place is text answer = subst (λ (w : ProgramTextFault). ReadsWritten text (Err w)) is answer
+
+-- the fault of a text that is too long
+pub long_fault : (text : List ℕ) → longest_text < length text → IsTextFault text 4 start
+long_fault text long = of_program (of_text (too_long refl refl long))
+
+-- ---- programs that are not too large
+
+pub no_size_fault : (g : Prog Place) (why : BuildFault) (number : ℕ) (place : Place) → why ≡ size_fault.TooLarge number place → IsSizeFault g why → ((n : ℕ) (p : Place) → ¬ SizeFails g n p) → ⊥
+no_size_fault g why number place is fails fits =
+    let first : IsFirst (SizeFails g) (record { number = number; place = place }) = subst (IsSizeFault g) is fails in
+    fits number place first.broken

@@ -5,5 +5,6 @@ pub mod Places
 pub mod Shape
 pub mod Analysed
 pub mod Apart
+pub mod Ready
 pub mod Fits
 pub mod Due

@@ -1,6 +1,6 @@
 //! The acts, by the text of the program.
 
-ghost use Rattle.std.specs.Prelude.{◌≤◌, ℕ, List, IfOk};
+ghost use Rattle.std.specs.Prelude.{◌≡◌, ◌≤◌, ℕ, List, IfOk};
 ghost use Rattle.syntax_tree.specs.Placed.{placed};
 ghost use Rattle.syntax.specs.Tokens.{longest_text};
 ghost use Rattle.command_due.specs.FitDue.{IsFitDue};
@@ -37,10 +37,12 @@ fn put_why<'a>(alloc: Global, program: &Checked, over: u16) -> Result<PreparedCa
     }
 }
 
-/// The act of `why` for a text.
+/// The act of `why` for a text, which has these bytes.
 fn why_of_text<'a>(alloc: Global, text: &[u8], over: u16) -> Result<PreparedCall<'a>, AllocError>
-    requires { over ≤ 1000 }
-    ensures due { IfOk result (λ act. IsWhyDue over text.now (outcome_of act)) }
+    ghost bytes: { List ℕ }
+    requires bytes { text.now ≡ bytes }
+    requires over { over ≤ 1000 }
+    ensures due { IfOk result (λ act. IsWhyDue over bytes (outcome_of act)) }
     ensures quiet { IfOk result IsQuiet }
 {
     match read_written(alloc, text) {
@@ -79,10 +81,12 @@ fn put_fit<'a>(alloc: Global, program: &Checked, over: u16) -> Result<PreparedCa
     Ok(put(Status::Done, fits))
 }
 
-/// The act of `fit` for a text.
+/// The act of `fit` for a text, which has these bytes.
 fn fit_of_text<'a>(alloc: Global, text: &[u8], over: u16) -> Result<PreparedCall<'a>, AllocError>
-    requires { over ≤ 1000 }
-    ensures due { IfOk result (λ act. IsFitDue over text.now (outcome_of act)) }
+    ghost bytes: { List ℕ }
+    requires bytes { text.now ≡ bytes }
+    requires over { over ≤ 1000 }
+    ensures due { IfOk result (λ act. IsFitDue over bytes (outcome_of act)) }
     ensures quiet { IfOk result IsQuiet }
 {
     match read_written(alloc, text) {

@@ -21,6 +21,7 @@ pub fn ranked_image(alloc: Global, program: &Checked, over: u16) -> Result<RawIm
     match ranked(alloc, program.prog(), over) {
         Ok(image) => Ok(image),
         Err(BuildFault::Memory) => Err(AllocError),
-        Err(_) => unreachable!(),
+        Err(BuildFault::TooLarge { .. }) => unreachable!(),
+        Err(BuildFault::Untimely(_)) => unreachable!(),
     }
 }

@@ -1,0 +1,4 @@
+use Rattle.analysis_command.proofs.why.why_text.Given as goal
+
+abbrev pub ghost-ranked_image : goal.ghost-ranked_image
+ghost-ranked_image g a = g.text
