@@ -1,5 +1,5 @@
 -- What is due of texts, by what was read of them.
-use Rattle.std.proofs.Common.{◌≡◌, ◌<◌, ◌∙◌, ℕ, List, Bool, true, false, Err, ap, length, refl, subst}
+use Rattle.std.proofs.Common.{◌≡◌, ◌<◌, ◌∙◌, ℕ, List, Bool, true, false, Err, Ok, ap, length, refl, subst, sym}
 use Rattle.std.specs.Prelude.{IfOk, Result}
 use Rattle.static_rule.specs.First.{IsFirst}
 use Rattle.front_end.specs.Source.{start, too_long}
@@ -50,6 +50,12 @@ fit_told over text g fits written is = fitted g fits written is (outcome_of_puts
 
 pub fault_of : (why : ProgramTextFault) (number : ℕ) (place : Place) → why ≡ text_fault.Text number place → (text : List ℕ) → ReadsWritten text (Err why) → IsTextFault text number place
 fault_of why number place is text answer = subst (λ (w : ProgramTextFault). ReadsWritten text (Err w)) is answer
+
+-- what is due of the bytes of a text that was read
+pub of_bytes : {E : Type 0} (P : List ℕ → PreparedCall → Type 0) (found bytes : List ℕ) (made : Result PreparedCall E) → bytes ≡ found → IfOk made (λ act. P bytes act)
+    → IfOk made (λ act. (text : List ℕ) → text ≡ found → P text act)
+of_bytes P found bytes (Ok act) same due = λ text is. subst (λ (t : List ℕ). P t act) (same ∙ sym is) due
+of_bytes P found bytes (Err why) same due = tt
 
 -- the fault of a text that is too long
 pub long_fault : (text : List ℕ) → longest_text < length text → IsTextFault text 4 start

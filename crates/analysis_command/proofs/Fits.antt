@@ -20,7 +20,7 @@ use Rattle.sched_why.specs.Fits.{IsFitText}
 use Rattle.sched_why.specs.WhyLaw.{OverheadsAreAdded, OverheadsThatFitAreOfTheText}
 use Rattle.built_tasks_law.specs.Tasks.{RanksAreOfTheText, TasksAreOfTheText}
 use Rattle.compile.specs.Steps.{IsRanked}
-use Rattle.analysis_command.specs.Fitted.{IsFitOfImage}
+use Rattle.analysis_command.specs.Fitted.{CanFit, IsFitOfImage}
 use Rattle.analysis_command.proofs.Shape as shape
 
 pub fit_is : TasksAreOfTheText → RanksAreOfTheText → TasksAreOne → OverheadsAreAdded → OverheadsThatFitAreOfTheText → (g : Prog Place) (over : ℕ) (raw : RawImage) → IsChecked g → IsRanked g 0 raw
@@ -47,3 +47,9 @@ fit_is tasks_law ranks one added fitting g over raw checked is text f = record {
       let level : slice_index (map (λ q. (process_of q).rank - 1) raw.processes) k ≡ rank (plain g) k - 1 = shape.level_is g 0 raw is ranks checked all k low in
       subst (λ (n : ℕ). IsFitOf (with_overhead (tasks_of (image_of raw)) over) n p.name row) level
       (subst (λ (n : List ℕ). IsFitOf (with_overhead (tasks_of (image_of raw)) over) (slice_index (map (λ q. (process_of q).rank - 1) raw.processes) k) n row) (shape.name_is g 0 raw is k p at) (f.are.each k row there))
+
+-- the image without an overhead has what is asked
+pub can_fit : TasksAreOfTheText → (g : Prog Place) (raw : RawImage) → IsChecked g → IsRanked g 0 raw → CanFit raw
+can_fit tasks_law g raw checked is =
+    let are : AreTasksOf (plain g) 0 (tasks_of (image_of raw)) = tasks_law g 0 (image_of raw) checked is.fits is.shaped in
+    record { limits = is.limits; ranks = is.shaped.ranks; named = shape.names_many g 0 raw is ∙ (sym are.one_each ∙ shape.as_long g 0 raw is) }

@@ -5,6 +5,7 @@ pub mod Places
 pub mod Shape
 pub mod Analysed
 pub mod Apart
+pub mod Told
 pub mod Ready
 pub mod Fits
 pub mod Due

@@ -11,6 +11,9 @@ use crate::image_of_program::ranked_image;
 use crate::levels::levels;
 use crate::order::order;
 use built_tasks_law::tasks_of_text::{ranks_are_of_the_text, tasks_are_of_the_text};
+use checked_law::generated_within_limits::generated_code_is_code;
+use checked_law::premises_of_laws::checked_programs_are_ready;
+use codegen_ranks::ranks_and_ceilings::ranks_are_of_the_meaning;
 use image::RawImage;
 use sched_sections::{Level, bounds_text};
 use static_semantics::Checked;
@@ -37,8 +40,11 @@ fn why_of_image(alloc: Global, program: &Program, image: &RawImage) -> Result<Wh
     requires image { IsRanked (placed program.now) image.now.overhead image.now }
     ensures { IfOk result (IsWhyOf (plain (placed program.now)) image.now.overhead) }
 {
+    checked_programs_are_ready();
+    generated_code_is_code();
     tasks_are_of_the_text();
     ranks_are_of_the_text();
+    ranks_are_of_the_meaning();
     let levels = levels(alloc, program, image)?;
     let order = order(alloc, image.processes.as_slice())?;
     let text = bounds_text(alloc, levels.as_slice(), order.as_slice())?;

@@ -10,8 +10,8 @@ use Rattle.command_answers.proofs.Judged.{of_made}
 use Rattle.analysis_command.proofs.Due.{fault_of, fit_fault}
 use Rattle.analysis_command.proofs.acts.fit_of_text.Goals as goal
 
-pub put_fit-requires-clause-written : goal.put_fit-requires-clause-written
-put_fit-requires-clause-written g c = subst (λ (t : List ℕ). IsWritten t (placed c.in-Ok.program)) c.requires.0 c.in-Ok.ensures
+pub put_fit-requires : goal.put_fit-requires
+put_fit-requires g c = (c.requires.1, subst (λ (t : List ℕ). IsWritten t (placed c.in-Ok.program)) c.requires.0 c.in-Ok.ensures)
 
 pub returns-in-Err-Text-clause-due : goal.returns-in-Err-Text-clause-due
 returns-in-Err-Text-clause-due g c =

@@ -10,8 +10,8 @@ use Rattle.command_answers.proofs.Judged.{of_made}
 use Rattle.analysis_command.proofs.Due.{fault_of, why_fault}
 use Rattle.analysis_command.proofs.acts.why_of_text.Goals as goal
 
-pub put_why-requires-clause-written : goal.put_why-requires-clause-written
-put_why-requires-clause-written g c = subst (λ (t : List ℕ). IsWritten t (placed c.in-Ok.program)) c.requires.0 c.in-Ok.ensures
+pub put_why-requires : goal.put_why-requires
+put_why-requires g c = (c.requires.1, subst (λ (t : List ℕ). IsWritten t (placed c.in-Ok.program)) c.requires.0 c.in-Ok.ensures)
 
 pub returns-in-Err-Text-clause-due : goal.returns-in-Err-Text-clause-due
 returns-in-Err-Text-clause-due g c =

@@ -7,8 +7,8 @@ use Rattle.compile.specs.declared.built.BuildFault.{BuildFault}
 use Rattle.analysis_command.proofs.Due.{no_size_fault}
 use Rattle.analysis_command.proofs.image_of_program.ranked_image.Goals as goal
 
-pub ranked-requires-clause-written : goal.ranked-requires-clause-written
-ranked-requires-clause-written g c = subst (λ (t : Tree). IsProgramOf g.text (placed t)) (sym c.prog.ensures.tree) c.requires.1.program
+pub ranked-requires : goal.ranked-requires
+ranked-requires g c = (c.requires.0, subst (λ (t : Tree). IsProgramOf g.text (placed t)) (sym c.prog.ensures.tree) c.requires.1.program)
 
 pub returns-in-Ok : goal.returns-in-Ok
 returns-in-Ok g c = subst (λ (t : Tree). IsRanked (placed t) c.args.over c.in-Ok.image) c.prog.ensures.tree c.in-Ok.ensures.image
