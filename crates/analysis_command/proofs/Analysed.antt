@@ -1,14 +1,13 @@
 -- What a level is read from.
-use Rattle.std.specs.Prelude.{◌≡◌, ◌≤◌, ◌<◌, ◌+◌, ◌-◌, ℕ, suc, List, [], ◌∷◌, Some, length, slice_get, slice_index}
+use Rattle.std.specs.Prelude.{◌≡◌, ◌<◌, ◌+◌, ◌-◌, ℕ, List, length, slice_get, slice_index}
 use Rattle.std.proofs.Common.{sym, ap, subst, ◌∙◌, arith}
-use Rattle.std.proofs.lemmas.List.{length-map}
 use Rattle.base.proofs.Lists.{some_at}
 use Rattle.syntax_tree.specs.declared.place.Place.{Place}
 use Rattle.syntax_tree.specs.Placed.{Prog, plain}
 use Rattle.source_semantics.specs.Names.{processes}
 use Rattle.source_semantics.specs.Ranks.{rank}
 use Rattle.image.specs.declared.raw.RawImage.{RawImage}
-use Rattle.image.specs.Raw.{image_of, process_of}
+use Rattle.image.specs.Raw.{image_of}
 use Rattle.valid_image.specs.Tasks.{process_at, task_of, tasks_of}
 use Rattle.sched_response.specs.declared.tasks.Task.{Task}
 use Rattle.sched_response.specs.Demand.{task_at}

@@ -1,5 +1,5 @@
 -- Levels that are read from the image are those of the program.
-use Rattle.std.specs.Prelude.{◌≡◌, ◌≤◌, ◌<◌, ◌+◌, ◌-◌, ◌↔◌, ℕ, zero, suc, Bool, true, false, List, [], ◌∷◌, Option, Some, None, All, IfNone, IfSome, IsSome, length, slice_get, unwrap_or}
+use Rattle.std.specs.Prelude.{◌≡◌, ◌≤◌, ◌<◌, ◌+◌, ◌-◌, ◌↔◌, ℕ, suc, Bool, true, false, List, [], ◌∷◌, Option, Some, None, All, IfNone, IfSome, IsSome, length, slice_get, unwrap_or}
 use Rattle.std.proofs.Common.{refl, sym, ap, subst, ◌∙◌, arith, get_or}
 use Rattle.std.proofs.lemmas.List.Elements.{All-cons, All-nil, All-get_or}
 use Rattle.std.proofs.lemmas.Bool.{false≢true}
@@ -14,18 +14,18 @@ use Rattle.image.specs.declared.raw.RawImage.{RawImage}
 use Rattle.image.specs.Raw.{image_of}
 use Rattle.valid_image.specs.Tasks.{process_at, tasks_of}
 use Rattle.sched_response.specs.declared.tasks.Task.{Task}
-use Rattle.sched_response.specs.Demand.{deadline_at, task_at, AreTasks, IsBound, IsTask, Solves}
+use Rattle.sched_response.specs.Demand.{task_at, AreTasks, IsBound, IsTask, Solves}
 use Rattle.sched_table.specs.Table.{IsBoundAt}
 use Rattle.sched_sections.specs.declared.levels.Level.{Level}
 use Rattle.sched_sections.specs.Levels.{level_at, shown_at, tasks_in}
 use Rattle.sched_sections.specs.Sections.{bounds_text}
 use Rattle.sched_sections.proofs.Tasks as sections
-use Rattle.sched_program.specs.Tasks.{AreTasksOf, IsInTime, IsNotInTime}
+use Rattle.sched_program.specs.Tasks.{AreTasksOf}
 use Rattle.sched_program_law.proofs.Levels.{rank_low, rank_high}
 use Rattle.sched_why.specs.Blockers.{IsBlockerOf}
-use Rattle.sched_why.specs.Levels.{order, AreLevelsOf, IsLevelOf, IsWhyText}
+use Rattle.sched_why.specs.Levels.{order, IsLevelOf, IsWhyText}
 use Rattle.compile.specs.Steps.{IsRanked}
-use Rattle.analysis_command.specs.Analysed.{AreLevels, IsLevel}
+use Rattle.analysis_command.specs.Analysed.{AreLevels}
 use Rattle.analysis_command.specs.Told.{IsJudged}
 use Rattle.analysis_command.proofs.Shape as shape
 

@@ -1,18 +1,18 @@
 -- What is reached first makes the block.
-use Rattle.std.specs.Prelude.{◌≡◌, ◌≤◌, ◌<◌, ◌+◌, ◌-◌, ◌&&◌, ◌||◌, ℕ, suc, Bool, true, false, List, [], ◌∷◌, Option, Some, None, IsSomeAnd, Contains, drop, length, map, nat_eq, nat_le, slice_get}
-use Rattle.std.proofs.Common.{inl, inr, refl, sym, ap, subst, ◌∙◌, arith}
+use Rattle.std.specs.Prelude.{◌≡◌, ◌≤◌, ◌<◌, ◌+◌, ◌-◌, ◌||◌, ℕ, suc, true, List, [], ◌∷◌, Option, Some, None, IsSomeAnd, Contains, drop, length, nat_eq, nat_le, slice_get}
+use Rattle.std.proofs.Common.{inl, inr, refl, sym, ap, ◌∙◌, arith}
 use Rattle.std.proofs.lemmas.Bool.{false≢true, and_parts, and_from, eqb-true, eq-eqb, leb-true, le-leb}
 use Rattle.std.proofs.lemmas.List.{get_or-drop, length-map}
 use Rattle.std.proofs.lemmas.Option.{none-some, same_Some, slice_get_within}
 use Rattle.base.proofs.Lists.{some_at}
 use Rattle.base.proofs.Members.{front_or_behind, none_in}
 use Rattle.base.specs.Capped.{cap}
-use Rattle.syntax_tree.specs.Plain.{Monitor, Process, Program, Routine}
+use Rattle.syntax_tree.specs.Plain.{Monitor, Process, Program}
 use Rattle.source_semantics.specs.Names.{monitors, processes}
 use Rattle.source_semantics.specs.Ranks.{rank, ceiling}
 use Rattle.machine_semantics.specs.Image as image
 use Rattle.code_spec.specs.Layout.{Owner, by_program, by_process, by_monitor}
-use Rattle.code_spec.specs.Numbering.{Text, same_text, is_among, texts_from, numbered, number_of, place_among}
+use Rattle.code_spec.specs.Numbering.{Text, same_text, is_among, numbered, number_of}
 use Rattle.code_cost_spec.specs.Levels.{stay_of_entry}
 use Rattle.code_names_law.specs.Kept.{NamesDiffer}
 use Rattle.code_names_law.specs.Numbered.{AreNumbered, texts}
@@ -31,7 +31,7 @@ use Rattle.code_goals.specs.declared.nearest.Reached.{Reached}
 use Rattle.code_goals.specs.Goals.{calls_at, earliest_of, IsFirst, IsFirstReached}
 use Rattle.analysis_command.specs.declared.graph.CallGraph.{CallGraph}
 use Rattle.analysis_command.specs.Graphs.{IsCallGraph, IsImageOfText}
-use Rattle.analysis_command.specs.Found.{IsFoundOf, IsBlockerAt, IsBlockerFound, FoundIsTheBlocker}
+use Rattle.analysis_command.specs.Found.{IsFoundOf, IsBlockerAt, FoundIsTheBlocker}
 use Rattle.analysis_command.proofs.Reached.{ceiling_low, owner_low, text_goal, goal_within, at_most, comes, home_there}
 use Rattle.analysis_command.proofs.Pieces.{many, piece_there, Whose, whose}
 

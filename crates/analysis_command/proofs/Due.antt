@@ -1,5 +1,5 @@
 -- What is due of texts, by what was read of them.
-use Rattle.std.proofs.Common.{◌≡◌, ◌<◌, ◌∙◌, ℕ, List, Bool, true, false, Err, Ok, ap, length, refl, subst, sym}
+use Rattle.std.proofs.Common.{◌≡◌, ◌<◌, ◌∙◌, ℕ, List, Err, Ok, length, refl, subst, sym}
 use Rattle.std.specs.Prelude.{IfOk, Result}
 use Rattle.static_rule.specs.First.{IsFirst}
 use Rattle.front_end.specs.Source.{start, too_long}
@@ -14,7 +14,6 @@ use Rattle.compile.specs.declared.built.BuildFault.{BuildFault}
 use Rattle.compile.specs.declared.built.BuildFault.TheVariants as size_fault
 use Rattle.compile.specs.declared.read_text.ProgramTextFault.{ProgramTextFault}
 use Rattle.compile.specs.declared.read_text.ProgramTextFault.TheVariants as text_fault
-use Rattle.command_due.specs.CommandsDue.{Outcome, told}
 use Rattle.command_due.specs.FitDue.{IsFitDue, fit_faulty, fitted}
 use Rattle.command_due.specs.Source.{IsTextFault, IsWritten, fault_line, of_program}
 use Rattle.command_due.specs.WhyDue.{IsWhyDue, why_faulty, why_in_time, why_late}

@@ -1,7 +1,7 @@
 -- The first place that the code of a process comes to is that of the first goal that its text comes
 -- to.
-use Rattle.std.specs.Prelude.{◌≡◌, ◌≤◌, ◌<◌, ◌+◌, ◌&&◌, ◌||◌, ℕ, zero, suc, Bool, true, false, cond, List, [], ◌∷◌, Option, Some, None, length, map, min, nat_eq, nat_le, slice_get, slice_index, slice_index_or, take, unwrap_or}
-use Rattle.std.proofs.Common.{refl, sym, ap, subst, ◌∙◌, arith}
+use Rattle.std.specs.Prelude.{◌≡◌, ◌≤◌, ◌<◌, ◌+◌, ◌&&◌, ◌||◌, ℕ, zero, suc, Bool, true, false, cond, List, [], ◌∷◌, Option, Some, None, length, map, min, nat_eq, nat_le, slice_get, slice_index, take, unwrap_or}
+use Rattle.std.proofs.Common.{refl, sym, ap, ◌∙◌, arith}
 use Rattle.std.proofs.lemmas.Bool.{leb-true, leb-false, le-leb, lt-leb}
 use Rattle.std.proofs.lemmas.List.{get_or-take}
 use Rattle.std.proofs.lemmas.Option.{get_or_from_slice_get, none-some, slice_get_within}
@@ -11,7 +11,7 @@ use Rattle.syntax_tree.specs.Plain.{Monitor, Process, Program}
 use Rattle.source_semantics.specs.Names.{monitors, processes, routine_count}
 use Rattle.source_semantics.specs.Ranks.{ceiling}
 use Rattle.machine_semantics.specs.Image as image
-use Rattle.valid_image.specs.Pieces.{called, piece_number}
+use Rattle.valid_image.specs.Pieces.{called}
 use Rattle.valid_image.specs.Tables.{some_of}
 use Rattle.loader_code.specs.Owned.{AreCalls}
 use Rattle.loader_code.proofs.Sweeping.{pieces_long}
@@ -33,7 +33,7 @@ use Rattle.codegen_ranks.specs.Touches.{comes_to_one, process_comes_to_one}
 use Rattle.codegen_ranks.proofs.Lists.{called_alike}
 use Rattle.codegen_ranks.proofs.Tests.{or_both, or_false}
 use Rattle.code_goals.specs.Goals.{earlier, place_at, earliest_of, calls_at, AreFirstPlaces}
-use Rattle.analysis_command.specs.Goals.{low_ceiling, goal_of, is_goal, goal_place, AreGoals}
+use Rattle.analysis_command.specs.Goals.{low_ceiling, goal_of, is_goal, AreGoals}
 use Rattle.analysis_command.specs.Graphs.{IsImageOfText}
 
 -- ---- goals, as the text has them

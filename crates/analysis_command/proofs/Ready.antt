@@ -1,11 +1,10 @@
 -- What an image has to have for what fits to be found.
-use Rattle.std.specs.Prelude.{◌≡◌, ◌≤◌, ◌<◌, ◌-◌, ℕ, List, All, None, Some, length, map, slice_get}
-use Rattle.std.proofs.Common.{sym, ap, subst, ◌∙◌, arith}
+use Rattle.std.specs.Prelude.{◌≡◌, ◌<◌, ◌-◌, ℕ, List, All, None, Some, length, slice_get}
+use Rattle.std.proofs.Common.{sym, ◌∙◌, arith}
 use Rattle.std.proofs.lemmas.List.{length-map}
 use Rattle.std.proofs.lemmas.Option.{slice_get_within}
 use Rattle.base.proofs.Lists.{all_of, map_get, one_some, some_at}
 use Rattle.image.specs.declared.raw.RawImage.{RawImage}
-use Rattle.image.specs.declared.raw.RawProcess.{RawProcess}
 use Rattle.image.specs.Raw.{image_of, process_of}
 use Rattle.valid_image.specs.Tasks.{tasks_of}
 use Rattle.valid_image.specs.Times.{rank_fault}

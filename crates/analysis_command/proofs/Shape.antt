@@ -1,6 +1,6 @@
 -- The image of a program, all but its bounds: its processes, their names and their ranks.
 use Rattle.std.specs.Prelude.{◌≡◌, ◌≤◌, ◌<◌, ◌+◌, ◌-◌, ℕ, suc, List, [], ◌∷◌, All, None, Some, length, map, slice_get, slice_index, slice_index_or}
-use Rattle.std.proofs.Common.{refl, sym, ap, subst, ◌∙◌, arith}
+use Rattle.std.proofs.Common.{refl, sym, ap, ◌∙◌, arith}
 use Rattle.std.proofs.lemmas.List.{length-map}
 use Rattle.std.proofs.lemmas.Option.{get_or_from_slice_get, slice_get_within}
 use Rattle.base.proofs.Lists.{all_of, map_get, some_at}
@@ -9,19 +9,17 @@ use Rattle.syntax_tree.specs.Placed.{Prog, plain}
 use Rattle.syntax_tree.specs.Plain as tree
 use Rattle.source_semantics.specs.Names.{processes}
 use Rattle.source_semantics.specs.Ranks.{numbers_from, rank}
-use Rattle.machine_semantics.specs.Image as image
 use Rattle.image.specs.declared.names.ImageNames.{ImageNames}
 use Rattle.image.specs.declared.raw.RawImage.{RawImage}
-use Rattle.image.specs.declared.raw.RawProcess.{RawProcess}
 use Rattle.image.specs.Raw.{image_of, process_of}
-use Rattle.valid_image.specs.Tasks.{process_at, tasks_of}
+use Rattle.valid_image.specs.Tasks.{tasks_of}
 use Rattle.valid_image.specs.Times.{rank_fault}
 use Rattle.code_measures.proofs.Valid.{no_rank_fault}
 use Rattle.checked_law.specs.Ready.{CheckedProgramsAreReady}
 use Rattle.checked_law.specs.Small.{GeneratedCodeIsCode}
 use Rattle.static_semantics.specs.Static.{IsChecked}
 use Rattle.sched_response.specs.Demand.{AreTasks}
-use Rattle.sched_program_law.proofs.Levels.{rank_low, rank_high, had}
+use Rattle.sched_program_law.proofs.Levels.{rank_low, rank_high}
 use Rattle.sched_why.specs.Levels.{order}
 use Rattle.loader.proofs.InOrder.{are_tasks, tasks_long}
 use Rattle.built_tasks_law.specs.Tasks.{RanksAreOfTheText}

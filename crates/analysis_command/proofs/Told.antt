@@ -1,5 +1,5 @@
 -- The text that is told of an image is that of its program.
-use Rattle.std.specs.Prelude.{◌≡◌, ◌<◌, ◌-◌, ◌↔◌, ℕ, Bool, true, List, All, IsSome, IsTrue, length, map}
+use Rattle.std.specs.Prelude.{◌≡◌, ◌<◌, ◌-◌, ◌↔◌, ℕ, Bool, List, All, IsSome, IsTrue, length, map}
 use Rattle.std.proofs.Common.{sym, ap, subst, ◌∙◌, arith}
 use Rattle.syntax_tree.specs.declared.place.Place.{Place}
 use Rattle.syntax_tree.specs.Placed.{Prog, plain}
@@ -16,7 +16,6 @@ use Rattle.sched_sections.specs.declared.levels.Level.{Level}
 use Rattle.sched_sections.specs.Sections.{bounds_text}
 use Rattle.built_tasks_law.specs.Tasks.{RanksAreOfTheText, TasksAreOfTheText}
 use Rattle.compile.specs.Steps.{IsRanked}
-use Rattle.analysis_command.specs.declared.why.WhyText.{WhyText}
 use Rattle.analysis_command.specs.Analysed.{AreLevels}
 use Rattle.analysis_command.specs.Told.{IsWhyOf}
 use Rattle.analysis_command.proofs.Apart as apart

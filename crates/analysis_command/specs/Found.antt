@@ -1,5 +1,5 @@
 -- What is found in the code is what the text says.
-use Rattle.std.specs.Prelude.{◌≡◌, ◌≤◌, ◌<◌, ℕ, List, Option, Some, None, drop, length, slice_get}
+use Rattle.std.specs.Prelude.{◌≡◌, ◌≤◌, ℕ, List, Option, Some, None, drop, length, slice_get}
 use Rattle.syntax_tree.specs.Plain.{Monitor, Program}
 use Rattle.source_semantics.specs.Names.{monitors}
 use Rattle.source_semantics.specs.Ranks.{rank}

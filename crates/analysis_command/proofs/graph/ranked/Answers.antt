@@ -1,4 +1,4 @@
-use Rattle.std.proofs.Common.{◌≡◌, ◌<◌, ◌∙◌, List, length, ap, arith, sym}
+use Rattle.std.proofs.Common.{◌≡◌, ◌∙◌, List, length, ap, arith, sym}
 use Rattle.std.proofs.lemmas.List.{length-map}
 use Rattle.base.proofs.Lists.{one_longer, one_more}
 use Rattle.image.specs.declared.raw.RawProcess.{RawProcess}

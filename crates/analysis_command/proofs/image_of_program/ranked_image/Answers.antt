@@ -3,7 +3,6 @@ use Rattle.syntax_tree.specs.Placed.{placed}
 use Rattle.syntax_tree.specs.declared.decl.Program.{Program as Tree}
 use Rattle.front_end.specs.Program.{IsProgramOf}
 use Rattle.compile.specs.Steps.{IsRanked, IsSizeFault}
-use Rattle.compile.specs.declared.built.BuildFault.{BuildFault}
 use Rattle.analysis_command.proofs.Due.{no_size_fault}
 use Rattle.analysis_command.proofs.image_of_program.ranked_image.Goals as goal
 

@@ -1,10 +1,7 @@
-use Rattle.std.proofs.Common.{◌≡◌, ◌+◌, ◌∙◌, [], List, ap, arith, subst, sym}
+use Rattle.std.proofs.Common.{◌+◌, ◌∙◌, [], List, ap, arith, subst, sym}
 use Rattle.std.specs.Prelude.{slice_index_or}
 use Rattle.syntax_tree.specs.Placed.{placed, plain}
-use Rattle.image.specs.Raw.{image_of}
-use Rattle.valid_image.specs.Tasks.{process_at, tasks_of}
 use Rattle.sched_response.specs.declared.tasks.Task.{Task}
-use Rattle.sched_response.specs.Demand.{task_at}
 use Rattle.sched_program.specs.Tasks.{IsBlock}
 use Rattle.sched_table.specs.Table.{IsBoundAt}
 use Rattle.analysis_command.proofs.Analysed as analysed

@@ -1,5 +1,4 @@
 use Rattle.std.proofs.Common.{length, refl}
-use Rattle.std.specs.Borrow.{Bor}
 use Rattle.std.proofs.lemmas.Option.{slice_get_read}
 use Rattle.base.proofs.Lists.{map_get}
 use Rattle.code_names.specs.Parts.{monitor_of}

@@ -1,7 +1,6 @@
-use Rattle.std.proofs.Common.{◌≡◌, ◌≤◌, ◌<◌, ◌-◌, ◌∙◌, ℕ, List, All, ap, length, map, subst, sym}
-use Rattle.syntax_tree.specs.Placed.{Prog, placed, plain}
-use Rattle.syntax_tree.specs.declared.place.Place.{Place}
-use Rattle.image.specs.Raw.{image_of, process_of}
+use Rattle.std.proofs.Common.{◌≤◌, ◌-◌, ◌∙◌, List, All, ap, map, subst, sym}
+use Rattle.syntax_tree.specs.Placed.{placed}
+use Rattle.image.specs.Raw.{process_of}
 use Rattle.image.specs.declared.raw.RawProcess.{RawProcess}
 use Rattle.sched_response.specs.Demand.{AreTasks}
 use Rattle.sched_sections.specs.declared.levels.Level.{Level}
