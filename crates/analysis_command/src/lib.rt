@@ -1,10 +1,10 @@
 //! `why` and `fit`: the bounds of a program taken apart, and what fits.
 //!
-//! `sched_why` says which text takes the bounds of a program apart (`IsWhyText`), and which tells what
-//! fits (`IsFitText`), both by its text alone. `prepare_why` and `prepare_fit` read a text, judge it,
-//! and make the act that puts these: the levels of the program by its image, the entry and the process
-//! that make each block (`code_goals` finds the first goal that calls come to), and what fits by
-//! `sched_fits`.
+//! `sched_why` says which text takes the bounds of a program apart (`IsWhyText`), and which tells
+//! what fits (`IsFitText`), both by its text alone. `prepare_why` and `prepare_fit` read a text,
+//! judge it, and make the act that puts these: the levels of the program by its image, the entry
+//! and the process that make each block (`code_goals` finds the first goal that calls come to), and
+//! what fits by `sched_fits`.
 #![tactic(auto)]
 
 mod acts;
