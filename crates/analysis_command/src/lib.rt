@@ -20,8 +20,8 @@ mod order;
 mod search;
 mod why;
 
+pub use commands::{prepare_fit, prepare_why};
+pub use fit::fit_text;
 pub use graph::{CallGraph, call_graph};
 pub use search::blocker;
-pub use fit::fit_text;
 pub use why::{WhyText, why_text};
-pub use commands::{prepare_fit, prepare_why};
