@@ -70,7 +70,7 @@ one_released g e (q ∷ qs) (suc k) t at is one =
       | inr miss ↦
           let head : worth (tests e q) ≡ 0 = ap (λ (b : Bool). worth b) miss in
           let rest : count_by (tests e) qs ≡ 1 = omega (arith, more, head, one) in
-          ap (λ (b : Bool). cond b (frame_of g q.activation) (frame_released g e qs)) (same_test e q.activation ∙ miss) ∙ one_released g e qs k t at is rest
+          ap (λ (b : Bool). cond b (frame_of g q.activation) (frame_released g e qs)) miss ∙ one_released g e qs k t at is rest
     ]
 
 -- ---- the frames

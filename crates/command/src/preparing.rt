@@ -13,11 +13,9 @@ ghost use Rattle.command_answers.specs.Files.{sources_of};
 ghost use Rattle.command_answers.specs.Prepared.{Prepares};
 ghost use Rattle.command_answers.specs.Tried.{HasTried, status_of};
 
-use command_answers::{PrepareError, PreparedCall};
 use analysis_command::{prepare_fit, prepare_why};
-use command_images::{
-    prepare_asm, prepare_dis, prepare_migrate, prepare_run, prepare_watch,
-};
+use command_answers::{PrepareError, PreparedCall};
+use command_images::{prepare_asm, prepare_dis, prepare_migrate, prepare_run, prepare_watch};
 use command_programs::{
     Format, prepare_compile, prepare_go, prepare_print, prepare_report, prepare_slack,
 };

@@ -16,7 +16,7 @@ use asm_law::text_and_image::{
 use built_image_law::one_image::{built_images_are_one, tables_are_one, timely_or_late};
 use front_end::{one_fault, one_program, program_or_fault};
 use script::{one_answer, one_script};
-use table_law::once_law::{faults_are_one, tables_are_one, tables_have_no_fault};
+use table_law::once_law::{faults_are_one, tables_have_no_fault, texts_are_one_table};
 use valid_image_law::validity_law::valid_is_without_fault;
 
 /// A text is that of one program that keeps to all rules and is not too large.
@@ -210,7 +210,7 @@ pub fn watch_is_one()
 pub fn table_is_one()
     ensures { TableIsOne }
 {
-    tables_are_one();
+    texts_are_one_table();
     tables_have_no_fault();
     faults_are_one();
 }

@@ -3,7 +3,7 @@
 ghost use Rattle.table_law.specs.Once.{FaultsAreOne, TablesAreOne, TablesHaveNoFault};
 
 /// A text is that of one table.
-pub fn tables_are_one()
+pub fn texts_are_one_table()
     ensures { TablesAreOne }
 {}
 

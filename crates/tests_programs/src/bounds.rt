@@ -171,7 +171,10 @@ fn the_first_entry_and_the_nearest_process_block(rt: HostRuntime) -> Result<(), 
     let alloc = rt.alloc();
     let put = put_of(alloc, "why P", TIES.as_bytes(), None)?;
     let text = String::from_utf8(put).map_err(|_| Fail::new(format_args!("no text")))?;
-    let mut blocks = text.as_str().split('\n').filter(|line| line.starts_with("block"));
+    let mut blocks = text
+        .as_str()
+        .split('\n')
+        .filter(|line| line.starts_with("block"));
     for want in BLOCKS {
         assert!(rt; blocks.next() == Some(*want));
     }
