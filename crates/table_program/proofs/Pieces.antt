@@ -11,7 +11,7 @@ use Rattle.table_format.specs.declared.table.TaskLine.{TaskLine}
 use Rattle.table_format.specs.declared.table.TaskTable.{TaskTable}
 use Rattle.table_format.specs.Rules.{stays, monitors, least_cost}
 use Rattle.table_format.specs.Spending.{of_number, of_x, in_turn, spend}
-use Rattle.table_format.specs.Program.{activation_of, stay_entry, stay_call, table_monitor, table_process, event_of, program_with}
+use Rattle.table_format.specs.Program.{activation_of, stay_entry, stay_call, table_monitor, table_process, event_of, made_tail, program_with, program_of, table_text}
 use Rattle.table_program.specs.Parts.{statements_text, declarations_text, entries_text, ticks_in, monitors_of, monitor_with, option_text, activation_with, activation_text}
 use Rattle.table_program.proofs.Texts.{text_of-append, statements_none, statements_first, statements_both, statements_is, declarations_none, declarations_both}
 
@@ -261,3 +261,8 @@ program_put tail t all old t_1 t_2 t_3 t_4 t_5 is none e_1 e_2 e_3 e_4 e_5 =
     is_put old t_5 _ (canonical (program_with tail t)) (join old t_4 t_5 _ _ (join old t_3 t_4 _ _ (join old t_2 t_3 _ _ (join old t_1 t_2 _ _ e_1 e_2)
     (e_3 ∙ ap (λ (every : List Stay). t_2 ++ declarations_text (map (λ name. monitor (monitor_with tail every name)) (monitors_of every))) is)) e_4) e_5) (program_text tail t)
     ∙ ap (λ (s : List ℕ). s ++ canonical (program_with tail t)) none
+
+-- with the tail of the table it is the text of the table
+pub text_is : (t : TaskTable) (tail : Name) → tail ≡ made_tail t → canonical (program_with tail t) ≡ table_text t
+unfolding program_of table_text
+text_is t tail is = ap (λ (m : Name). canonical (program_with m t)) is

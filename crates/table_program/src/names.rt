@@ -204,7 +204,8 @@ fn free_tail(alloc: Global, names: &[&[u8]], stays: &[&Stay]) -> Result<Text, Al
 {
     let all = names.len() + 1;
     for number in 0..all {
-        if let Some(tail) = try_tail(alloc, names, stays, number)? {
+        let found = try_tail(alloc, names, stays, number)?;
+        if let Some(tail) = found {
             return Ok(tail);
         }
     }

@@ -1,14 +1,19 @@
-use Rattle.std.proofs.Common.{◌++◌, ◌≤◌, length, List, ℕ, refl, arith}
+use Rattle.std.proofs.Common.{◌++◌, ◌≤◌, length, get_or, List, [], ℕ, refl, arith}
+use Rattle.std.proofs.lemmas.List.{get_or_default}
 use Rattle.std.specs.Borrow.{Bor}
 use Rattle.std.specs.List.{concat}
 use Rattle.table_program.specs.Parts.{seen}
 use Rattle.table_program.proofs.Turns.{turned, ended}
 use Rattle.table_program.proofs.parts.add_parts.Goals as goal
 
+abbrev nothing : Bor (List ℕ)
+nothing = record { ref_ptr = (0, 0); now = [] }
+
 pub loop-part-preserved : goal.loop-part-preserved
 loop-part-preserved c =
-    turned (λ (parts : List (Bor (List ℕ))). concat (seen parts)) c.args.parts.now c.loop-part.part-index c.part-item.result (c.part-item.result.now) c.loop-part.text c.extend.new.self _ refl c.loop-part-test.true c.part-item.is
-    c.loop-part.invariant c.in_ok-extend.ensures.ok
+    let part = get_or c.args.parts.now c.loop-part.part-index nothing in
+    turned (λ (parts : List (Bor (List ℕ))). concat (seen parts)) c.args.parts.now c.loop-part.part-index part part.now c.loop-part.text c.extend.new.self _ refl c.loop-part-test.true
+    (get_or_default c.args.parts.now c.loop-part.part-index nothing part c.loop-part-test.true) c.loop-part.invariant c.in_ok-extend.ensures.ok
 
 pub returns : goal.returns
 returns c =
