@@ -46,17 +46,6 @@ free_here names stays number all below free =
     ap (λ k. tail_of (number + prefix_len p (range_with_len number k))) left ∙ ap (λ b. tail_of (number + cond b (1 + rest) 0)) free
     ∙ (let sums : number + 0 ≡ number = omega arith in ap tail_of sums)
 
--- whether a name is in the way of the tail of a number
-pub try_met : (names : List Name) (stays : List Stay) (number : ℕ) (tail bytes : Name) (met : Bool) → tail ≡ tail_of number → bytes ≡ tail → met ≡ are_met names stays bytes
-    → met ≡ true → None ≡ tried names stays number
-try_met names stays number tail bytes met is same so yes =
-    sym (ap (λ b. if b then None else Some (tail_of number)) (sym (so ∙ ap (λ (t : Name). are_met names stays t) (same ∙ is)) ∙ yes))
-
-pub try_free : (names : List Name) (stays : List Stay) (number : ℕ) (tail bytes : Name) (met : Bool) → tail ≡ tail_of number → bytes ≡ tail → met ≡ are_met names stays bytes
-    → met ≡ false → Some tail ≡ tried names stays number
-try_free names stays number tail bytes met is same so no =
-    ap (λ (t : Name). Some t) is ∙ sym (ap (λ b. if b then None else Some (tail_of number)) (sym (so ∙ ap (λ (t : Name). are_met names stays t) (same ∙ is)) ∙ no))
-
 -- what trying the tail of a number tells
 pub tried_none : (names : List Name) (stays : List Stay) (number : ℕ) (found : Option Name) → found ≡ tried names stays number → found ≡ None → are_met names stays (tail_of number) ≡ true
 tried_none names stays number found is none = at (are_met names stays (tail_of number)) refl (sym none ∙ is)
@@ -80,19 +69,15 @@ free_last names stays number all past within =
     let p : ℕ → Bool = λ n. are_met names stays (tail_of n) in
     ap (λ k. tail_of (number + prefix_len p (range_with_len number k))) left ∙ (let sums : number + 0 ≡ all = omega arith in ap tail_of sums)
 
--- one turn of the search, and its ends
-pub search_next : (names : List Name) (stays : List Stay) (number all : ℕ) (found : Option Name) (whole : Name) → number < all → found ≡ tried names stays number → found ≡ None
+-- one turn of the search
+pub search_next : (names : List Name) (stays : List Stay) (number all : ℕ) (found : Option Name) (whole : Name) → number < all → found ≡ tried names stays number → ((tail : Name) → found ≢ Some tail)
     → free_from names stays number (all - number) ≡ whole → free_from names stays (number + 1) (all - (number + 1)) ≡ whole
-search_next names stays number all found whole below is none so_far = sym (free_next names stays number all below (tried_none names stays number found is none)) ∙ so_far
-
-pub search_here : (names : List Name) (stays : List Stay) (number all : ℕ) (found : Option Name) (tail whole : Name) → number < all → found ≡ tried names stays number → found ≡ Some tail
-    → free_from names stays number (all - number) ≡ whole → tail ≡ whole
-search_here names stays number all found tail whole below is some so_far =
-    let told = tried_some names stays number found tail is some in
-    told.1 ∙ sym (free_here names stays number all below told.0) ∙ so_far
-
-pub search_last : (names : List Name) (stays : List Stay) (number all : ℕ) (whole : Name) → all ≤ number → number ≤ all → free_from names stays number (all - number) ≡ whole → tail_of all ≡ whole
-search_last names stays number all whole past within so_far = sym (free_last names stays number all past within) ∙ so_far
+search_next names stays number all found whole below is other so_far =
+    sym (free_next names stays number all below (at (are_met names stays (tail_of number)) refl)) ∙ so_far
+  where
+    at : (b : Bool) → are_met names stays (tail_of number) ≡ b → are_met names stays (tail_of number) ≡ true
+    at true e = e
+    at false e = absurd (other (tail_of number) (is ∙ ap (λ b. if b then None else Some (tail_of number)) e))
 
 -- ---- the tail of a table
 

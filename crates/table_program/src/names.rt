@@ -204,8 +204,7 @@ fn free_tail(alloc: Global, names: &[&[u8]], stays: &[&Stay]) -> Result<Text, Al
 {
     let all = names.len() + 1;
     for number in 0..all {
-        let found = try_tail(alloc, names, stays, number)?;
-        if let Some(tail) = found {
+        if let Some(tail) = try_tail(alloc, names, stays, number)? {
             return Ok(tail);
         }
     }
