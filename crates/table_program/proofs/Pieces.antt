@@ -73,9 +73,9 @@ entry_text tail ticks =
     let body = stmts_lines (in_turn (spend tail (ticks - 3))) in
     let last = end_line r.close ∷ [] in
     let head : codes "entry procedure stay" ++ (decimal ticks ++ (tail ++ codes " ( )\n")) ≡ line_text (w.ENTRY ∷ header r) =
-        ap (λ (t : List ℕ). codes "entry procedure stay" ++ t) (sym (append_assoc (decimal ticks) tail (codes " ( )\n"))) in
+    ap (λ (t : List ℕ). codes "entry procedure stay" ++ t) (sym (append_assoc (decimal ticks) tail (codes " ( )\n"))) in
     let end : codes "end stay" ++ (decimal ticks ++ (tail ++ codes "\n")) ≡ text_of last =
-        ap (λ (t : List ℕ). codes "end stay" ++ t) (sym (append_assoc (decimal ticks) tail (codes "\n"))) ∙ sym (append-nil (codes "end stay" ++ ((decimal ticks ++ tail) ++ codes "\n"))) in
+    ap (λ (t : List ℕ). codes "end stay" ++ t) (sym (append_assoc (decimal ticks) tail (codes "\n"))) ∙ sym (append-nil (codes "end stay" ++ ((decimal ticks ++ tail) ++ codes "\n"))) in
     four (codes "entry procedure stay" ++ (decimal ticks ++ (tail ++ codes " ( )\n"))) (codes "var x" ++ (tail ++ codes " : int\nbegin\n")) (statements_text (spend tail (ticks - 3)))
     (codes "end stay" ++ (decimal ticks ++ (tail ++ codes "\n")))
     ∙ (λ i. head i ++ (opening tail i ++ (statements_is (spend tail (ticks - 3)) i ++ end i)))

@@ -112,7 +112,11 @@ fn add_entry(
     ensures { OnOk result (made.new ≡ made.old ++ (stay_name ticks ++ tail.now) ∷ []) }
 {
     let mut digits = Buffer::new();
-    add_name(alloc, made, &[b"stay", digits.format(ticks).as_bytes(), tail])
+    add_name(
+        alloc,
+        made,
+        &[b"stay", digits.format(ticks).as_bytes(), tail],
+    )
 }
 
 /// Puts the names of the entries for some stays, with this tail, at the end of a list.

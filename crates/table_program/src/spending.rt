@@ -46,7 +46,10 @@ fn add_loop(text: &mut Text, tail: &[u8], ticks: u64) -> Result<(), AllocError>
     let turns = (ticks - 8) / 10;
     let mut digits = Buffer::new();
     let count = digits.format(turns).as_bytes();
-    add_parts(text, &[b"for i", tail, b" : 1 .. ", count, b" do\nend for\n"])?;
+    add_parts(
+        text,
+        &[b"for i", tail, b" : 1 .. ", count, b" do\nend for\n"],
+    )?;
     add_assignments(text, tail, ticks - 5 - 10 * turns)
 }
 
@@ -61,6 +64,9 @@ pub fn add_spending(text: &mut Text, tail: &[u8], ticks: u64) -> Result<(), Allo
     let mut digits = Buffer::new();
     let count = digits.format(turns).as_bytes();
     add_parts(text, &[b"for i", tail, b" : 1 .. ", count, b" do\n"])?;
-    add_parts(text, &[b"for j", tail, b" : 1 .. 1000 do\nend for\nend for\n"])?;
+    add_parts(
+        text,
+        &[b"for j", tail, b" : 1 .. 1000 do\nend for\nend for\n"],
+    )?;
     add_loop(text, tail, ticks - 5 - 10_015 * turns)
 }
