@@ -56,7 +56,7 @@ fn is_run(alloc: Global, program: &str) -> Result<(), Fail> {
         b"0 p release\n9999 p end\n",
         NO_FAILURES,
     )?;
-    if result.status == 0 && result.put.as_slice() == b"run 2\n" {
+    if result.status == 0 && result.put.as_slice() == "run 2\n".as_bytes() {
         return Ok(());
     }
     Err(Fail::new(format_args!("status {}", result.status)))
