@@ -2,5 +2,3 @@ pub mod Steps
 pub mod Judging
 pub mod Fitting
 mod Passing
-mod Quiet
-mod Kept

@@ -7,4 +7,3 @@ pub mod Members
 pub mod Agreeing
 pub mod Nexting
 mod ClockFree
-pub mod Waits

@@ -12,8 +12,6 @@ mod limits;
 #[cfg(test)]
 mod loads;
 #[cfg(test)]
-mod nesting;
-#[cfg(test)]
 mod replays;
 #[cfg(test)]
 mod runs;
