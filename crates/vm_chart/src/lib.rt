@@ -12,5 +12,6 @@
 mod course;
 mod drawing;
 mod letters;
+mod traces;
 
 pub use drawing::chart;
