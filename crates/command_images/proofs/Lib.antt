@@ -6,3 +6,4 @@ pub mod Ready
 pub mod PrepareImagesTold
 pub mod Watched
 pub mod Charted
+pub mod Timely

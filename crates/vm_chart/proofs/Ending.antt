@@ -4,7 +4,7 @@ use Rattle.std.specs.Prelude.{min, slice_get}
 use Rattle.std.specs.Int.{div_ceil}
 use Rattle.std.specs.List.{range_with_len}
 use Rattle.std.proofs.lemmas.Grind.{div_ceil_times}
-use Rattle.std.proofs.lemmas.List.{map-map}
+use Rattle.std.proofs.lemmas.Simd.{map-map}
 use Rattle.std.proofs.lemmas.List.FromFn.{map-range_with_len_more}
 use Rattle.base.specs.declared.event.Event.{Event}
 use Rattle.run_chart.specs.declared.columns.Columns.{Columns}

@@ -19,11 +19,11 @@ use Rattle.vm_chart.specs.Follows.{events_before}
 
 pub ended_few : (k from released : ℕ) (es : List Event) → length (responses k from released es) ≤ length es
 ended_few k from released [] = omega arith
-ended_few k from released (e ∷ es) = by (releases k e) (ends k from e) refl refl where
-  by : (b d : Bool) → releases k e ≡ b → ends k from e ≡ d → length (responses k from released (e ∷ es)) ≤ suc (length es)
-  by true d is does = rw is (let rest = ended_few k from e.tick es in omega (arith, rest))
-  by false true is does = rw is (rw does (let rest = ended_few k from released es in omega (arith, rest)))
-  by false false is does = rw is (rw does (let rest = ended_few k from released es in omega (arith, rest)))
+ended_few k from released (e ∷ es) = by (releases k e) (ends k from e) refl refl (ended_few k from e.tick es) (ended_few k from released es) where
+  by : (b d : Bool) → releases k e ≡ b → ends k from e ≡ d → length (responses k from e.tick es) ≤ length es → length (responses k from released es) ≤ length es → length (responses k from released (e ∷ es)) ≤ suc (length es)
+  by true d is does anew rest = rw is (omega (arith, anew))
+  by false true is does anew rest = rw is (rw does (omega (arith, rest)))
+  by false false is does anew rest = rw is (rw does (omega (arith, rest)))
 
 -- ---- a tick has few events, and keeps the number of processes
 

@@ -31,7 +31,7 @@ pub fn chart(
     requires plan { IsOf (image_of image.now) plan.now }
     requires runnable { IsRunnable (image_of image.now) (script_of script.now) }
     requires timely { All IsTimely (events (image_of image.now) (script_of script.now)) }
-    requires end { end ≤ 1000000000 }
+    requires short { script.now.end ≤ 1000000000 }
     ensures { IfOk result (λ text. text ≡
         chart_text (named_of image.now) (script_of script.now) first end) }
 {

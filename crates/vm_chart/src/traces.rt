@@ -1,6 +1,6 @@
 //! What is kept of all processes while their run is drawn.
 
-ghost use Rattle.std.specs.Prelude.{◌≡◌, ◌≤◌, ◌<◌, ◌+◌, ◌-◌, ◌++◌, ◌^◌, All, IfOk, List, OnOk, length};
+ghost use Rattle.std.specs.Prelude.{◌≡◌, ◌≤◌, ◌<◌, ◌+◌, ◌-◌, ◌++◌, ◌^◌, [], ◌∷◌, All, IfOk, List, OnOk, length};
 ghost use Rattle.base.specs.declared.event.Event.{Event as Fell};
 ghost use Rattle.chart_lines.specs.Columns.{end_of};
 ghost use Rattle.chart_lines.specs.Traces.{Counts};
@@ -31,6 +31,22 @@ pub(crate) fn traces_of(alloc: Global, processes: usize) -> Result<Vec<Trace>, A
     Ok(traces)
 }
 
+/// Counts the end and measures the response of a process, if the event is one of its own.
+fn note_if(trace: &mut Trace, process: usize, first: u64, event: &Event)
+    ghost before: { List Fell }
+    requires counts { Counts process first before trace.old }
+    requires few { length before < 2 ^ 63 }
+    requires timely { IsTimely event.now }
+    ensures counts { Counts process first (before ++ event.now ∷ []) trace.new }
+    ensures row { trace.new.row ≡ trace.old.row }
+    ensures letter { trace.new.letter ≡ trace.old.letter }
+{
+    if event.proc as usize != process {
+        return;
+    }
+    trace.note(first, event);
+}
+
 /// Counts the ends and measures the responses of a process, of those of the events that are its.
 fn note_of(trace: &mut Trace, process: usize, first: u64, events: &[Event])
     ghost before: { List Fell }
@@ -42,9 +58,7 @@ fn note_of(trace: &mut Trace, process: usize, first: u64, events: &[Event])
     ensures letter { trace.new.letter ≡ trace.old.letter }
 {
     for event in events {
-        if event.proc as usize == process {
-            trace.note(first, event);
-        }
+        note_if(trace, process, first, event);
     }
 }
 
