@@ -1,7 +1,9 @@
-//! How many levels of statements and expressions a chain of calls can come to.
+//! How many levels of statements and expressions are worked on at one time.
 //!
-//! Calls are judged by calls of our own, one for each level, so a program that could come to more
-//! of them than the stack has room for is refused as one for which memory is wanting.
+//! Each level of the text that runs takes some of the stack, and a function that an expression calls
+//! comes on top of it. Procedures and entries do not: their callers wait in a list. So the levels of
+//! all functions add up, and of the other texts the one with the most counts. A program that could
+//! come to more levels than the stack has room for is refused as one for which memory is wanting.
 
 use syntax_tree::{Declaration, Expr, Handler, Op, Process, Program, Ref, Routine, Stmt};
 
@@ -93,13 +95,30 @@ fn of_routine(routine: &Routine) -> u64 {
     }
 }
 
-/// The levels of all routines together.
-fn of_routines(routines: &[Routine]) -> u64 {
+/// The levels of a routine that is a function.
+fn of_function(routine: &Routine) -> u64 {
+    match routine.result {
+        None => 0,
+        Some(_) => of_routine(routine),
+    }
+}
+
+/// The levels of the functions among routines, together.
+fn of_functions(routines: &[Routine]) -> u64 {
     let mut all: u64 = 0;
     for routine in routines {
-        all = all.saturating_add(of_routine(routine));
+        all = all.saturating_add(of_function(routine));
     }
     all
+}
+
+/// The most levels of any of the routines.
+fn of_routines(routines: &[Routine]) -> u64 {
+    let mut most = 0;
+    for routine in routines {
+        most = most.max(of_routine(routine));
+    }
+    most
 }
 
 /// The levels of a handler, if there is one.
@@ -110,13 +129,16 @@ fn of_handler(handler: &Option<Handler>) -> u64 {
     }
 }
 
-/// The levels of a process: those of its routines, its body and its handler.
+/// The most levels of a process: those of its functions, and of the text with the most.
 fn of_process(process: &Process) -> u64 {
-    of_routines(process.routines.as_slice())
-        .saturating_add(of_stmts(process.body.as_slice()))
-        .saturating_add(of_handler(&process.handler))
+    let routines = process.routines.as_slice();
+    of_routines(routines)
+        .max(of_stmts(process.body.as_slice()))
+        .max(of_handler(&process.handler))
+        .saturating_add(of_functions(routines))
 }
 
+/// The most levels of a declaration, the program's functions aside.
 fn of_decl(decl: &Declaration) -> u64 {
     match decl {
         Declaration::Const { .. } | Declaration::Device { .. } | Declaration::Event { .. } => 0,
@@ -126,12 +148,16 @@ fn of_decl(decl: &Declaration) -> u64 {
     }
 }
 
-/// The levels of statements and expressions of all texts of a program together: no chain of calls
-/// stands on more, since no routine reaches itself.
+/// The most levels of statements and expressions that are worked on at one time: those of all
+/// functions of the program, and of the declaration with the most. No routine reaches itself.
 pub fn levels(program: &Program) -> u64 {
-    let mut all: u64 = 0;
+    let mut functions: u64 = 0;
+    let mut most = 0;
     for decl in program.decls.as_slice() {
-        all = all.saturating_add(of_decl(decl));
+        most = most.max(of_decl(decl));
+        if let Declaration::Routine(routine) = decl {
+            functions = functions.saturating_add(of_function(routine));
+        }
     }
-    all
+    most.saturating_add(functions)
 }

@@ -1,6 +1,7 @@
 //! Replaying.
 
-ghost use Rattle.std.specs.Prelude.{◌<◌, ◌^◌, ℕ, List, IfOk, length};
+ghost use Rattle.std.specs.Prelude.{◌<◌, ◌≤◌, ◌^◌, ℕ, List, IfOk, length};
+ghost use Rattle.source_semantics.specs.Names.{routine_count};
 ghost use Rattle.replay_state.specs.Tables.{AreRanksOf};
 ghost use Rattle.command_due.specs.Script.{said};
 ghost use Rattle.command_due.specs.Source.{IsWritten};
@@ -35,6 +36,7 @@ fn judged<'a, 'b: 'a>(
 ) -> Result<Verdict, AllocError>
     requires ranks { AreRanksOf (plain (placed declarations.now)) ranks }
     requires frames { FramesPass (plain (placed declarations.now)) }
+    requires routines { routine_count (plain (placed declarations.now)) ≤ 512 }
     requires end { script.now.end < 2 ^ 61 }
     requires few { length events.now < 4294967295 }
     ensures { IfOk result (λ verdict. Judges (plain (placed declarations.now))

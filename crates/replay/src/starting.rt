@@ -1,6 +1,7 @@
 //! A program before its first event.
 
-ghost use Rattle.std.specs.Prelude.{◌≡◌, IfOk};
+ghost use Rattle.std.specs.Prelude.{◌≡◌, ◌≤◌, IfOk};
+ghost use Rattle.source_semantics.specs.Names.{routine_count};
 ghost use Rattle.syntax_tree.specs.Placed.{placed, plain};
 ghost use Rattle.source_semantics.specs.Config.{start as at_start};
 ghost use Rattle.replay_due_events.specs.NextDue.{FramesPass};
@@ -25,6 +26,7 @@ pub fn start<'a>(
 ) -> Result<Running<'a>, AllocError>
     requires ranks { AreRanksOf (plain (placed declarations.now)) ranks }
     requires frames { FramesPass (plain (placed declarations.now)) }
+    requires few { routine_count (plain (placed declarations.now)) ≤ 512 }
     ensures stands { IfOk result Stands }
     ensures program { IfOk result (λ r. program_of r.rules ≡ plain (placed declarations.now)) }
     ensures start { IfOk result (λ r. config_of r.config ≡
@@ -35,6 +37,7 @@ pub fn start<'a>(
     Ok(Running {
         rules,
         config,
-        next_clock: 0,
+        next_start: 0,
+        first: None,
     })
 }

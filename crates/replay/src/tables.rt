@@ -1,7 +1,8 @@
 //! What the events of a program are judged by.
 
-ghost use Rattle.std.specs.Prelude.{◌≡◌, IfOk};
+ghost use Rattle.std.specs.Prelude.{◌≡◌, ◌≤◌, IfOk};
 ghost use Rattle.syntax_tree.specs.Placed.{placed, plain};
+ghost use Rattle.source_semantics.specs.Names.{routine_count as routine_count_of};
 ghost use Rattle.replay_state.specs.Tables.{AreRanksOf};
 ghost use Rattle.replay_due_events.specs.NextDue.{FramesPass};
 ghost use Rattle.replay_state.specs.Texts.{IsText};
@@ -50,8 +51,7 @@ fn timetable_of(
     Ok(Timetable { timings, by_rank })
 }
 
-/// What the events of a program are judged by. Where its routines are more than a number can tell,
-/// there is not memory enough for them.
+/// What the events of a program are judged by. Want of memory is the only error.
 pub fn rules_of<'a>(
     alloc: Global,
     declarations: &'a Declarations<'a>,
@@ -59,12 +59,11 @@ pub fn rules_of<'a>(
 ) -> Result<Rules<'a>, AllocError>
     requires ranks { AreRanksOf (plain (placed declarations.now)) ranks }
     requires frames { FramesPass (plain (placed declarations.now)) }
+    requires few { routine_count_of (plain (placed declarations.now)) ≤ 512 }
     ensures rules { IfOk result AreRules }
     ensures program { IfOk result (λ r. program_of r ≡ plain (placed declarations.now)) }
 {
-    let Some(routines) = routine_count(declarations) else {
-        return Err(AllocError);
-    };
+    let routines = routine_count(declarations);
     let text = text_of(alloc, declarations)?;
     let table = timetable_of(alloc, &text, &ranks)?;
     Ok(Rules {

@@ -1,13 +1,13 @@
 //! Events, judged as acts.
 
-ghost use Rattle.std.specs.Prelude.{IfOk, IsTrue, OnErr, Some, option_map, ◌↔◌, ◌≡◌};
+ghost use Rattle.std.specs.Prelude.{IfOk, IsTrue, OnErr, Some, option_map, true, ◌↔◌, ◌≡◌};
 ghost use Rattle.source_semantics.specs.Config.{is_ready as is_at_work};
 ghost use Rattle.replay_state.specs.Tables.{Fits};
 ghost use Rattle.replay_state.specs.View.{config_of, doing_of, next_of};
 ghost use Rattle.replay_due_events.specs.Accepts.{Accepts};
 ghost use Rattle.replay_accept.specs.Cursors.{IsAt, script_in};
 ghost use Rattle.replay_accept.specs.Judged.{IsNextOf, IsOpen, IsReady, IsToAct};
-ghost use Rattle.replay_accept.specs.Running.{AreRules, program_of};
+ghost use Rattle.replay_accept.specs.Running.{AreRules, IsFirstOf, program_of};
 
 use crate::cursor::ScriptCursor;
 use crate::rules::Rules;
@@ -39,15 +39,26 @@ fn is_ready(config: &Config<'_>, process: usize) -> bool
     }
 }
 
-/// Whether the event's process is the one that is to act at its tick.
-fn is_to_act(rules: &Rules<'_>, config: &Config<'_>, event: &Event) -> bool
+/// Whether the process is the one that is kept.
+fn is_kept(first: Option<usize>, process: usize) -> bool
+    ensures { result ≡ true → first ≡ Some process }
+{
+    first == Some(process)
+}
+
+/// Whether the event's process is the one that is to act at its tick. Where the first of the ready
+/// processes is known, no other is looked at.
+fn is_to_act(rules: &Rules<'_>, config: &Config<'_>, first: Option<usize>, event: &Event) -> bool
     requires rules { AreRules rules.now }
     requires fits { Fits (program_of rules.now) (config_of config.now) }
+    requires first { IsFirstOf (program_of rules.now) (config_of config.now) first }
     ensures { IsTrue result ↔ IsToAct (program_of rules.now) (config_of config.now) event.now }
 {
     let process = usize::from(event.proc);
     if has_acted(config, event.tick) {
         false
+    } else if is_kept(first, process) {
+        true
     } else if is_ready(config, process) {
         rules.is_first(config, process)
     } else {
@@ -89,10 +100,12 @@ pub fn act_by<'a>(
     rules: &Rules<'a>,
     config: &mut Config<'a>,
     script: &ScriptCursor<'_>,
+    first: Option<usize>,
     event: &Event,
 ) -> Result<bool, AllocError>
     requires rules { AreRules rules.now }
     requires fits { Fits (program_of rules.now) (config_of config.old) }
+    requires first { IsFirstOf (program_of rules.now) (config_of config.old) first }
     requires script { IsAt config.old.tick script.now }
     requires opened { IsOpen (program_of rules.now) (script_in script.now)
         (config_of config.old) event.now }
@@ -101,7 +114,7 @@ pub fn act_by<'a>(
         (config_of config.new)) }
     ensures err { OnErr result (config_of config.new ≡ config_of config.old) }
 {
-    if is_to_act(rules, config, event) {
+    if is_to_act(rules, config, first, event) {
         let process = usize::from(event.proc);
         match next_of_process(rules, config, process)? {
             None => Ok(false),

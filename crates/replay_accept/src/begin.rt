@@ -1,9 +1,10 @@
 //! Events, judged by their ticks.
 
-ghost use Rattle.std.specs.Prelude.{IfOk, IsTrue, OnErr, ◌+◌, ◌<◌, ◌^◌, ◌↔◌, ◌≡◌};
+ghost use Rattle.std.specs.Prelude.{IfOk, IsTrue, OnErr, ◌<◌, ◌^◌, ◌↔◌, ◌≡◌};
 ghost use Rattle.replay_state.specs.Tables.{Fits};
 ghost use Rattle.replay_state.specs.View.{config_of};
-ghost use Rattle.replay_due_events.specs.Timings.{IsClockFree, event_of};
+ghost use Rattle.replay_due_events.specs.Next.{IsQuiet};
+ghost use Rattle.replay_due_events.specs.Timings.{event_of};
 ghost use Rattle.replay_accept.specs.Cursors.{IsAt, script_in};
 ghost use Rattle.replay_accept.specs.Judged.{Begins, ComesAs, IsInTime, IsOpen};
 ghost use Rattle.replay_accept.specs.Running.{AreRules, program_of};
@@ -34,14 +35,14 @@ fn is_in_time(
     rules: &Rules<'_>,
     config: &Config<'_>,
     script: &ScriptCursor<'_>,
-    next_clock: u64,
+    next_start: u64,
     event: &Event,
 ) -> bool
     requires rules { AreRules rules.now }
     requires fits { Fits (program_of rules.now) (config_of config.now) }
     requires tick { config.now.tick < 2 ^ 61 }
     requires script { IsAt config.now.tick script.now }
-    requires clock { IsClockFree rules.now.table.timings.items (config.now.tick + 1) next_clock }
+    requires quiet { IsQuiet rules.now.table.timings.items (config_of config.now) next_start }
     ensures { IsTrue result ↔ IsInTime (program_of rules.now)
         (script_in script.now) (config_of config.now) event.now }
 {
@@ -54,7 +55,7 @@ fn is_in_time(
     if event.tick == config.tick {
         return true;
     }
-    rules.is_none_missing(config, script, event.tick, next_clock)
+    rules.is_none_missing(config, script, event.tick, next_start)
 }
 
 /// Whether the event's tick is neither past nor at the script's end, and no start event due up to
@@ -63,14 +64,14 @@ fn is_open(
     rules: &Rules<'_>,
     config: &Config<'_>,
     script: &ScriptCursor<'_>,
-    next_clock: u64,
+    next_start: u64,
     event: &Event,
 ) -> bool
     requires rules { AreRules rules.now }
     requires fits { Fits (program_of rules.now) (config_of config.now) }
     requires tick { config.now.tick < 2 ^ 61 }
     requires script { IsAt config.now.tick script.now }
-    requires clock { IsClockFree rules.now.table.timings.items (config.now.tick + 1) next_clock }
+    requires quiet { IsQuiet rules.now.table.timings.items (config_of config.now) next_start }
     ensures { IsTrue result ↔ IsOpen (program_of rules.now)
         (script_in script.now) (config_of config.now) event.now }
 {
@@ -80,7 +81,7 @@ fn is_open(
     if event.tick < config.tick {
         return false;
     }
-    rules.is_none_missing(config, script, event.tick + 1, next_clock)
+    rules.is_none_missing(config, script, event.tick + 1, next_start)
 }
 
 /// Judges the event by its tick, and lets it come where it is the start event that comes next. Want
@@ -89,25 +90,25 @@ pub fn begin<'a>(
     rules: &Rules<'a>,
     config: &mut Config<'a>,
     script: &ScriptCursor<'_>,
-    next_clock: u64,
+    next_start: u64,
     event: &Event,
 ) -> Result<Begun, AllocError>
     requires rules { AreRules rules.now }
     requires fits { Fits (program_of rules.now) (config_of config.old) }
     requires tick { config.old.tick < 2 ^ 61 }
     requires script { IsAt config.old.tick script.now }
-    requires clock { IsClockFree rules.now.table.timings.items (config.old.tick + 1) next_clock }
+    requires quiet { IsQuiet rules.now.table.timings.items (config_of config.old) next_start }
     ensures begins { IfOk result (λ begun. Begins (program_of rules.now)
         (script_in script.now) (config_of config.old) event.now begun
         (config_of config.new)) }
     ensures err { OnErr result (config_of config.new ≡ config_of config.old) }
 {
     if !is_release(event.act) {
-        if is_open(rules, config, script, next_clock, event) {
+        if is_open(rules, config, script, next_start, event) {
             return Ok(Begun::Open);
         }
     }
-    if is_in_time(rules, config, script, next_clock, event) {
+    if is_in_time(rules, config, script, next_start, event) {
         begin_in_time(rules, config, script, event)
     } else {
         Ok(Begun::Refused)

@@ -1,11 +1,12 @@
 //! What events are judged by.
 
-ghost use Rattle.std.specs.Prelude.{IsTrue, length, option_map, List, ◌+◌, ◌<◌, ◌^◌, ◌↔◌, ◌≡◌};
+ghost use Rattle.std.specs.Prelude.{IsTrue, length, option_map, List, ◌<◌, ◌^◌, ◌↔◌, ◌≡◌};
 ghost use Rattle.syntax_tree.specs.Plain.{Program};
 ghost use Rattle.source_semantics.specs.Source.{before, is_empty, ready_from};
 ghost use Rattle.source_semantics.specs.Starts.{NoneMissing, due};
 ghost use Rattle.replay_state.specs.Tables.{AreRanksOf, Fits};
 ghost use Rattle.replay_state.specs.View.{config_of};
+ghost use Rattle.replay_due_events.specs.Next.{AreWaitsAfter, IsQuiet};
 ghost use Rattle.replay_due_events.specs.NextDue.{FramesPass, due_from};
 ghost use Rattle.replay_due_events.specs.Timings.{IsClockFree, IsTimetableOf, event_of, first_in};
 ghost use Rattle.replay_due_events.specs.declared.timetable.Timing.{Timing};
@@ -26,24 +27,26 @@ pub struct Rules<'a> {
     pub routines: usize,
 }
 
-/// The tick before which the clock releases nobody from the first tick on at which a start event can
-/// be missing, where it releases nobody after the tick reached and before a tick.
-fn free_until(config: &Config<'_>, next_clock: u64) -> u64
-    ensures { (timings : List Timing) → IsClockFree timings (config.now.tick + 1) next_clock →
+/// The tick before which neither the clock nor a wait starts a process from the first tick on at
+/// which a start event can be missing, where neither does after the tick reached and before a tick.
+fn free_until(config: &Config<'_>, next_start: u64) -> u64
+    ensures clock { (timings : List Timing) → IsQuiet timings (config_of config.now) next_start →
         IsClockFree timings (due_from (config_of config.now)) result }
+    ensures waits { (timings : List Timing) → IsQuiet timings (config_of config.now) next_start →
+        AreWaitsAfter result (config_of config.now).jobs }
 {
-    if config.acted { next_clock } else { 0 }
+    if config.acted { next_start } else { 0 }
 }
 
 impl<'a> Rules<'a> {
-    /// Whether no start event due before the tick is missing, where the clock is known to release
-    /// nobody after the tick reached and before a tick.
+    /// Whether no start event due before the tick is missing, where it is known that neither the
+    /// clock nor a wait starts a process after the tick reached and before a tick.
     pub(crate) fn is_none_missing(
         &self,
         config: &Config<'_>,
         script: &ScriptCursor<'_>,
         until: u64,
-        next_clock: u64,
+        next_start: u64,
     ) -> bool
         ghost program: { Program }
         requires table { IsTimetableOf program self.now.table }
@@ -51,8 +54,7 @@ impl<'a> Rules<'a> {
         requires fits { Fits program (config_of config.now) }
         requires tick { config.now.tick < 2 ^ 61 }
         requires script { IsAt config.now.tick script.now }
-        requires clock { IsClockFree self.now.table.timings.items (config.now.tick + 1)
-            next_clock }
+        requires quiet { IsQuiet self.now.table.timings.items (config_of config.now) next_start }
         ensures { NoneMissing program (script_in script.now) (config_of config.now) until ↔
             IsTrue result }
     {
@@ -61,7 +63,7 @@ impl<'a> Rules<'a> {
             config,
             script.up_to(until),
             until,
-            free_until(config, next_clock),
+            free_until(config, next_start),
         )
     }
 

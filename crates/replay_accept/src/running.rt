@@ -1,29 +1,32 @@
 //! A program that runs by its events.
 
-ghost use Rattle.std.specs.Prelude.{IfOk, OnErr, ◌+◌, ◌<◌, ◌^◌, ◌≡◌};
+ghost use Rattle.std.specs.Prelude.{IfOk, IfSome, Ok, OnErr, true, ◌<◌, ◌+◌, ◌^◌, ◌≡◌};
 ghost use Rattle.replay_state.specs.Tables.{Fits};
 ghost use Rattle.replay_state.specs.View.{config_of};
 ghost use Rattle.replay_due_events.specs.Accepts.{Accepts, IsComplete};
+ghost use Rattle.replay_due_events.specs.Next.{AreOthersAfter, IsQuiet};
 ghost use Rattle.replay_due_events.specs.Timings.{IsClockFree};
 ghost use Rattle.replay_accept.specs.Cursors.{IsAt, script_in};
-ghost use Rattle.replay_accept.specs.Running.{AreRules, Stands, program_of};
+ghost use Rattle.replay_accept.specs.Running.{AreRules, IsFirstOf, Stands, keeps_first as keeps_order, program_of};
 
 use crate::act_events::act_by;
 use crate::begin::{Begun, begin};
 use crate::cursor::ScriptCursor;
 use crate::rules::Rules;
-use base::Event;
-use replay_due_events::next_clock_tick;
+use base::{Act, Event};
+use replay_due_events::quiet_until;
 use replay_state::Config;
 use std::alloc::AllocError;
 
-/// A program's tables, its configuration, and the tick at which the clock releases next.
+/// A program's tables, its configuration, and what is known of the start events to come.
 #[derive(Drop)]
 pub struct Running<'a> {
     pub rules: Rules<'a>,
     pub config: Config<'a>,
-    /// The clock releases nobody after the tick reached and before this one.
-    pub next_clock: u64,
+    /// After the tick reached and before this one neither the clock nor a wait starts a process.
+    pub next_start: u64,
+    /// A process that is known to be ready, with no ready process taken before it.
+    pub first: Option<usize>,
 }
 
 /// Whether the event is allowed next; the configuration is then the one after it.
@@ -31,38 +34,62 @@ fn accept_by<'a>(
     rules: &Rules<'a>,
     config: &mut Config<'a>,
     script: &ScriptCursor<'_>,
-    next_clock: u64,
+    next_start: u64,
+    first: Option<usize>,
     event: &Event,
 ) -> Result<bool, AllocError>
     requires rules { AreRules rules.now }
     requires fits { Fits (program_of rules.now) (config_of config.old) }
     requires tick { config.old.tick < 2 ^ 61 }
     requires script { IsAt config.old.tick script.now }
-    requires clock { IsClockFree rules.now.table.timings.items (config.old.tick + 1) next_clock }
+    requires quiet { IsQuiet rules.now.table.timings.items (config_of config.old) next_start }
+    requires first { IsFirstOf (program_of rules.now) (config_of config.old) first }
     ensures accepts { IfOk result (λ accepted. Accepts (program_of rules.now)
         (script_in script.now) (config_of config.old) event.now accepted
         (config_of config.new)) }
     ensures err { OnErr result (config_of config.new ≡ config_of config.old) }
 {
-    match begin(rules, config, script, next_clock, event)? {
+    match begin(rules, config, script, next_start, event)? {
         Begun::Refused => Ok(false),
         Begun::Started => Ok(true),
-        Begun::Open => act_by(rules, config, script, event),
+        Begun::Open => act_by(rules, config, script, first, event),
     }
 }
 
-/// The tick at which the clock releases next after a tick, where it is known to release nobody
-/// before another.
-fn clock_from(rules: &Rules<'_>, tick: u64, next_clock: u64) -> u64
+/// A tick before which neither the clock nor a wait starts a process after the tick reached, where
+/// it is known that none but a wait of this process does before another.
+fn next_start_from(rules: &Rules<'_>, config: &Config<'_>, process: usize, known: u64) -> u64
     requires rules { AreRules rules.now }
-    requires tick { tick < 2 ^ 61 }
-    requires clock { IsClockFree rules.now.table.timings.items (tick + 1) next_clock }
-    ensures { IsClockFree rules.now.table.timings.items (tick + 1) result }
+    requires tick { config.now.tick < 2 ^ 61 }
+    requires clock { IsClockFree rules.now.table.timings.items (config.now.tick + 1) known }
+    requires others { AreOthersAfter process known (config_of config.now).jobs }
+    ensures { IsQuiet rules.now.table.timings.items (config_of config.now) result }
 {
-    if tick < next_clock {
-        return next_clock;
+    quiet_until(rules.table.timings.as_slice(), config, process, known)
+}
+
+/// Whether the act changes neither what processes are doing nor who is inside a monitor.
+fn keeps_first(act: Act) -> bool
+    ensures { result ≡ keeps_order act }
+{
+    matches!(act, Act::Get { .. } | Act::Put { .. } | Act::Empty { .. })
+}
+
+/// The process of an event that was accepted, if it stays the first.
+fn first_after(event: &Event, accepted: &Result<bool, AllocError>) -> Option<usize>
+    ensures { IfSome result (λ k. (accepted.now ≡ Ok true) × (keeps_order event.now.act ≡ true) ×
+        (k ≡ event.now.proc)) }
+{
+    match accepted {
+        Ok(true) => {
+            if keeps_first(event.act) {
+                Some(usize::from(event.proc))
+            } else {
+                None
+            }
+        }
+        _ => None,
     }
-    next_clock_tick(rules.table.timings.as_slice(), tick + 1)
 }
 
 impl<'a> Running<'a> {
@@ -86,10 +113,13 @@ impl<'a> Running<'a> {
         ensures script { IsAt self.new.config.tick script.new }
         ensures same { script.new.script ≡ script.old.script }
     {
-        let next_clock = self.next_clock;
-        let accepted = accept_by(&self.rules, &mut self.config, script, next_clock, event);
+        let known = self.next_start;
+        let first = self.first;
+        let accepted = accept_by(&self.rules, &mut self.config, script, known, first, event);
         script.pass(self.config.tick);
-        self.next_clock = clock_from(&self.rules, self.config.tick, next_clock);
+        let process = usize::from(event.proc);
+        self.next_start = next_start_from(&self.rules, &self.config, process, known);
+        self.first = first_after(event, &accepted);
         accepted
     }
 
@@ -101,6 +131,6 @@ impl<'a> Running<'a> {
             (config_of self.now.config) result }
     {
         self.rules
-            .is_none_missing(&self.config, script, script.end(), self.next_clock)
+            .is_none_missing(&self.config, script, script.end(), self.next_start)
     }
 }

@@ -1,13 +1,15 @@
 -- Ticks at which the clock releases nobody.
-use Rattle.std.specs.Prelude.{◌≡◌, ◌≤◌, ◌<◌, ◌+◌, ℕ, zero, suc, Bool, true, false, cond, ◌&&◌, List, [], ◌∷◌, Option, Some, None, nat_le, slice_get}
-use Rattle.std.proofs.Common.{refl, sym, ◌∙◌, ap, subst, arith, inl, inr, get_or}
+use Rattle.std.specs.Prelude.{◌≡◌, ◌≤◌, ◌<◌, ◌+◌, ℕ, zero, suc, Bool, true, false, cond, ◌&&◌, List, [], ◌∷◌, ◌++◌, Option, Some, None, length, nat_le, slice_get}
+use Rattle.std.proofs.Common.{refl, sym, ◌∙◌, ap, subst, arith, inl, inr, drop, get_or}
+use Rattle.std.proofs.lemmas.List.{at_drop_more}
 use Rattle.std.proofs.lemmas.Bool.{cases_lt}
 use Rattle.std.proofs.lemmas.Bool.Decides.{nat_tests}
 use Rattle.source_semantics.specs.Config.{Job}
-use Rattle.source_semantics.specs.Starts.{was_released_at}
+use Rattle.base.specs.declared.event.Event.{Event}
+use Rattle.source_semantics.specs.Starts.{release_missing, was_released_at}
 use Rattle.replay_due_events.specs.NextDue.{is_after, release_from, sooner}
 use Rattle.replay_due_events.specs.Next.{timing_due, timings_due}
-use Rattle.replay_due_events.specs.Timings.{FrameCounts, FramesCount, IsClockFree, is_clocked}
+use Rattle.replay_due_events.specs.Timings.{FrameCounts, FramesCount, IsClockFree, clocked, first_in, is_clocked}
 use Rattle.replay_due_events.specs.declared.timetable.Timing.{Timing}
 use Rattle.replay_due_events.specs.declared.timetable.Timing.TheVariants as timing_is
 use Rattle.replay_due_events.proofs.Nexting.{after_sooner}
@@ -67,3 +69,17 @@ free_of_more ts i from a b d free one least below_a below_b = λ u k x low high 
       let at_i : slice_get ts i ≡ Some x = subst (λ (n : ℕ). slice_get ts n ≡ Some x) is at in
       subst (λ (y : Timing). is_clocked u y ≡ false) (at_get ts i x d at_i) (one u low (omega (arith, high, below_b)))
 ]
+
+-- ---- the release of a process that is not missing is passed over
+
+pub none_if : {A : Type 0} (b : Bool) (xs : List A) → xs ≡ [] → cond b xs [] ≡ []
+none_if true xs none = none
+none_if false xs none = refl
+
+pub past_one : (js : List Job) (t p : ℕ) (ts : List Timing) → p < length ts → cond (is_clocked t (get_or ts p some_timing)) (release_missing t p (slice_get js p)) [] ≡ []
+    → first_in (clocked js t p (drop p ts)) ≡ first_in (clocked js t (p + 1) (drop (p + 1) ts))
+past_one js t p ts below none =
+    let one : suc p ≡ p + 1 = omega arith in
+    at_drop_more (λ l. first_in (clocked js t p l)) ts p some_timing below
+    ∙ (ap (λ (l : List Event). first_in (l ++ clocked js t (suc p) (drop (p + 1) ts))) none
+    ∙ ap (λ (n : ℕ). first_in (clocked js t n (drop (p + 1) ts))) one)

@@ -7,3 +7,4 @@ pub mod Members
 pub mod Agreeing
 pub mod Nexting
 mod ClockFree
+pub mod Waits

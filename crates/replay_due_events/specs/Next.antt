@@ -1,7 +1,8 @@
 -- When a start event is missing next, by the timings of a program.
-use Rattle.std.specs.Prelude.{ℕ, suc, List, [], ◌∷◌, Option, Some, None, slice_get}
-use Rattle.source_semantics.specs.Config.{Job}
-use Rattle.replay_due_events.specs.NextDue.{doing_due, release_from, release_still, sooner}
+use Rattle.std.specs.Prelude.{◌≡◌, ◌≢◌, ◌+◌, ℕ, suc, true, List, [], ◌∷◌, Option, Some, None, slice_get}
+use Rattle.source_semantics.specs.Config.{Config, Job}
+use Rattle.replay_due_events.specs.NextDue.{doing_due, is_after, release_from, release_still, sooner}
+use Rattle.replay_due_events.specs.Timings.{IsClockFree}
 use Rattle.replay_due_events.specs.declared.timetable.Timing.{Timing}
 use Rattle.replay_due_events.specs.declared.timetable.Timing.TheVariants as timing_is
 
@@ -20,3 +21,16 @@ timings_due js from k (x ∷ xs) = sooner (timing_due from x (slice_get js k)) (
 abbrev pub jobs_due : ℕ → List Job → Option ℕ
 jobs_due from [] = None
 jobs_due from (j ∷ js) = sooner (doing_due from j.doing) (jobs_due from js)
+
+-- no wait of these processes is over before the tick
+abbrev pub AreWaitsAfter : ℕ → List Job → Type 0
+AreWaitsAfter t js = (k : ℕ) (j : Job) → slice_get js k ≡ Some j → is_after t (doing_due 0 j.doing) ≡ true
+
+-- none but that of process i may be
+abbrev pub AreOthersAfter : ℕ → ℕ → List Job → Type 0
+AreOthersAfter i t js = (k : ℕ) (j : Job) → k ≢ i → slice_get js k ≡ Some j → is_after t (doing_due 0 j.doing) ≡ true
+
+-- after the tick reached and before another neither the clock nor a wait starts a process
+pub record IsQuiet (ts : List Timing) (c : Config) (until : ℕ) : Type 0 where
+  pub clock : IsClockFree ts (c.tick + 1) until
+  pub waits : AreWaitsAfter until c.jobs

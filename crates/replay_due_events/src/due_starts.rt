@@ -117,7 +117,7 @@ fn by_clock(timings: &[Timing], jobs: &[ProcessState<'_>], tick: u64) -> Option<
         first_in (clocked (jobs_of jobs.now) tick 0 timings.now) }
 {
     for (process, timing) in timings.iter().enumerate() {
-        if is_clocked_at(tick, *timing) && is_missing(tick, process, jobs) {
+        if is_missing(tick, process, jobs) && is_clocked_at(tick, *timing) {
             return Some(process);
         }
     }

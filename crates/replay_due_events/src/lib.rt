@@ -12,7 +12,7 @@ pub mod next_due;
 mod no_overdue_start;
 mod timetable;
 
-pub use clock::next_clock_tick;
+pub use clock::quiet_until;
 pub use due_starts::{Start, by_event, has_acted, is_released_at};
 pub use no_overdue_start::is_none_missing_before;
 pub use timetable::{Timetable, Timing};

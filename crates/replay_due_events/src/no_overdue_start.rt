@@ -13,7 +13,7 @@ ghost use Rattle.source_semantics.specs.Starts.{NoneMissing};
 ghost use Rattle.replay_due_events.specs.NextDue.{FramesPass, doing_due, due_from, is_after, line_due, lines_due, next_in_order, release_from};
 ghost use Rattle.replay_state.specs.View.{config_of, doing_of, jobs_of};
 ghost use Rattle.replay_due_events.specs.Timings.{FramesCount, IsClockFree, IsTimetableOf, line_of, script_of, timings as timings_in};
-ghost use Rattle.replay_due_events.specs.Next.{timing_due, timings_due, jobs_due};
+ghost use Rattle.replay_due_events.specs.Next.{AreWaitsAfter, timing_due, timings_due, jobs_due};
 
 use crate::{Timetable, Timing, by_event, is_released_at};
 use replay_state::{Activity, Config, ProcessState};
@@ -172,6 +172,17 @@ fn waits_are_after(jobs: &[ProcessState<'_>], from: u64, until: u64) -> bool
     true
 }
 
+/// The same, where it is known that no wait is over before a tick.
+fn time_outs_are_after(jobs: &[ProcessState<'_>], from: u64, until: u64, free_until: u64) -> bool
+    requires { AreWaitsAfter free_until (jobs_of jobs.now) }
+    ensures { result ≡ is_after until (jobs_due from (jobs_of jobs.now)) }
+{
+    if until <= free_until {
+        return true;
+    }
+    waits_are_after(jobs, from, until)
+}
+
 /// The first tick at which a start event can be missing: the one reached, or the next where
 /// somebody has acted in it.
 fn first_open(config: &Config<'_>) -> u64
@@ -206,6 +217,7 @@ fn is_next_after(
     requires tick { config.now.tick < 2 ^ 61 }
     requires free { IsClockFree table.now.timings.items (due_from (config_of config.now))
         free_until }
+    requires waits { AreWaitsAfter free_until (config_of config.now).jobs }
     ensures { (end : ℕ) → result ≡ is_after until
         (next_in_order program (script_of lines.now end) (config_of config.now)) }
 {
@@ -214,12 +226,12 @@ fn is_next_after(
     let jobs = config.jobs.as_slice();
     let by_lines = lines_are_after(timings, config, from, until, lines);
     let by_clock = clock_is_after(timings, jobs, from, until, free_until);
-    let by_waits = waits_are_after(jobs, from, until);
+    let by_waits = time_outs_are_after(jobs, from, until, free_until);
     all_hold(by_lines, by_clock, by_waits)
 }
 
-/// Whether no start event due before the tick is missing, where the clock is known to release nobody
-/// before a tick.
+/// Whether no start event due before the tick is missing, where it is known that neither the clock
+/// nor a wait starts a process before a tick.
 pub fn is_none_missing_before(
     table: &Timetable,
     config: &Config<'_>,
@@ -234,6 +246,7 @@ pub fn is_none_missing_before(
     requires tick { config.now.tick < 2 ^ 61 }
     requires free { IsClockFree table.now.timings.items (due_from (config_of config.now))
         free_until }
+    requires waits { AreWaitsAfter free_until (config_of config.now).jobs }
     ensures { (end : ℕ) → NoneMissing program (script_of lines.now end)
         (config_of config.now) until ↔ IsTrue result }
 {

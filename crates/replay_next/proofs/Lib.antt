@@ -12,3 +12,6 @@ pub mod Oks
 pub mod CallArms
 pub mod NextTurning
 pub mod Handing
+pub mod Following
+pub mod Weighing
+pub mod Callers

@@ -1,2 +1,5 @@
 pub mod Ran
 pub mod Came
+pub mod Pending
+pub mod Weights
+pub mod Driving

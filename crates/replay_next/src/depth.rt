@@ -1,6 +1,6 @@
 //! How deep calls can be nested.
 
-ghost use Rattle.std.specs.Prelude.{◌≡◌, IfSome, map, sum_by};
+ghost use Rattle.std.specs.Prelude.{◌≡◌, ◌≤◌, map, sum_by};
 ghost use Rattle.syntax_tree.specs.Placed.{placed, placed_decl, plain, plain_decl};
 ghost use Rattle.source_semantics.specs.Names.{routine_count as count_of, routines_in};
 
@@ -20,24 +20,21 @@ fn routines_of(decl: &Declaration) -> usize
 }
 
 /// How many routines and entries the declarations have.
-fn routines_among(decls: &[Declaration]) -> Option<usize>
-    ensures { IfSome result (λ n. n ≡ sum_by routines_in
-        (map plain_decl (map placed_decl decls.now))) }
+fn routines_among(decls: &[Declaration]) -> usize
+    requires { sum_by routines_in (map plain_decl (map placed_decl decls.now)) ≤ 512 }
+    ensures { result ≡ sum_by routines_in (map plain_decl (map placed_decl decls.now)) }
 {
     let mut count: usize = 0;
     for decl in decls {
-        match count.checked_add(routines_of(decl)) {
-            None => return None,
-            Some(next) => count = next,
-        }
+        count += routines_of(decl);
     }
-    Some(count)
+    count
 }
 
-/// How many routines and entries a program has: calls are nested at most so deep. `None` where
-/// they are more than a number can tell.
-pub fn routine_count(declarations: &Declarations<'_>) -> Option<usize>
-    ensures { IfSome result (λ n. n ≡ count_of (plain (placed declarations.now))) }
+/// How many routines and entries a program has: calls are nested at most so deep.
+pub fn routine_count(declarations: &Declarations<'_>) -> usize
+    requires { count_of (plain (placed declarations.now)) ≤ 512 }
+    ensures { result ≡ count_of (plain (placed declarations.now)) }
 {
     routines_among(declarations.program().decls.as_slice())
 }

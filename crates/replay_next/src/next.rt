@@ -10,7 +10,8 @@ ghost use Rattle.source_semantics.specs.Source.{job_next};
 ghost use Rattle.replay_state.specs.View.{action_of, call_of, calls_of, config_of, holds_of, home_of, item_of, job_of, next_of, vars_of};
 ghost use Rattle.replay_calls.specs.Reach.{area_of};
 
-use crate::items::{ItemResult, run_items};
+use crate::driving::run_whole;
+use crate::items::ItemResult;
 use crate::{RunResult, Stop};
 use replay_calls::{CowSlots, Memory, lent, slots_copied};
 use replay_state::{
@@ -166,7 +167,7 @@ pub fn next_from<'a>(
         let call = &calls[at];
         memory.own = slots_copied(scope.alloc, call.own.as_slice())?;
         let items = given_items(scope.alloc, call.rest.as_slice(), given)?;
-        match run_items(scope, call.home, depth, &mut memory, items.as_slice())? {
+        match run_whole(scope, call.home, depth, &mut memory, items.as_slice())? {
             ItemResult::Gives(value) => given = Some(value),
             ItemResult::Ran(ran) => match ran {
                 RunResult::Goes | RunResult::Exits => given = None,

@@ -56,7 +56,7 @@ fn row<'a>(
 
 /// The arguments of a call as the variables of its parameters.
 #[cycle(runs)]
-fn arguments<'a>(
+pub fn arguments<'a>(
     scope: &EvalContext<'a>,
     home: CallOwner,
     depth: usize,
@@ -357,7 +357,7 @@ pub fn turns<'a>(
 
 /// What a statement comes to.
 #[cycle(runs)]
-fn run<'a>(
+pub fn run<'a>(
     scope: &EvalContext<'a>,
     home: CallOwner,
     depth: usize,

@@ -8,10 +8,10 @@
 //!
 //! Ranks and ceilings by number.
 
-ghost use Rattle.std.specs.Prelude.{◌≡◌, ◌<◌, length};
+ghost use Rattle.std.specs.Prelude.{◌≡◌, ◌<◌, ◌&&◌, ◌||◌, length, nat_eq, nat_lt, not};
 ghost use Rattle.syntax_tree.specs.Plain.{Program};
 ghost use Rattle.source_semantics.specs.Config.{is_ready as is_at_work};
-ghost use Rattle.source_semantics.specs.Ranks.{active_rank as rank_now, comes_before as is_taken_before};
+ghost use Rattle.source_semantics.specs.Ranks.{active_rank as rank_now, comes_before as is_taken_before, is_inside};
 ghost use Rattle.source_semantics.specs.Source.{before, is_empty, ready_from};
 ghost use Rattle.replay_state.specs.View.{config_of, doing_of};
 ghost use Rattle.replay_state.specs.Tables.{AreRanksOf, Fits};
@@ -35,35 +35,56 @@ fn is_ready(doing: Activity) -> bool
     }
 }
 
+/// How a process stands in the choice: its active rank, and whether it is inside a monitor.
+#[derive(Clone, Copy)]
+struct Standing {
+    rank: u64,
+    inside: bool,
+}
+
+/// Whether the process that stands so is taken before the one that stands as the second.
+fn is_sooner(first: Standing, second: Standing) -> bool
+    ensures { result ≡ (nat_lt first.rank second.rank ||
+        (nat_eq first.rank second.rank && (first.inside && not second.inside))) }
+{
+    first.rank < second.rank || (first.rank == second.rank && first.inside && !second.inside)
+}
+
 impl Ranks {
-    /// The ceiling of the monitor that the process is inside, else its rank.
-    pub fn active_rank(&self, config: &Config<'_>, process: usize) -> u64
+    /// How the process stands: its active rank is the ceiling of the monitor that it is inside, else
+    /// its rank.
+    fn standing(&self, config: &Config<'_>, process: usize) -> Standing
         ghost program: { Program }
         requires ranks { AreRanksOf program self.now }
         requires fits { Fits program (config_of config.now) }
         requires process { process < length config.now.jobs.items }
-        ensures { result ≡ rank_now program (config_of config.now) process }
+        ensures rank { result.rank ≡ rank_now program (config_of config.now) process }
+        ensures inside { result.inside ≡ is_inside (config_of config.now) process }
     {
         let rank = self.ranks[process];
         match config.inside(process) {
-            None => rank,
-            Some(mon) => self.ceilings[mon].unwrap_or(rank),
+            None => Standing {
+                rank,
+                inside: false,
+            },
+            Some(mon) => Standing {
+                rank: self.ceilings[mon].unwrap_or(rank),
+                inside: true,
+            },
         }
     }
 
-    /// Whether the process is taken before the other.
-    pub fn comes_before(&self, config: &Config<'_>, process: usize, other: usize) -> bool
+    /// Whether the process is taken before another, which stands so.
+    fn comes_before(&self, config: &Config<'_>, process: usize, other: usize, its: Standing) -> bool
         ghost program: { Program }
         requires ranks { AreRanksOf program self.now }
         requires fits { Fits program (config_of config.now) }
         requires process { process < length config.now.jobs.items }
-        requires other { other < length config.now.jobs.items }
+        requires rank { its.rank ≡ rank_now program (config_of config.now) other }
+        requires inside { its.inside ≡ is_inside (config_of config.now) other }
         ensures { result ≡ is_taken_before program (config_of config.now) process other }
     {
-        let active = self.active_rank(config, process);
-        let its = self.active_rank(config, other);
-        active < its
-            || (active == its && config.inside(process).is_some() && config.inside(other).is_none())
+        is_sooner(self.standing(config, process), its)
     }
 
     /// Whether no ready process is taken before this one.
@@ -75,9 +96,10 @@ impl Ranks {
         ensures { result ≡ is_empty (before program (config_of config.now) process
             (ready_from 0 (config_of config.now).jobs)) }
     {
+        let its = self.standing(config, process);
         let jobs = config.jobs.as_slice();
         for (other, job) in jobs.iter().enumerate() {
-            if is_ready(job.doing) && self.comes_before(config, other, process) {
+            if is_ready(job.doing) && self.comes_before(config, other, process, its) {
                 return false;
             }
         }

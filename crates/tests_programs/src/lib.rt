@@ -12,6 +12,8 @@ mod limits;
 #[cfg(test)]
 mod loads;
 #[cfg(test)]
+mod nesting;
+#[cfg(test)]
 mod replays;
 #[cfg(test)]
 mod runs;

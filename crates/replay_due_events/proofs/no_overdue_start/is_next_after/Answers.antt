@@ -8,7 +8,7 @@ pub returns : goal.returns
 returns g c = λ end.
     c.all_hold.ensures
     ∙ next_after g.program (config_of c.args.config.now) c.args.lines.now end c.args.until c.first_open-from.result (jobs_of c.as_slice-jobs.result.now) c.as_slice-timings.result.now
-    c.lines_are_after-by_lines.result c.clock_is_after-by_clock.result c.waits_are_after-by_waits.result
+    c.lines_are_after-by_lines.result c.clock_is_after-by_clock.result c.time_outs_are_after-by_waits.result
     c.first_open-from.ensures (ap jobs_of c.as_slice-jobs.ensures.value) (c.as_slice-timings.ensures.value ∙ c.requires.0.timings)
     (length-map c.args.config.now.jobs.items job_of ∙ c.requires.1.1.0)
-    c.lines_are_after-by_lines.ensures c.clock_is_after-by_clock.ensures c.waits_are_after-by_waits.ensures
+    c.lines_are_after-by_lines.ensures c.clock_is_after-by_clock.ensures c.time_outs_are_after-by_waits.ensures

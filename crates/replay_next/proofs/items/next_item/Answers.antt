@@ -4,8 +4,8 @@ use Rattle.replay_state.specs.View.{item_of}
 use Rattle.replay_calls.specs.Reach.{memory_of, site_of}
 use Rattle.replay_next.proofs.items.next_item.Goals as goal
 
-pub returns-then-leaving : goal.returns-then-leaving
-returns-then-leaving c = λ is.
+pub returns-then-leaving-clause-run : goal.returns-then-leaving-clause-run
+returns-then-leaving-clause-run c = λ is.
     let site = site_of c.args.scope.now c.args.home c.args.depth in
     let m = memory_of c.args.memory.now in
     let all = item_of c.args.item ∷ is in

@@ -9,7 +9,7 @@ use Rattle.replay_accept.proofs.rules.Rules.is_none_missing.Goals as goal
 
 pub is_none_missing_before-requires : goal.is_none_missing_before-requires
 is_none_missing_before-requires g c =
-    (c.requires.0, (c.requires.1.0, (sym (length-map c.args.config.now.jobs.items job_of) ∙ c.requires.1.1.0.jobs, (c.requires.1.1.1.0, c.free_until.ensures c.args.self.now.table.timings.items c.requires.1.1.1.1.1))))
+    (c.requires.0, (c.requires.1.0, (sym (length-map c.args.config.now.jobs.items job_of) ∙ c.requires.1.1.0.jobs, (c.requires.1.1.1.0, (c.free_until.ensures.clock c.args.self.now.table.timings.items c.requires.1.1.1.1.1, c.free_until.ensures.waits c.args.self.now.table.timings.items c.requires.1.1.1.1.1)))))
 
 pub returns : goal.returns
 returns g c =

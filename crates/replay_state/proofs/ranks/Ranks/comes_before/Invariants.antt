@@ -1,4 +1,4 @@
 use Rattle.replay_state.proofs.ranks.Ranks.comes_before.Given as goal
 
-abbrev pub ghost-active_rank : goal.ghost-active_rank
-ghost-active_rank g a = g.program
+abbrev pub ghost-standing : goal.ghost-standing
+ghost-standing g a = g.program

@@ -10,3 +10,6 @@ invariant-loop-other g l =
 
 abbrev pub ghost-comes_before : goal.ghost-comes_before
 ghost-comes_before g a = g.program
+
+abbrev pub ghost-standing : goal.ghost-standing
+ghost-standing g a = g.program
