@@ -1,5 +1,5 @@
 -- What a call that answers 0 has done.
-use Rattle.std.proofs.Common.{◌≡◌, ◌∙◌, ◌++◌, ◌≤◌, ℕ, List, Option, Some, None, Bool, true, false, refl, sym, subst, ap, arith, length}
+use Rattle.std.proofs.Common.{◌≡◌, ◌∙◌, ◌++◌, ◌≤◌, ℕ, List, [], Option, Some, None, Bool, true, false, refl, sym, subst, ap, arith, length}
 use Rattle.std.specs.Prelude.{IsSomeAnd}
 use Rattle.std.specs.Bool.{OnTrue}
 use Rattle.outside.specs.Outside.{Outside, Appends}
@@ -22,7 +22,7 @@ use Rattle.vm_law.specs.ScriptSuits.{ScriptsForImagesReadSuit, script_with}
 use Rattle.sched_table.specs.Report.{report_text}
 use Rattle.sched_table.specs.Json.{report_json}
 use Rattle.built_tasks_law.specs.Judged.{BoundsAreOfTheText, BuiltIsInTime}
-use Rattle.command_words.specs.Calls.{Call, over_of, go, check, compile, json, slack, print, run, migrate, asm, dis, watch, replay, edf, why, fit}
+use Rattle.command_words.specs.Calls.{Call, over_of, go, check, compile, json, slack, print, run, migrate, asm, dis, watch, replay, edf, why, fit, chart, table}
 use Rattle.command_due.specs.Source.{IsWritten, IsTimelyText, Style, report_of}
 use Rattle.command_due.specs.Script.{run_of}
 use Rattle.command_due.specs.CommandsDue.{Outcome, stored, log, IsRefused, faulty, late, IsReportDue, report_refused, report_timely, IsPrintDue, print_faulty, printed, IsCompileDue, compile_refused, compiled, IsGoDue, go_refused, go_bad_script, went, IsImageFile, IsImageRefused, misread, invalid, IsRunDue, run_refused, run_bad_script, ran, IsMigrateDue, migrate_refused, migrated}
@@ -39,12 +39,16 @@ use Rattle.sched_demand.specs.declared.judging.Judgement.TheVariants as judgemen
 use Rattle.command_due.specs.EdfDue.{IsEdfDue, edf_faulty, edf_waits, edf_unfit, edf_bad_script, edf_ran, edf_log}
 use Rattle.command_due.specs.WhyDue.{IsWhyDue, why_faulty, why_late, why_in_time}
 use Rattle.command_due.specs.FitDue.{IsFitDue, fit_faulty, fitted}
+use Rattle.command_due.specs.ChartDue.{IsChartDue, chart_refused, chart_bad_script, charted}
+use Rattle.command_due.specs.TableDue.{IsTableDue, table_faulty, tabled}
+use Rattle.run_chart.specs.Chart.{chart_text}
+use Rattle.table_format.specs.Program.{table_text}
 use Rattle.command_due.specs.Report.{edf_report}
 use Rattle.edf_correct.specs.FeasibleTexts.{FeasibleTextsKeepTheirWord}
 use Rattle.command_due.specs.Runs.{KeepsItsWord, BuiltImagesAreFaithful, IsAccepted}
 use Rattle.command_answers.specs.Files.{IsDue, target_of}
 use Rattle.command_answers.specs.Went.{IsWhole, Stores, Went}
-use Rattle.command_answers.specs.Promise.{IsHeld, HasGone, HasCompiled, HasReported, HasSpared, ReadsBack, HasPrinted, HasRun, HasMigrated, HasAssembled, HasDisassembled, HasWatched, HasReplayed, HasMetDeadlines, HasTakenApart, HasFitted, HasDone}
+use Rattle.command_answers.specs.Promise.{IsHeld, HasGone, HasCompiled, HasReported, HasSpared, ReadsBack, HasPrinted, HasRun, HasMigrated, HasAssembled, HasDisassembled, HasWatched, HasReplayed, HasMetDeadlines, HasTakenApart, HasFitted, HasCharted, HasTabled, HasDone}
 use Rattle.command_perform.proofs.Scripts.{same_lines}
 
 pub status_of : (o p : Outcome) → o ≡ p → o.status ≡ p.status
@@ -318,6 +322,33 @@ module _ (laws : Printing) (building : Building) (before now : Outside) (o : Out
     put = put_is before now o fits (text_of o _ same) put;
   }
 
+  chart_whole : (first behind : ℕ) (image script : List ℕ) → IsChartDue first behind (before.files.held image) (before.files.held script) o → HasCharted image script first behind before now
+  chart_whole first behind image script (chart_refused bytes is r) = absurd (image_zero bytes o r zero)
+  chart_whole first behind image script (chart_bad_script bytes other raw fault is file that f same) = absurd (let five = status_of o _ same in omega (arith, five, zero))
+  chart_whole first behind image script (charted bytes other raw lines end is file that s same) = record {
+    bytes = bytes;
+    held = is;
+    raw = raw;
+    valid = file;
+    text = other;
+    script_held = that;
+    lines = lines;
+    end = end;
+    script_written = s;
+    put = put_is before now o (chart_text (named_of raw) (run_of lines end) first behind) (text_of o _ same) put;
+  }
+
+  tabled_whole : (tasks program : List ℕ) (lines : List ℕ) → before.files.held tasks ≡ Some lines → Stores o.image (Some program) before.files.held now.files.held → IsTableDue lines o → HasTabled tasks program before now
+  tabled_whole tasks program lines is kept (table_faulty number line fault same) = absurd (let two = status_of o _ same in omega (arith, two, zero))
+  tabled_whole tasks program lines is kept (tabled t is_table same) = record {
+    lines = lines;
+    held = is;
+    table = t;
+    is_table = is_table;
+    is_stored = stored_bytes o.image (table_text t) program before.files.held now.files.held (image_is o _ same) kept;
+    put = put_is before now o [] (text_of o _ same) put;
+  }
+
   migrated_whole : ImagesReadAreHeldAgain → (image target : List ℕ) (bytes : List ℕ) → before.files.held image ≡ Some bytes → Stores o.image (Some target) before.files.held now.files.held
       → IsMigrateDue bytes o → HasMigrated image target before now
   migrated_whole law image target bytes is kept (migrate_refused r) = absurd (image_zero bytes o r zero)
@@ -363,6 +394,9 @@ module _ (laws : Printing) (building : Building) (held : ImagesToldAreHeld) (aga
       of_held (IsWhyDue over) (HasTakenApart over program before now) (before.files.held program) o (λ text is d. taken_apart laws building before now o zero put over program text is d) due
   done (fit program over) low due kept =
       of_held (IsFitDue over) (HasFitted over program before now) (before.files.held program) o (λ text is d. fitted_whole laws building before now o zero put over program text is d) due
+  done (chart image script first end) low due kept = chart_whole laws building before now o zero put first end image script due
+  done (table tasks program) low due kept =
+      of_held IsTableDue (HasTabled tasks program before now) (before.files.held tasks) o (λ lines is d. tabled_whole laws building before now o zero put tasks program lines is kept d) due
 
 pub has_done : Printing → Building → ImagesToldAreHeld → ImagesReadAreHeldAgain → BuiltImagesAreHeld → ImagesReadHaveLimits → EveryValidImageIsSafeAndInTime → ScriptsForImagesReadSuit → FeasibleTextsKeepTheirWord → (tells : Bool) (call : Call) (before now : Outside) (status : ℕ) → over_of call ≤ 1000
     → Went tells call before now status → OnTrue tells (status ≡ 0 → HasDone call before now)

@@ -10,7 +10,7 @@ use Rattle.sched_table.specs.Report.{report_text}
 use Rattle.sched_table.specs.Json.{report_json}
 use Rattle.built_image.specs.Built.{IsBuilt}
 use Rattle.built_tasks_law.specs.Judged.{LateIsNotInTime, BuiltIsInTime}
-use Rattle.command_words.specs.Calls.{Call, go, check, compile, json, slack, print, run, migrate, asm, dis, watch, replay, edf, why, fit}
+use Rattle.command_words.specs.Calls.{Call, go, check, compile, json, slack, print, run, migrate, asm, dis, watch, replay, edf, why, fit, chart, table}
 use Rattle.command_due.specs.Source.{IsWritten, IsTextFault, IsTimelyText, Style}
 use Rattle.command_due.specs.CommandsDue.{Outcome, IsRefused, faulty, late, IsReportDue, report_refused, report_timely, IsPrintDue, print_faulty, printed, IsCompileDue, compile_refused, compiled, IsGoDue, go_refused, go_bad_script, went, IsImageRefused, misread, invalid, IsRunDue, run_refused, run_bad_script, ran, IsMigrateDue, migrate_refused, migrated}
 use Rattle.command_due.specs.SpareDue.{IsSlackDue, slack_refused, slack_told}
@@ -24,6 +24,8 @@ use Rattle.sched_program.specs.Tasks.{IsInTime, IsNotInTime}
 use Rattle.sched_program_law.specs.Once.{NeverInTimeAndNot}
 use Rattle.command_due.specs.WhyDue.{IsWhyDue, why_faulty, why_late, why_in_time}
 use Rattle.command_due.specs.FitDue.{IsFitDue, fit_faulty, fitted}
+use Rattle.command_due.specs.ChartDue.{IsChartDue, chart_refused, chart_bad_script, charted}
+use Rattle.command_due.specs.TableDue.{IsTableDue, table_faulty, tabled}
 use Rattle.command_due.specs.Waits.{WaitFails}
 use Rattle.command_due_law.specs.Word.{AnswersOfTextsAreOne}
 use Rattle.command_due.specs.ReplayDue.{IsJudged, misread as misread_log, is_refused, is_run, IsReplayDue, replay_faulty, replay_bad_script, replay_judged}
@@ -125,6 +127,15 @@ fit_late : (over : ℕ) (text : List ℕ) (o : Outcome) → IsFitDue over text o
 fit_late over text o (fit_faulty number place fault same) three = let two = status_of o _ same in absurd (omega (arith, two, three))
 fit_late over text o (fitted tree fits written told same) three = let zero = status_of o _ same in absurd (omega (arith, zero, three))
 
+chart_late : (first end : ℕ) (image script : Option (List ℕ)) (o : Outcome) → IsChartDue first end image script o → o.status ≡ 3 → ⊥
+chart_late first end image script o (chart_refused bytes is r) three = image_late bytes o r three
+chart_late first end image script o (chart_bad_script bytes other raw fault is file that f same) three = let five = status_of o _ same in absurd (omega (arith, five, three))
+chart_late first end image script o (charted bytes other raw lines stop is file that s same) three = let zero = status_of o _ same in absurd (omega (arith, zero, three))
+
+table_late : (lines : List ℕ) (o : Outcome) → IsTableDue lines o → o.status ≡ 3 → ⊥
+table_late lines o (table_faulty number line fault same) three = let two = status_of o _ same in absurd (omega (arith, two, three))
+table_late lines o (tabled t is same) three = let zero = status_of o _ same in absurd (omega (arith, zero, three))
+
 due_late : LateIsNotInTime → (call : Call) (b : Outside) (o : Outcome) → IsDue call b.files.held o → o.status ≡ 3 → IsRefusedForTime call b
 due_late law (go program image script over) b o due three = go_late law over (b.files.held program) (b.files.held script) o due three
 due_late law (check program over) b o due three = held_late over (IsReportDue report_text over) (b.files.held program) o (λ text d. report_late law report_text over text o d three) due
@@ -141,6 +152,8 @@ due_late law (replay program script log) b o due three = replay_late (b.files.he
 due_late law (edf program script) b o due three = edf_late (b.files.held program) (b.files.held script) o due three
 due_late law (why program over) b o due three = held_late over (IsWhyDue over) (b.files.held program) o (λ text d. why_text_late over text o d three) due
 due_late law (fit program over) b o due three = held_never (IsFitDue over) (b.files.held program) o (λ text d. fit_late over text o d three) due
+due_late law (chart image script first end) b o due three = chart_late first end (b.files.held image) (b.files.held script) o due three
+due_late law (table tasks program) b o due three = held_never IsTableDue (b.files.held tasks) o (λ lines d. table_late lines o d three) due
 
 -- ---- a program that is late is refused with 3
 
@@ -230,6 +243,8 @@ module _ (faults : WrittenOrFaulty) (one : WrittenOnce) (apart : BuiltIsInTime) 
   due_three (edf program script) b o u due = edf_three faults one answers (b.files.held program) (b.files.held script) o u due
   due_three (why program over) b o u due = held_three faults one apart over (IsWhyDue over) (b.files.held program) o (λ text v d. why_three faults one apart over text v never o d) u due
   due_three (fit program over) b o u due = absurd u
+  due_three (chart image script first end) b o u due = absurd u
+  due_three (table tasks program) b o u due = absurd u
 
   refused : (call : Call) (before now : Outside) (status : ℕ) → IsWhole call before now status → (status ≡ 3) ↔ IsRefusedForTime call before
   refused call before now status w =

@@ -1,10 +1,10 @@
 -- The overhead of a command is at most 1,000 ticks.
-use Rattle.std.proofs.Common.{◌≡◌, ◌≤◌, ℕ, Bool, true, false, List, [], ◌∷◌, Option, Some, None, bytes_eq, codes, arith, refl, subst}
+use Rattle.std.proofs.Common.{◌≡◌, ◌≤◌, ℕ, Bool, true, false, List, [], ◌∷◌, Option, Some, None, bytes_eq, codes, arith, refl, subst, nat_lt}
 use Rattle.std.specs.Prelude.{String, if◌then◌else◌, map, option_map, string_bytes}
 use Rattle.std.specs.Global.{Global}
 use Rattle.command_words.specs.declared.stop.Breakpoint.{Breakpoint}
-use Rattle.command_words.specs.Calls.{Call, asm, check, compile, dis, edf, fit, go, json, migrate, over_of, print, replay, run, slack, watch, why}
-use Rattle.command_words.specs.Words.{IsCommand, asm_row, check_row, compile_row, dis_row, edf_row, fit_row, go_row, image_row_of, json_row, last_overhead, migrate_row, print_row, replay_row, row_of, run_row, slack_row, stop_of, watch_row, why_row}
+use Rattle.command_words.specs.Calls.{Call, asm, chart, check, compile, dis, edf, fit, go, json, migrate, over_of, print, replay, run, slack, table, watch, why}
+use Rattle.command_words.specs.Words.{IsCommand, asm_row, chart_of, chart_row, check_row, compile_row, dis_row, edf_row, fit_row, go_row, image_row_of, json_row, last_overhead, migrate_row, number_up_to, print_row, replay_row, row_of, run_row, slack_row, stop_of, table_row, watch_row, why_row}
 use Rattle.command_words.specs.WordsLaws.{OverheadsAreDecimal}
 
 same_call : (c d : Call) → Some c ≡ Some d → over_of c ≤ 1000 → over_of d ≤ 1000
@@ -112,13 +112,34 @@ watch_low (a ∷ b ∷ c ∷ d ∷ rest) call is = absurd cc
 no_call : (call : Call) → None ≡ Some call → over_of call ≤ 1000
 no_call call is = absurd cc
 
+charted_low : (a b : List ℕ) (first end : Option ℕ) (call : Call) → chart_of a b first end ≡ Some call → over_of call ≤ 1000
+charted_low a b None end call is = absurd cc
+charted_low a b (Some n) None call is = absurd cc
+charted_low a b (Some n) (Some m) call is = either_row (nat_lt n m) (Some (chart a b n m)) None call (λ some. same_call (chart a b n m) call some (omega arith)) (no_call call) is
+
+chart_low : (words : List (List ℕ)) (call : Call) → chart_row words ≡ Some call → over_of call ≤ 1000
+chart_low [] call is = absurd cc
+chart_low (a ∷ []) call is = absurd cc
+chart_low (a ∷ b ∷ []) call is = absurd cc
+chart_low (a ∷ b ∷ c ∷ []) call is = absurd cc
+chart_low (a ∷ b ∷ c ∷ d ∷ []) call is = charted_low a b (number_up_to 999999999 c) (number_up_to 1000000000 d) call is
+chart_low (a ∷ b ∷ c ∷ d ∷ e ∷ rest) call is = absurd cc
+
+table_low : (words : List (List ℕ)) (call : Call) → table_row words ≡ Some call → over_of call ≤ 1000
+table_low [] call is = absurd cc
+table_low (a ∷ []) call is = absurd cc
+table_low (a ∷ b ∷ []) call is = same_call (table a b) call is (omega arith)
+table_low (a ∷ b ∷ c ∷ rest) call is = absurd cc
+
 image_row_low : (word : List ℕ) (words : List (List ℕ)) (call : Call) → image_row_of word words ≡ Some call → over_of call ≤ 1000
 image_row_low word words call is =
     either_row (bytes_eq word (codes "run")) (run_row words) _ call (run_low words call) (λ r0.
     either_row (bytes_eq word (codes "watch")) (watch_row words) _ call (watch_low words call) (λ r1.
-    either_row (bytes_eq word (codes "migrate")) (migrate_row words) _ call (migrate_low words call) (λ r2.
-    either_row (bytes_eq word (codes "dis")) (dis_row words) _ call (dis_low words call) (λ r3.
-    either_row (bytes_eq word (codes "asm")) (asm_row words) None call (asm_low words call) (no_call call) r3) r2) r1) r0) is
+    either_row (bytes_eq word (codes "chart")) (chart_row words) _ call (chart_low words call) (λ r2.
+    either_row (bytes_eq word (codes "migrate")) (migrate_row words) _ call (migrate_low words call) (λ r3.
+    either_row (bytes_eq word (codes "dis")) (dis_row words) _ call (dis_low words call) (λ r4.
+    either_row (bytes_eq word (codes "asm")) (asm_row words) _ call (asm_low words call) (λ r5.
+    either_row (bytes_eq word (codes "table")) (table_row words) None call (table_low words call) (no_call call) r5) r4) r3) r2) r1) r0) is
 
 over_low : OverheadsAreDecimal → (words : List (List ℕ)) (call : Call) → row_of words ≡ Some call → over_of call ≤ 1000
 over_low law [] call is = absurd cc

@@ -15,7 +15,9 @@ ghost use Rattle.command_answers.specs.Tried.{HasTried, status_of};
 
 use analysis_command::{prepare_fit, prepare_why};
 use command_answers::{PrepareError, PreparedCall};
-use command_images::{prepare_asm, prepare_dis, prepare_migrate, prepare_run, prepare_watch};
+use command_images::{
+    prepare_asm, prepare_chart, prepare_dis, prepare_migrate, prepare_run, prepare_watch,
+};
 use command_programs::{
     Format, prepare_compile, prepare_go, prepare_print, prepare_report, prepare_slack,
 };
@@ -24,6 +26,7 @@ use edf_command::prepare_edf;
 use outside::Files;
 use replay::prepare_replay;
 use std::alloc::Global;
+use table_command::prepare_table;
 
 /// Reads what the command names, judges it, and makes what is left to be done: what is stored, what
 /// is put, and what is run. An overhead is at most 1,000 ticks.
@@ -85,5 +88,12 @@ pub fn prepare<'a, F: Files>(
         Command::Edf { program, script } => prepare_edf(alloc, program, script, files),
         Command::Why { program, overhead } => prepare_why(alloc, program, overhead, files),
         Command::Fit { program, overhead } => prepare_fit(alloc, program, overhead, files),
+        Command::Chart {
+            image,
+            script,
+            first,
+            end,
+        } => prepare_chart(alloc, image, script, first, end, files),
+        Command::Table { tasks, program } => prepare_table(alloc, tasks, program, files),
     }
 }

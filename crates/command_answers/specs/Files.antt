@@ -4,7 +4,7 @@ use Rattle.image.specs.Named.{NamedImage}
 use Rattle.image.specs.declared.raw.RawImage.{RawImage}
 use Rattle.sched_table.specs.Report.{report_text}
 use Rattle.sched_table.specs.Json.{report_json}
-use Rattle.command_words.specs.Calls.{Call, go, check, compile, json, slack, print, run, migrate, asm, dis, watch, replay, edf, why, fit}
+use Rattle.command_words.specs.Calls.{Call, go, check, compile, json, slack, print, run, migrate, asm, dis, watch, replay, edf, why, fit, chart, table}
 use Rattle.syntax_tree.specs.declared.place.Place.{Place}
 use Rattle.syntax_tree.specs.Placed.{Prog}
 use Rattle.command_due.specs.Source.{IsTimelyText, IsWritten}
@@ -16,6 +16,8 @@ use Rattle.command_due.specs.ReplayDue.{IsReplayDue, IsRecordedFor}
 use Rattle.command_due.specs.EdfDue.{IsEdfDue, IsFeasibleText}
 use Rattle.command_due.specs.WhyDue.{IsWhyDue}
 use Rattle.command_due.specs.FitDue.{IsFitDue}
+use Rattle.command_due.specs.ChartDue.{IsChartDue}
+use Rattle.command_due.specs.TableDue.{IsTableDue}
 
 -- what each name holds, if anything
 abbrev pub Held : Type 0
@@ -23,7 +25,7 @@ Held = List ℕ → Option (List ℕ)
 
 -- ---- which files
 
--- the file that is read first: that of the program, of the image or of its text
+-- the file that is read first: that of the program, of the image, of its text or of the tasks
 abbrev pub source_of : Call → List ℕ
 source_of (go program image script over) = program
 source_of (check program over) = program
@@ -40,6 +42,8 @@ source_of (replay program script log) = program
 source_of (edf program script) = program
 source_of (why program over) = program
 source_of (fit program over) = program
+source_of (chart image script first end) = image
+source_of (table tasks program) = tasks
 
 -- the file of the script, if one is read
 abbrev pub script_of : Call → Option (List ℕ)
@@ -48,6 +52,7 @@ script_of (run image script) = Some script
 script_of (watch image script stop) = Some script
 script_of (replay program script log) = Some script
 script_of (edf program script) = Some script
+script_of (chart image script first end) = Some script
 script_of call = None
 
 -- the file of the log, if one is read
@@ -71,6 +76,7 @@ target_of (compile program image over) = Some image
 target_of (migrate image target) = Some target
 target_of (asm text image) = Some image
 target_of (dis image text) = Some text
+target_of (table tasks program) = Some program
 target_of call = None
 
 -- ---- what is due
@@ -91,6 +97,8 @@ IsDue (replay program script log) held outcome = IsReplayDue (held program) (hel
 IsDue (edf program script) held outcome = IsEdfDue (held program) (held script) outcome
 IsDue (why program over) held outcome = IsSomeAnd (held program) (λ text. IsWhyDue over text outcome)
 IsDue (fit program over) held outcome = IsSomeAnd (held program) (λ text. IsFitDue over text outcome)
+IsDue (chart image script first end) held outcome = IsChartDue first end (held image) (held script) outcome
+IsDue (table tasks program) held outcome = IsSomeAnd (held tasks) (λ lines. IsTableDue lines outcome)
 
 -- the script is read: the program is timely, or of `replay` whatever its time, or of `edf` its
 -- demand is met, or the image is a valid one
@@ -98,6 +106,7 @@ abbrev pub ReachesScript : Call → Held → Type 0
 ReachesScript (go program image script over) held = IsSomeAnd (held program) (λ text. (n : NamedImage) × IsTimelyText over text n)
 ReachesScript (run image script) held = IsSomeAnd (held image) (λ bytes. (raw : RawImage) × IsImageFile bytes raw)
 ReachesScript (watch image script stop) held = IsSomeAnd (held image) (λ bytes. (raw : RawImage) × IsImageFile bytes raw)
+ReachesScript (chart image script first end) held = IsSomeAnd (held image) (λ bytes. (raw : RawImage) × IsImageFile bytes raw)
 ReachesScript (replay program script log) held = IsSomeAnd (held program) (λ text. (g : Prog Place) × IsWritten text g)
 ReachesScript (edf program script) held = IsSomeAnd (held program) (λ text. (n : NamedImage) × (points : ℕ) × IsFeasibleText text n points)
 ReachesScript call held = ⊥

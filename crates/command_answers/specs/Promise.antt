@@ -1,5 +1,5 @@
 -- What a call that answers 0 has read, stored and put, and when one answers 3.
-use Rattle.std.specs.Prelude.{◌≡◌, ◌≤◌, ◌++◌, ℕ, List, Option, Some, IsSomeAnd, length}
+use Rattle.std.specs.Prelude.{◌≡◌, ◌≤◌, ◌++◌, ℕ, List, [], Option, Some, IsSomeAnd, length}
 use Rattle.syntax_tree.specs.declared.place.Place.{Place}
 use Rattle.syntax_tree.specs.Placed.{Prog, plain}
 use Rattle.syntax_tree.specs.Bare.{bare}
@@ -15,7 +15,7 @@ use Rattle.sched_table.specs.Report.{report_text}
 use Rattle.sched_table.specs.Json.{report_json}
 use Rattle.script.specs.declared.script.ScriptLine.{ScriptLine}
 use Rattle.script.specs.Scripts.{IsScript}
-use Rattle.command_words.specs.Calls.{Call, go, check, compile, json, slack, print, run, migrate, asm, dis, watch, replay, edf, why, fit}
+use Rattle.command_words.specs.Calls.{Call, go, check, compile, json, slack, print, run, migrate, asm, dis, watch, replay, edf, why, fit, chart, table}
 use Rattle.command_due.specs.Source.{IsWritten, IsWrittenAgain, Style, report_of}
 use Rattle.command_due.specs.CommandsDue.{IsImageFile, stored, log}
 use Rattle.command_due.specs.Runs.{KeepsItsWord, IsAccepted, IsUnsolved, IsDone}
@@ -29,7 +29,7 @@ use Rattle.command_words.specs.declared.stop.Breakpoint.{Breakpoint}
 use Rattle.base.specs.declared.event.Event.{Event}
 use Rattle.source_semantics.specs.Source.{IsSourceRun}
 use Rattle.built_image.specs.Named.{names_of}
-use Rattle.command_due.specs.Script.{said}
+use Rattle.command_due.specs.Script.{said, run_of}
 use Rattle.event_log.specs.Logs.{IsLog}
 use Rattle.command_due.specs.ReplayDue.{IsRecorded, run_line}
 use Rattle.sched_demand.specs.declared.judging.Judgement.{Judgement}
@@ -37,6 +37,10 @@ use Rattle.sched_demand.specs.declared.judging.Judgement.TheVariants as judgemen
 use Rattle.command_due.specs.EdfDue.{IsFeasibleText, IsJudgedText, IsUnfit, edf_log}
 use Rattle.command_due.specs.Report.{edf_report}
 use Rattle.sched_program.specs.Tasks as of_text
+use Rattle.run_chart.specs.Chart.{chart_text}
+use Rattle.table_format.specs.declared.table.TaskTable.{TaskTable}
+use Rattle.table_format.specs.Rules.{IsTable}
+use Rattle.table_format.specs.Program.{table_text}
 use Rattle.sched_why.specs.Levels.{IsWhyText}
 use Rattle.sched_why.specs.Fits.{IsFitText}
 use Rattle.command_answers.specs.Runs.{IsEdfRun}
@@ -205,6 +209,28 @@ pub record HasFitted (over : ℕ) (program : List ℕ) (before now : Outside) : 
   pub told : IsFitText (plain tree) over fits
   pub put : Appends before.out.taken now.out.taken fits
 
+-- `chart`: an image is valid, and the chart of its run over the script is put
+pub record HasCharted (image script : List ℕ) (first behind : ℕ) (before now : Outside) : Type 0 where
+  pub bytes : List ℕ
+  pub held : before.files.held image ≡ Some bytes
+  pub raw : RawImage
+  pub valid : IsImageFile bytes raw
+  pub text : List ℕ
+  pub script_held : before.files.held script ≡ Some text
+  pub lines : List ScriptLine
+  pub end : ℕ
+  pub script_written : IsScript raw.names text lines end
+  pub put : Appends before.out.taken now.out.taken (chart_text (named_of raw) (run_of lines end) first behind)
+
+-- `table`: a text is a task table, the text of its program is stored, and nothing is put
+pub record HasTabled (tasks program : List ℕ) (before now : Outside) : Type 0 where
+  pub lines : List ℕ
+  pub held : before.files.held tasks ≡ Some lines
+  pub table : TaskTable
+  pub is_table : IsTable lines table
+  pub is_stored : now.files.held program ≡ Some (table_text table)
+  pub put : Appends before.out.taken now.out.taken []
+
 -- what a call that answers 0 has done
 abbrev pub HasDone : Call → (before now : Outside) → Type 0
 HasDone (go program image script over) before now = HasGone over program image script before now
@@ -222,6 +248,8 @@ HasDone (replay program script log) before now = HasReplayed program script log 
 HasDone (edf program script) before now = HasMetDeadlines program script before now
 HasDone (why program over) before now = HasTakenApart over program before now
 HasDone (fit program over) before now = HasFitted over program before now
+HasDone (chart image script first end) before now = HasCharted image script first end before now
+HasDone (table tasks program) before now = HasTabled tasks program before now
 
 -- the text is that of a program without waits, and the test does not say that its demand is met
 abbrev pub IsUnmet : Option (List ℕ) → Type 0

@@ -5,3 +5,5 @@ pub mod Refused
 pub mod Ready
 pub mod PrepareImagesTold
 pub mod Watched
+pub mod Charted
+pub mod Timely

@@ -2,7 +2,8 @@
 use Rattle.std.specs.Prelude.{ℕ, List}
 use Rattle.command_words.specs.declared.stop.Breakpoint.{Breakpoint}
 
--- a command with the names of its files, and with an overhead in ticks where it has one
+-- a command with the names of its files, with an overhead in ticks where it has one, and with the
+-- first tick and the one behind the last where it has these
 pub data Call : Type 0 where
   go : (program image script : List ℕ) (over : ℕ) → Call
   check : (program : List ℕ) (over : ℕ) → Call
@@ -19,6 +20,8 @@ pub data Call : Type 0 where
   edf : (program script : List ℕ) → Call
   why : (program : List ℕ) (over : ℕ) → Call
   fit : (program : List ℕ) (over : ℕ) → Call
+  chart : (image script : List ℕ) (first end : ℕ) → Call
+  table : (table program : List ℕ) → Call
 
 -- a load that is to be made: its key, how many processes it has, and the files of its program and
 -- its script

@@ -1,8 +1,8 @@
 -- The table of the commands, with the words that each takes, and the row of `make`.
-use Rattle.std.specs.Prelude.{◌≡◌, ◌≤◌, ◌<◌, ◌^◌, ℕ, ◌+◌, All, IsTrue, Bool, false, not, ◌==◌, List, [], ◌∷◌, Option, Some, None, if◌then◌else◌, map, option_map, find, String, string_bytes, bytes_eq, codes, decimal}
+use Rattle.std.specs.Prelude.{◌≡◌, ◌≤◌, ◌<◌, ◌^◌, ℕ, ◌+◌, All, IsTrue, Bool, false, not, ◌==◌, List, [], ◌∷◌, Option, Some, None, if◌then◌else◌, map, option_map, find, String, string_bytes, bytes_eq, codes, decimal, nat_lt}
 use Rattle.std.specs.List.{range_with_len}
 use Rattle.std.specs.Global.{Global}
-use Rattle.command_words.specs.Calls.{Call, go, check, compile, json, slack, print, run, migrate, asm, dis, watch, replay, edf, why, fit, Load, over_of}
+use Rattle.command_words.specs.Calls.{Call, go, check, compile, json, slack, print, run, migrate, asm, dis, watch, replay, edf, why, fit, chart, table, Load, over_of}
 use Rattle.command_words.specs.declared.words_command.Command.{Command}
 use Rattle.command_words.specs.declared.words_command.Command.TheVariants as command
 use Rattle.command_words.specs.declared.words_load.Load as made
@@ -99,14 +99,29 @@ abbrev pub fit_row : List (List ℕ) → Option Call
 fit_row (program ∷ rest) = option_map (fit program) (last_overhead rest)
 fit_row words = None
 
--- the commands on an image or its text: the word of each, and its row
+-- a chart of the ticks from the first one on, below the end
+abbrev pub chart_of : (image script : List ℕ) (first end : Option ℕ) → Option Call
+chart_of image script (Some first) (Some end) = if nat_lt first end then Some (chart image script first end) else None
+chart_of image script first end = None
+
+abbrev pub chart_row : List (List ℕ) → Option Call
+chart_row (image ∷ script ∷ first ∷ end ∷ []) = chart_of image script (number_up_to 999999999 first) (number_up_to 1000000000 end)
+chart_row words = None
+
+abbrev pub table_row : List (List ℕ) → Option Call
+table_row (tasks ∷ program ∷ []) = Some (table tasks program)
+table_row words = None
+
+-- the commands on an image, its text or a task table: the word of each, and its row
 abbrev pub image_row_of : (word : List ℕ) (words : List (List ℕ)) → Option Call
 image_row_of word words =
     if bytes_eq word (codes "run") then run_row words else
     (if bytes_eq word (codes "watch") then watch_row words else
+    (if bytes_eq word (codes "chart") then chart_row words else
     (if bytes_eq word (codes "migrate") then migrate_row words else
     (if bytes_eq word (codes "dis") then dis_row words else
-    (if bytes_eq word (codes "asm") then asm_row words else None))))
+    (if bytes_eq word (codes "asm") then asm_row words else
+    (if bytes_eq word (codes "table") then table_row words else None))))))
 
 -- the table: first the commands on a program, then the others
 abbrev pub row_of : List (List ℕ) → Option Call
@@ -148,6 +163,8 @@ call_of (command.Replay program script log) = replay program.now script.now log.
 call_of (command.Edf program script) = edf program.now script.now
 call_of (command.Why program overhead) = why program.now overhead
 call_of (command.Fit program overhead) = fit program.now overhead
+call_of (command.Chart image script first end) = chart image.now script.now first end
+call_of (command.Table tasks program) = table tasks.now program.now
 
 -- the words are the row of `make`, with a key of 64 bits and 1 to 64 processes, in decimal and
 -- without leading zeros, and none is empty or begins with a dash

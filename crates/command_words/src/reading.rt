@@ -30,10 +30,12 @@ fn are_words(words: &[String]) -> bool
 /// - `go P I S`, `check P`, `compile P I`, `json P`, `slack P`, `why P` or `fit P`, each also with
 ///   an overhead K behind it, from 0 to 1000 in decimal and without leading zeros, and 0 where it is
 ///   left out;
-/// - `print P`, `run I S`, `migrate I J`, `asm A I` or `dis I A`;
+/// - `print P`, `run I S`, `migrate I J`, `asm A I`, `dis I A` or `table F P`;
 /// - `replay P S L` or `edf P S`;
 /// - `watch I S T` or `watch I S @A`, with a tick T from 0 to 1,000,000,000 or an address A from 0 to
 ///   65534, in decimal and without leading zeros;
+/// - `chart I S A B`, with ticks A from 0 to 999,999,999 and B from 1 to 1,000,000,000, in decimal and
+///   without leading zeros, A below B;
 /// - `make K N P S`, with a key K from 0 to 18446744073709551615 and a number N of processes from 1
 ///   to 64, in decimal and without leading zeros.
 ///

@@ -2,7 +2,7 @@
 
 ghost use Rattle.std.specs.Prelude.{◌≡◌, ◌≤◌, ◌<◌, ◌^◌, map, option_map, string_bytes, IfSome};
 ghost use Rattle.command_words.specs.Calls.{over_of};
-ghost use Rattle.command_words.specs.Words.{number_up_to, overhead_of, last_overhead, go_row, check_row, compile_row, json_row, slack_row, print_row, run_row, migrate_row, asm_row, dis_row, watch_row, replay_row, edf_row, why_row, fit_row, stop_of, image_row_of, row_of, call_of};
+ghost use Rattle.command_words.specs.Words.{number_up_to, overhead_of, last_overhead, go_row, check_row, compile_row, json_row, slack_row, print_row, run_row, migrate_row, asm_row, dis_row, watch_row, replay_row, edf_row, why_row, fit_row, chart_row, table_row, stop_of, image_row_of, row_of, call_of};
 
 use crate::stop::Breakpoint;
 use crate::words_command::Command;
@@ -324,7 +324,46 @@ fn fit(words: &[String]) -> Option<Command<'_>>
     })
 }
 
-/// The row of the word of a command on an image or its text, if it is one.
+/// What `chart` is with these words behind it.
+fn chart(words: &[String]) -> Option<Command<'_>>
+    ensures row { option_map call_of result ≡ chart_row (map string_bytes words.now) }
+    ensures over { IfSome result (λ c. over_of (call_of c) ≤ 1000) }
+{
+    let [image, script, first, end] = words else {
+        return None;
+    };
+    let Some(first) = numeral(first.as_bytes(), GREATEST_TICK - 1) else {
+        return None;
+    };
+    let Some(end) = numeral(end.as_bytes(), GREATEST_TICK) else {
+        return None;
+    };
+    if first >= end {
+        return None;
+    }
+    Some(Command::Chart {
+        image: image.as_str(),
+        script: script.as_str(),
+        first,
+        end,
+    })
+}
+
+/// What `table` is with these words behind it.
+fn table(words: &[String]) -> Option<Command<'_>>
+    ensures row { option_map call_of result ≡ table_row (map string_bytes words.now) }
+    ensures over { IfSome result (λ c. over_of (call_of c) ≤ 1000) }
+{
+    let [tasks, program] = words else {
+        return None;
+    };
+    Some(Command::Table {
+        tasks: tasks.as_str(),
+        program: program.as_str(),
+    })
+}
+
+/// The row of the word of a command on an image, its text or a task table, if it is one.
 fn image_row<'x>(word: &str, rest: &'x [String]) -> Option<Command<'x>>
     ensures row { option_map call_of result ≡ image_row_of word.now (map string_bytes rest.now) }
     ensures over { IfSome result (λ c. over_of (call_of c) ≤ 1000) }
@@ -333,12 +372,16 @@ fn image_row<'x>(word: &str, rest: &'x [String]) -> Option<Command<'x>>
         run(rest)
     } else if word == "watch" {
         watch(rest)
+    } else if word == "chart" {
+        chart(rest)
     } else if word == "migrate" {
         migrate(rest)
     } else if word == "dis" {
         dis(rest)
     } else if word == "asm" {
         asm(rest)
+    } else if word == "table" {
+        table(rest)
     } else {
         None
     }

@@ -85,4 +85,16 @@ pub enum Command<'a> {
         program: &'a str,
         overhead: u16,
     },
+    /// Draws the run of a stored image over a script, from its first tick on, below the end.
+    Chart {
+        image: &'a str,
+        script: &'a str,
+        first: u64,
+        end: u64,
+    },
+    /// Stores the program of a task table.
+    Table {
+        tasks: &'a str,
+        program: &'a str,
+    },
 }

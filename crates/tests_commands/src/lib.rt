@@ -5,6 +5,8 @@
 #![tactic(auto)]
 
 #[cfg(test)]
+mod charts;
+#[cfg(test)]
 mod commands;
 #[cfg(test)]
 mod devices;
@@ -12,5 +14,7 @@ mod devices;
 mod earliest;
 #[cfg(test)]
 mod stops;
+#[cfg(test)]
+mod tables;
 #[cfg(test)]
 mod words;

@@ -33,6 +33,10 @@ const COMMANDS: &[&str] = &[
     "why p 1000",
     "fit p",
     "fit p 0",
+    "chart i s 0 1",
+    "chart i s 999999999 1000000000",
+    "table f p",
+    "table p p",
 ];
 
 /// Words that are in no row of the table: a file or a number too few or too many, a number that is
@@ -82,6 +86,15 @@ const OTHERS: &[&str] = &[
     "why p i",
     "fit p 0 0",
     "fit p 01",
+    "chart i s 0",
+    "chart i s 5 5",
+    "chart i s 00 5",
+    "chart i s 0 1000000001",
+    "chart i s 1000000000 1000000000",
+    "chart i s 0 1 2",
+    "table f",
+    "table f p 1",
+    "table -f p",
     "Check p",
     "checks p",
     "-check p",

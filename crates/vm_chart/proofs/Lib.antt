@@ -1,1 +1,4 @@
 pub mod Alike
+pub mod Ending
+pub mod Few
+pub mod Tracing

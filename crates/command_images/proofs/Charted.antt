@@ -1,0 +1,86 @@
+-- What is due of a run that is drawn, by what files hold.
+use Rattle.std.proofs.Common.{◌≡◌, ◌≢◌, ℕ, List, Option, Some, None, Bool, true, false, ◌⊎◌, Ok, Err, inl, inr, refl, subst}
+use Rattle.std.specs.Prelude.{Result, IfOk, IsSomeAnd}
+use Rattle.std.specs.Bool.{OnTrue}
+use Rattle.image.specs.declared.raw.RawImage.{RawImage}
+use Rattle.outside.specs.Outside.{FilesState, AllStay, NoneFell, Rose}
+use Rattle.script.specs.declared.fault.ScriptFault.{ScriptFault}
+use Rattle.script.specs.declared.fault.ScriptFault.TheVariants as script_fault
+use Rattle.script.specs.declared.script.Script.{Script}
+use Rattle.script.specs.Faults.{IsFault}
+use Rattle.script.specs.Scripts.{IsScript}
+use Rattle.command_words.specs.Calls as call
+use Rattle.command_due.specs.Script.{script_fault_line}
+use Rattle.command_due.specs.CommandsDue.{Outcome, IsImageFile, IsImageRefused}
+use Rattle.command_due.specs.ChartDue.{IsChartDue, chart_refused, chart_bad_script, charted}
+use Rattle.command_answers.specs.declared.act.PreparedCall.{PreparedCall}
+use Rattle.command_answers.specs.declared.status.Status.TheVariants as status
+use Rattle.command_answers.specs.Acts.{outcome_of}
+use Rattle.command_answers.specs.declared.prepare_error.PrepareError.{PrepareError}
+use Rattle.command_answers.specs.declared.prepare_error.PrepareError.TheVariants as unready
+use Rattle.command_answers.specs.Acting.{IsQuiet, puts}
+use Rattle.command_answers.specs.Prepared.{Prepares, ReadsFailed}
+use Rattle.command_answers.proofs.Coming.{put_comes_to}
+use Rattle.command_answers.proofs.Held.{acted, of_held, rose_since}
+use Rattle.command_images.specs.Charted.{IsDrawnDue, IsDrawnOver, misspelled, drawn}
+
+-- ---- scripts
+
+pub drawn_over : {E : Type 0} (a b : ℕ) (raw : RawImage) (script : Script) (P : List ℕ → Type 0) (made : Result PreparedCall E)
+    → ((text : List ℕ) → P text → IsScript raw.names text script.lines script.end) → IfOk made (λ act. IsDrawnOver a b raw script (outcome_of act))
+    → IfOk made (λ act. (text : List ℕ) → P text → IsDrawnDue a b raw text (outcome_of act))
+drawn_over a b raw script P (Ok act) is_script is = λ text p. drawn script.lines script.end (is_script text p) is
+drawn_over a b raw script P (Err e) is_script is = tt
+
+pub bad_drawn : {E : Type 0} (a b : ℕ) (raw : RawImage) (why : ScriptFault) (P : List ℕ → Type 0) (made : Result PreparedCall E)
+    → ((text : List ℕ) → P text → (why ≡ script_fault.Memory) ⊎ IsFault raw.names text why)
+    → IfOk made (λ act. act ≡ puts status.Script (script_fault_line why)) → IfOk made (λ act. why ≢ script_fault.Memory)
+    → IfOk made (λ act. (text : List ℕ) → P text → IsDrawnDue a b raw text (outcome_of act))
+bad_drawn a b raw why P (Ok act) answer is other = λ text p. elim (answer text p) [
+  | inl memory ↦ absurd (other memory)
+  | inr found ↦ misspelled why (record { is = found; is_fault = other }) (put_comes_to status.Script (script_fault_line why) act is)
+]
+bad_drawn a b raw why P (Err e) answer is other = tt
+
+-- ---- `chart`
+
+chart_over : (a b : ℕ) (bytes other : List ℕ) (raw : RawImage) (outcome : Outcome) → IsImageFile bytes raw → IsDrawnDue a b raw other outcome → IsChartDue a b (Some bytes) (Some other) outcome
+chart_over a b bytes other raw outcome file (misspelled fault wrong is) = chart_bad_script bytes other raw fault refl file refl wrong is
+chart_over a b bytes other raw outcome file (drawn lines end script is) = charted bytes other raw lines end refl file refl script is
+
+chart_due : (tells : Bool) (a b : ℕ) (held script mid : Option (List ℕ)) (P : List ℕ → Type 0) (raw : RawImage) (outcome : Outcome)
+    → OnTrue tells (IsSomeAnd held P) → ((bytes : List ℕ) → P bytes → IsImageFile bytes raw)
+    → OnTrue tells (IsSomeAnd mid (λ other. IsDrawnDue a b raw other outcome)) → mid ≡ script → OnTrue tells (IsChartDue a b held script outcome)
+chart_due true a b (Some bytes) script mid P raw outcome is loads due stays = by script (subst (λ (o : Option (List ℕ)). IsSomeAnd o (λ other. IsDrawnDue a b raw other outcome)) stays due)
+  where
+    by : (o : Option (List ℕ)) → IsSomeAnd o (λ other. IsDrawnDue a b raw other outcome) → IsChartDue a b (Some bytes) o outcome
+    by (Some other) due = chart_over a b bytes other raw outcome (loads bytes is) due
+    by None due = absurd due
+chart_due true a b None script mid P raw outcome is loads due stays = absurd is
+chart_due false a b held script mid P raw outcome is loads due stays = tt
+
+pub chart_stops : (tells : Bool) (a b : ℕ) (held script : Option (List ℕ)) (P : List ℕ → Type 0) (outcome : Outcome)
+    → OnTrue tells (IsSomeAnd held P) → ((bytes : List ℕ) → P bytes → IsImageRefused bytes outcome) → OnTrue tells (IsChartDue a b held script outcome)
+chart_stops true a b (Some bytes) script P outcome is refused = chart_refused bytes refl (refused bytes is)
+chart_stops true a b None script P outcome is refused = absurd is
+chart_stops false a b held script P outcome is refused = tt
+
+chart_script_failed : (tells : Bool) (image script : List ℕ) (a b : ℕ) (before mid now : FilesState) (P : List ℕ → Type 0) (raw : RawImage)
+    → OnTrue tells (IsSomeAnd (before.held image) P) → ((bytes : List ℕ) → P bytes → IsImageFile bytes raw)
+    → NoneFell before.read_faults mid.read_faults → Rose (mid.read_faults script) (now.read_faults script) → ReadsFailed tells (call.chart image script a b) before now
+chart_script_failed tells image script a b before mid now P raw is loads first rose =
+    inr (inl (
+      rose_since (before.read_faults script) (mid.read_faults script) (now.read_faults script) (first script) rose,
+      of_held tells (before.held image) P (λ bytes. (r : RawImage) × IsImageFile bytes r) is (λ bytes p. (raw, loads bytes p)),
+    ))
+
+pub chart_prepares : (tells : Bool) (image script : List ℕ) (a b : ℕ) (before mid now : FilesState) (P : List ℕ → Type 0) (raw : RawImage) (result : Result PreparedCall PrepareError)
+    → OnTrue tells (IsSomeAnd (before.held image) P) → ((bytes : List ℕ) → P bytes → IsImageFile bytes raw) → AllStay before.held mid.held → NoneFell before.read_faults mid.read_faults
+    → IfOk result (λ act. OnTrue tells (IsSomeAnd (mid.held script) (λ other. IsDrawnDue a b raw other (outcome_of act)))) → IfOk result IsQuiet
+    → (result ≡ Err unready.Unread → Rose (mid.read_faults script) (now.read_faults script)) → Prepares tells (call.chart image script a b) before now result
+chart_prepares tells image script a b before mid now P raw (Ok act) is loads stays fell due quiet failed =
+    acted tells (call.chart image script a b) before act (quiet None)
+    (chart_due tells a b (before.held image) (before.held script) (mid.held script) P raw (outcome_of act) is loads due (stays script))
+chart_prepares tells image script a b before mid now P raw (Err unready.Unread) is loads stays fell due quiet failed =
+    chart_script_failed tells image script a b before mid now P raw is loads fell (failed refl)
+chart_prepares tells image script a b before mid now P raw (Err unready.Memory) is loads stays fell due quiet failed = tt

@@ -1,0 +1,125 @@
+//! `chart`.
+
+ghost use Rattle.std.specs.Prelude.{◌∷◌, [], ◌≡◌, ℕ, List, None, IfOk, IsSomeAnd};
+ghost use Rattle.std.specs.Bool.{OnTrue};
+ghost use Rattle.command_answers.specs.Acts.{outcome_of};
+ghost use Rattle.outside.specs.Outside.{AllStay, NoneFell, Rose};
+ghost use Rattle.script.specs.Scripts.{longest_text};
+ghost use Rattle.command_words.specs.Calls as call;
+ghost use Rattle.command_answers.specs.Acting.{IsQuiet};
+ghost use Rattle.command_answers.specs.Contents.{IsContent};
+ghost use Rattle.command_answers.specs.Prepared.{Prepares};
+ghost use Rattle.command_answers.specs.Tried.{HasTried, status_of};
+ghost use Rattle.command_answers.specs.Runnable.{IsRunnable, RunsRaw};
+ghost use Rattle.command_images.specs.Charted.{IsDrawnDue, IsDrawnOver};
+
+use crate::images::{load_content, refuse_image};
+use command_answers::{
+    Content, LONGEST_IMAGE, LONGEST_SCRIPT, PrepareError, PreparedCall, Status, judge_script, put,
+    read, refuse_script,
+};
+use image::RawImage;
+use outside::Files;
+use script::Script;
+use std::alloc::{AllocError, Global};
+use vm_chart::chart;
+use vm_plan::plan::plan_of;
+
+/// The act that puts the chart of the run of an image over a script.
+fn put_drawn<'a>(
+    alloc: Global,
+    raw: &RawImage,
+    script: &Script,
+    first: u64,
+    end: u64,
+) -> Result<PreparedCall<'a>, AllocError>
+    requires { RunsRaw raw.now script.now }
+    ensures told { IfOk result (λ act. IsDrawnOver first end raw.now script.now (outcome_of act)) }
+    ensures quiet { IfOk result IsQuiet }
+{
+    let plan = plan_of(alloc, raw)?;
+    let text = chart(alloc, raw, &plan, script, first, end)?;
+    Ok(put(Status::Done, text))
+}
+
+/// The act of `chart` for what the script's file holds, where the image is a valid one.
+fn chart_act<'a>(
+    alloc: Global,
+    raw: &RawImage,
+    content: &Content,
+    first: u64,
+    end: u64,
+) -> Result<PreparedCall<'a>, AllocError>
+    requires { IsRunnable raw.now }
+    ensures due { IfOk result (λ act. (text : List ℕ) → IsContent longest_text content.now text →
+        IsDrawnDue first end raw.now text (outcome_of act)) }
+    ensures quiet { IfOk result IsQuiet }
+{
+    match judge_script(alloc, content, &raw.names) {
+        Ok(script) => put_drawn(alloc, raw, &script, first, end),
+        Err(fault) => refuse_script(alloc, &fault),
+    }
+}
+
+/// The second half of `chart`: the script of an image that is valid.
+#[tactic(auto, using(command_answers::proofs::Trying::tried_last))]
+fn chart_on<'a, F: Files>(
+    alloc: Global,
+    raw: &RawImage,
+    script: &str,
+    first: u64,
+    end: u64,
+    files: &mut F,
+) -> Result<PreparedCall<'a>, PrepareError>
+    requires { IsRunnable raw.now }
+    ensures due { IfOk result (λ act. OnTrue F.tells
+        (IsSomeAnd ((F.state files.old).held script.now)
+        (λ text. IsDrawnDue first end raw.now text (outcome_of act)))) }
+    ensures quiet { IfOk result IsQuiet }
+    ensures unread { result ≡ Err PrepareError.Unread →
+        Rose ((F.state files.old).read_faults script.now)
+        ((F.state files.new).read_faults script.now) }
+    ensures files { AllStay (F.state files.old).held (F.state files.new).held }
+    ensures read_counts { NoneFell (F.state files.old).read_faults (F.state files.new).read_faults }
+    ensures write_counts { NoneFell (F.state files.old).write_faults
+        (F.state files.new).write_faults }
+    ensures reads { HasTried (script.now ∷ []) (F.state files.old).reads
+        (F.state files.new).reads (status_of result) }
+    ensures writes { (F.state files.new).writes ≡ (F.state files.old).writes }
+{
+    let content = read(files, script, LONGEST_SCRIPT)?;
+    match chart_act(alloc, raw, &content, first, end) {
+        Ok(act) => Ok(act),
+        Err(_) => Err(PrepareError::Memory),
+    }
+}
+
+/// `chart`: the image is read and judged, and the script only where the image is valid.
+#[tactic(auto, using(command_answers::proofs::Trying::tried_first, command_answers::proofs::Trying::tried_on, command_answers::proofs::Trying::tried_alone))]
+pub fn prepare_chart<'a, F: Files>(
+    alloc: Global,
+    image: &str,
+    script: &str,
+    first: u64,
+    end: u64,
+    files: &mut F,
+) -> Result<PreparedCall<'a>, PrepareError>
+    ensures prepared { Prepares F.tells (call.chart image.now script.now first end)
+        (F.state files.old) (F.state files.new) result }
+    ensures files { AllStay (F.state files.old).held (F.state files.new).held }
+    ensures read_counts { NoneFell (F.state files.old).read_faults (F.state files.new).read_faults }
+    ensures write_counts { NoneFell (F.state files.old).write_faults
+        (F.state files.new).write_faults }
+    ensures reads { HasTried (image.now ∷ script.now ∷ []) (F.state files.old).reads
+        (F.state files.new).reads (status_of result) }
+    ensures writes { (F.state files.new).writes ≡ (F.state files.old).writes }
+{
+    let content = read(files, image, LONGEST_IMAGE)?;
+    match load_content(alloc, &content) {
+        Ok(raw) => chart_on(alloc, &raw, script, first, end, files),
+        Err(fault) => match refuse_image(alloc, fault) {
+            Ok(act) => Ok(act),
+            Err(_) => Err(PrepareError::Memory),
+        },
+    }
+}
