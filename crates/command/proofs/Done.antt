@@ -11,6 +11,7 @@ use Rattle.syntax.specs.Tokens.{tokens}
 use Rattle.syntax_printer.specs.Canonical.{canonical}
 use Rattle.syntax_printer.specs.ReadBack.{AreSpelled, HasTree, IsPrinted}
 use Rattle.printed_law.specs.Printed.{PrintedTreesAreWritten}
+use Rattle.table_written_law.specs.Written.{IsWrittenTable}
 use Rattle.image.specs.Named.{NamedImage}
 use Rattle.image.specs.Raw.{image_of, named_of}
 use Rattle.image.specs.declared.raw.RawImage.{RawImage}
@@ -109,12 +110,13 @@ keeps limits safe suit bytes raw file text lines end script =
 
 -- ---- canonical texts
 
--- the laws of the printer
+-- the laws of the printer, and of the texts of tables
 pub record Printing : Type 0 where
   pub spelled : (text : List ℕ) (toks : List Token) → tokens text toks → AreSpelled text toks
   pub tokens_of : (g : Prog Place) → IsPrinted g → (toks : List Token) × tokens (canonical (bare g)) toks
   pub tree_of : (g : Prog Place) → IsPrinted g → (toks : List Token) → tokens (canonical (bare g)) toks → HasTree (canonical (bare g)) toks g
   pub again : PrintedTreesAreWritten
+  pub tables : IsWrittenTable
 
 reads_back : Printing → (text : List ℕ) (g : Prog Place) → IsWritten text g → ReadsBack g
 reads_back laws text g w short =
@@ -340,14 +342,19 @@ module _ (laws : Printing) (building : Building) (before now : Outside) (o : Out
 
   tabled_whole : (tasks program : List ℕ) (lines : List ℕ) → before.files.held tasks ≡ Some lines → Stores o.image (Some program) before.files.held now.files.held → IsTableDue lines o → HasTabled tasks program before now
   tabled_whole tasks program lines is kept (table_faulty number line fault same) = absurd (let two = status_of o _ same in omega (arith, two, zero))
-  tabled_whole tasks program lines is kept (tabled t is_table same) = record {
-    lines = lines;
-    held = is;
-    table = t;
-    is_table = is_table;
-    is_stored = stored_bytes o.image (table_text t) program before.files.held now.files.held (image_is o _ same) kept;
-    put = put_is before now o [] (text_of o _ same) put;
-  }
+  tabled_whole tasks program lines is kept (tabled t is_table same) =
+      let full = laws.tables t is_table.begun is_table.some in
+      record {
+        lines = lines;
+        held = is;
+        table = t;
+        is_table = is_table;
+        is_stored = stored_bytes o.image (table_text t) program before.files.held now.files.held (image_is o _ same) kept;
+        tree = full.tree;
+        written = full.written;
+        same = full.same;
+        put = put_is before now o [] (text_of o _ same) put;
+      }
 
   migrated_whole : ImagesReadAreHeldAgain → (image target : List ℕ) (bytes : List ℕ) → before.files.held image ≡ Some bytes → Stores o.image (Some target) before.files.held now.files.held
       → IsMigrateDue bytes o → HasMigrated image target before now

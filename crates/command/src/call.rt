@@ -36,6 +36,7 @@ use printed_law::printed_programs::printed_trees_are_written;
 use sched_program_law::one_judgement::never_in_time_and_not;
 use std::alloc::Global;
 use syntax_printer::{reads_back, tokens_are_spelled};
+use table_written_law::table_text_is_written;
 use valid_image_law::validity_law::every_valid_image_is_safe_and_in_time;
 use vm_law::suitable_scripts::scripts_suit;
 
@@ -162,6 +163,7 @@ pub fn rte<F: Files, O: Sink>(alloc: Global, words: &[String], files: &mut F, ou
     bounds_are_of_the_text();
     reads_back();
     printed_trees_are_written();
+    table_text_is_written();
     tokens_are_spelled();
     carry_out(alloc, words, files, out)
 }

@@ -40,7 +40,7 @@ use Rattle.sched_program.specs.Tasks as of_text
 use Rattle.run_chart.specs.Chart.{chart_text}
 use Rattle.table_format.specs.declared.table.TaskTable.{TaskTable}
 use Rattle.table_format.specs.Rules.{IsTable}
-use Rattle.table_format.specs.Program.{table_text}
+use Rattle.table_format.specs.Program.{program_of, table_text}
 use Rattle.sched_why.specs.Levels.{IsWhyText}
 use Rattle.sched_why.specs.Fits.{IsFitText}
 use Rattle.command_answers.specs.Runs.{IsEdfRun}
@@ -222,13 +222,17 @@ pub record HasCharted (image script : List ℕ) (first behind : ℕ) (before now
   pub script_written : IsScript raw.names text lines end
   pub put : Appends before.out.taken now.out.taken (chart_text (named_of raw) (run_of lines end) first behind)
 
--- `table`: a text is a task table, the text of its program is stored, and nothing is put
+-- `table`: a text is a task table, the text of its program is stored, and nothing is put; what is
+-- stored is a program text, of a tree that is the table's program apart from places
 pub record HasTabled (tasks program : List ℕ) (before now : Outside) : Type 0 where
   pub lines : List ℕ
   pub held : before.files.held tasks ≡ Some lines
   pub table : TaskTable
   pub is_table : IsTable lines table
   pub is_stored : now.files.held program ≡ Some (table_text table)
+  pub tree : Prog Place
+  pub written : IsWritten (table_text table) tree
+  pub same : bare tree ≡ program_of table
   pub put : Appends before.out.taken now.out.taken []
 
 -- what a call that answers 0 has done

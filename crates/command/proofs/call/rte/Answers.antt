@@ -14,7 +14,7 @@ returns-clause-complete g c = λ call is. completes g.F.Files.tells call _ _ _ (
 -- status 0, by what is due and the laws of images
 pub returns-clause-done : goal.returns-clause-done
 returns-clause-done g c = λ call is.
-    has_done (record { spelled = c.tokens_are_spelled.ensures; tokens_of = c.reads_back.ensures.tokens; tree_of = c.reads_back.ensures.tree; again = c.printed_trees_are_written.ensures })
+    has_done (record { spelled = c.tokens_are_spelled.ensures; tokens_of = c.reads_back.ensures.tokens; tree_of = c.reads_back.ensures.tree; again = c.printed_trees_are_written.ensures; tables = c.table_text_is_written.ensures })
     (record { faithful = c.built_images_are_faithful.ensures; in_time = c.built_is_in_time.ensures; bounds = c.bounds_are_of_the_text.ensures })
     c.images_told_are_held.ensures c.images_read_are_held_again.ensures c.built_images_are_held.ensures c.images_read_are_in_their_ranges.ensures.limits c.every_valid_image_is_safe_and_in_time.ensures c.scripts_suit.ensures.held c.feasible_texts_keep_their_word.ensures
     g.F.Files.tells call _ _ _ (command_low c.overheads_are_decimal.ensures _ call is) (c.carry_out.ensures.went call is)
