@@ -141,7 +141,7 @@ module _ (images : ImagesHeldAreOne) (apart : ImageFilesAreNotRefused) (refusals
       loaded o (migrate_refused is) = unfit is
       loaded o (migrated raw is was) = fit raw is was
 
-  -- what comes of an image and of a script is one, where what comes of an image and of its script is
+  -- what is due by the file of an image is one, where what comes of the image is
   of_image : (image : Option (List ℕ)) (Due : Outcome → Type 0) (Comes : NamedImage → Outcome → Type 0) → ComesOnce Comes
       → ((o : Outcome) → Due o → (bytes : List ℕ) × (image ≡ Some bytes) × Loaded bytes Comes o)
       → (outcome other : Outcome) → Due outcome → Due other → outcome ≡ other
