@@ -10,16 +10,15 @@ use Rattle.script.specs.declared.script.ScriptLine.{ScriptLine}
 use Rattle.sched_table.specs.Report.{report_text}
 use Rattle.sched_table.specs.Json.{report_json}
 use Rattle.command_words.specs.Calls.{Call, go, check, compile, json, slack, print, run, migrate, asm, dis, watch, replay, edf, why, fit, chart, table}
-use Rattle.command_due.specs.CommandsDue.{Outcome, IsImageRefused, misread as misread_image, invalid, IsReportDue, IsPrintDue, IsCompileDue, IsMigrateDue}
+use Rattle.command_due.specs.CommandsDue.{Outcome, IsReportDue, IsPrintDue, IsCompileDue, IsMigrateDue}
 use Rattle.command_due.specs.SpareDue.{IsSlackDue}
 use Rattle.command_due.specs.AsmDue.{IsAsmDue, IsDisDue}
 use Rattle.command_due.specs.ReplayDue.{IsJudged, misread, is_refused, is_run, IsReplayDue, replay_faulty, replay_bad_script, replay_judged}
 use Rattle.command_due.specs.EdfDue.{IsEdfDue, edf_faulty, edf_waits, edf_unfit, edf_bad_script, edf_ran}
 use Rattle.command_due.specs.WhyDue.{IsWhyDue, why_faulty, why_late, why_in_time}
 use Rattle.command_due.specs.FitDue.{IsFitDue, fit_faulty, fitted}
-use Rattle.command_due.specs.ChartDue.{IsChartDue, chart_refused, chart_bad_script, charted}
 use Rattle.command_due.specs.TableDue.{IsTableDue}
-use Rattle.command_due_law.specs.DueOnce.{ReportsAreOne, SlackIsOne, PrintIsOne, CompileIsOne, GoIsOne, RunIsOne, MigrateIsOne, AsmIsOne, DisIsOne, WatchIsOne, TableIsOne}
+use Rattle.command_due_law.specs.DueOnce.{ReportsAreOne, SlackIsOne, PrintIsOne, CompileIsOne, GoIsOne, RunIsOne, MigrateIsOne, AsmIsOne, DisIsOne, WatchIsOne, ChartIsOne, TableIsOne}
 use Rattle.command_answers.specs.Files.{Held, IsDue, target_of}
 use Rattle.command_answers.specs.Went.{Stores, IsWhole, IsCut, Went}
 
@@ -35,6 +34,7 @@ pub record Laws : Type 0 where
   pub asm : AsmIsOne
   pub dis : DisIsOne
   pub watch : WatchIsOne
+  pub chart : ChartIsOne
   pub table : TableIsOne
 
 of_held : (Due : List ℕ → Outcome → Type 0) (held : Option (List ℕ)) (o p : Outcome) → ((text : List ℕ) → Due text o → Due text p → o ≡ p)
@@ -64,7 +64,7 @@ edf_stores program script o (edf_unfit text n answer is judged unfit same) = ima
 edf_stores program script o (edf_bad_script text other n points fault is feasible that wrong same) = image_is o _ same refl
 edf_stores program script o (edf_ran text other n points lines end is feasible that s same) = image_is o _ same refl
 
--- nor do `why`, `fit` and `chart`
+-- nor do `why` and `fit`
 why_stores : (over : ℕ) (text : List ℕ) (o : Outcome) → IsWhyDue over text o → o.image ≡ None
 why_stores over text o (why_faulty number place fault same) = image_is o _ same refl
 why_stores over text o (why_late tree parts written late told same) = image_is o _ same refl
@@ -73,15 +73,6 @@ why_stores over text o (why_in_time tree parts written in_time told same) = imag
 fit_stores : (over : ℕ) (text : List ℕ) (o : Outcome) → IsFitDue over text o → o.image ≡ None
 fit_stores over text o (fit_faulty number place fault same) = image_is o _ same refl
 fit_stores over text o (fitted tree fits written told same) = image_is o _ same refl
-
-refused_stores : (bytes : List ℕ) (o : Outcome) → IsImageRefused bytes o → o.image ≡ None
-refused_stores bytes o (misread_image number offset fault same) = image_is o _ same refl
-refused_stores bytes o (invalid raw fault held first same) = image_is o _ same refl
-
-chart_stores : (first end : ℕ) (image script : Option (List ℕ)) (o : Outcome) → IsChartDue first end image script o → o.image ≡ None
-chart_stores first end image script o (chart_refused bytes is r) = refused_stores bytes o r
-chart_stores first end image script o (chart_bad_script bytes other raw fault is file that f same) = image_is o _ same refl
-chart_stores first end image script o (charted bytes other raw lines stop is file that s same) = image_is o _ same refl
 
 held_stores : (Due : List ℕ → Outcome → Type 0) (held : Option (List ℕ)) (o : Outcome) → ((text : List ℕ) → Due text o → o.image ≡ None) → IsSomeAnd held (λ text. Due text o) → o.image ≡ None
 held_stores Due None o none d = absurd d
@@ -104,7 +95,7 @@ due_is_one laws (replay program script log) held o p d e none = replay_stores (h
 due_is_one laws (edf program script) held o p d e none = edf_stores (held program) (held script) o d
 due_is_one laws (why program over) held o p d e none = held_stores (IsWhyDue over) (held program) o (λ text. why_stores over text o) d
 due_is_one laws (fit program over) held o p d e none = held_stores (IsFitDue over) (held program) o (λ text. fit_stores over text o) d
-due_is_one laws (chart image script first end) held o p d e none = chart_stores first end (held image) (held script) o d
+due_is_one laws (chart image script first end) held o p d e none = image_is o p (laws.chart first end (held image) (held script) o p d e) none
 due_is_one laws (table tasks program) held o p d e none = image_is o p (of_held IsTableDue (held tasks) o p (λ lines. laws.table lines o p) d e) none
 
 nothing : (image target : Option (List ℕ)) (held held' : Held) → image ≡ None → Stores image target held held' → AllStay held held'

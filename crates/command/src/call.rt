@@ -22,8 +22,9 @@ use built_tasks_law::judged_by_text::{
 };
 use command_answers::Status;
 use command_due_law::one_answer::{
-    asm_is_one, compile_is_one, dis_is_one, go_is_one, migrate_is_one, print_is_one,
-    reports_are_one, run_is_one, slack_is_one, table_is_one, watch_is_one, written_once, written_or_faulty,
+    asm_is_one, chart_is_one, compile_is_one, dis_is_one, go_is_one, migrate_is_one, print_is_one,
+    reports_are_one, run_is_one, slack_is_one, table_is_one, watch_is_one, written_once,
+    written_or_faulty,
 };
 use command_due_law::one_judgement::answers_of_texts_are_one;
 use command_words::words::overheads_are_decimal;
@@ -58,8 +59,8 @@ use vm_law::suitable_scripts::scripts_suit;
 ///   over the script, and else the line that is refused;
 /// - `why P [K]` puts the bounds of the program, taken apart, and `fit P [K]` the greatest overhead,
 ///   and the greatest cost and suspension of each process, with which it is in time;
-/// - `chart I S A B` puts a drawing of the run of the image in file I over the script in file S, from
-///   tick A on, below tick B;
+/// - `chart I S A B` draws the run of the image in file I over the script in file S, from tick A on,
+///   below tick B;
 /// - `table F P` stores the program of the task table in file F in file P;
 /// - `edf P S` puts the report on the demand of program P, which has no wait, and the log of its run
 ///   over script S under earliest deadline first;
@@ -70,9 +71,9 @@ use vm_law::suitable_scripts::scripts_suit;
 /// All other words are refused, as is a word that is empty or begins with `-`.
 ///
 /// The answer is the first status that is due in the order of the steps: the words, reading P, I, A
-/// or F, its faults, its time, reading S, its faults, reading L, its faults and the verdict, storing,
-/// putting. `make` reads nothing, and its texts have no fault. The want of memory, 8, may come at
-/// any step.
+/// or F, its faults, its time, reading S, its faults, reading L, its faults and the verdict,
+/// storing, putting. `make` reads nothing, and its texts have no fault. The want of memory, 8, may
+/// come at any step.
 pub fn rte<F: Files, O: Sink>(alloc: Global, words: &[String], files: &mut F, out: &mut O) -> Status
     // A call of a command went as is due, by what its files hold.
     ensures went { (call : Call) → IsCommand words.now call → Went F.tells call
@@ -148,6 +149,7 @@ pub fn rte<F: Files, O: Sink>(alloc: Global, words: &[String], files: &mut F, ou
     asm_is_one();
     dis_is_one();
     watch_is_one();
+    chart_is_one();
     table_is_one();
     images_told_are_held();
     images_read_are_held_again();

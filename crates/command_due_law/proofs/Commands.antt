@@ -14,7 +14,10 @@ use Rattle.command_due.specs.Source.{report_of, Style, IsTimelyText}
 use Rattle.command_due.specs.CommandsDue.{Outcome, told, stored, log, done, IsRefused, IsReportDue, report_refused, report_timely, IsPrintDue, print_faulty, printed, IsCompileDue, compile_refused, compiled, IsGoDue, go_refused, go_bad_script, went, IsImageFile, IsImageRefused, IsRunDue, run_refused, run_bad_script, ran, IsMigrateDue, migrate_refused, migrated}
 use Rattle.command_due.specs.SpareDue.{IsSlackDue, slack_refused, slack_told}
 use Rattle.command_due.specs.Lines.{IsSlackText}
-use Rattle.command_due_law.specs.DueOnce.{WrittenOnce, WrittenOrFaulty, TextsHaveOneFault, TimelyTextsHaveOneImage, RefusalsAreOne, TimelyTextsAreNotRefused, ImagesHeldAreOne, ImageFilesAreNotRefused, ImageRefusalsAreOne, ReportsAreOne, SlackTextsAreOne, SlackIsOne, PrintIsOne, CompileIsOne, GoIsOne, RunIsOne, MigrateIsOne}
+use Rattle.command_due.specs.Script.{run_of}
+use Rattle.command_due.specs.ChartDue.{IsChartDue, chart_refused, chart_bad_script, charted}
+use Rattle.run_chart.specs.Chart.{chart_text}
+use Rattle.command_due_law.specs.DueOnce.{WrittenOnce, WrittenOrFaulty, TextsHaveOneFault, TimelyTextsHaveOneImage, RefusalsAreOne, TimelyTextsAreNotRefused, ImagesHeldAreOne, ImageFilesAreNotRefused, ImageRefusalsAreOne, ReportsAreOne, SlackTextsAreOne, SlackIsOne, PrintIsOne, CompileIsOne, GoIsOne, RunIsOne, MigrateIsOne, ChartIsOne}
 use Rattle.command_due_law.proofs.Texts.{same_line}
 use Rattle.command_due_law.proofs.DueOnceScripts.{text_once, Played, faulty_script, played, played_once}
 
@@ -45,6 +48,10 @@ DoneComes script n o = Played n.names script (done n) o
 -- the log over a script is put
 abbrev LogComes : Option (List ℕ) → NamedImage → Outcome → Type 0
 LogComes script n o = Played n.names script (λ lines end. told 0 (log n lines end)) o
+
+-- the chart of the run over a script is put
+abbrev ChartComes : (first end : ℕ) → Option (List ℕ) → NamedImage → Outcome → Type 0
+ChartComes first end script n o = Played n.names script (λ lines stop. told 0 (chart_text n (run_of lines stop) first end)) o
 
 -- ---- a program's text
 
@@ -134,17 +141,33 @@ module _ (images : ImagesHeldAreOne) (apart : ImageFilesAreNotRefused) (refusals
       loaded o (migrate_refused is) = unfit is
       loaded o (migrated raw is was) = fit raw is was
 
-  pub run_is_one : IsOneScript → NoScriptIsFaulty → FaultsAreOne → RunIsOne
-  run_is_one scripts never faults image script outcome other first second =
+  -- what is due by the file of an image is one, where what comes of the image is
+  of_image : (image : Option (List ℕ)) (Due : Outcome → Type 0) (Comes : NamedImage → Outcome → Type 0) → ComesOnce Comes
+      → ((o : Outcome) → Due o → (bytes : List ℕ) × (image ≡ Some bytes) × Loaded bytes Comes o)
+      → (outcome other : Outcome) → Due outcome → Due other → outcome ≡ other
+  of_image image Due Comes once loaded outcome other first second =
       let one = loaded outcome first in
       let two = loaded other second in
-      loaded_once one.0 (LogComes script)
-      (λ n o p. played_once scripts never faults n.names script (λ lines end. told 0 (log n lines end)) o p) outcome other
-      one.2
-      (subst (λ bs. Loaded bs (LogComes script) other) (text_once image two.0 one.0 two.1 one.1) two.2)
+      loaded_once one.0 Comes once outcome other one.2 (subst (λ bs. Loaded bs Comes other) (text_once image two.0 one.0 two.1 one.1) two.2)
+
+  pub run_is_one : IsOneScript → NoScriptIsFaulty → FaultsAreOne → RunIsOne
+  run_is_one scripts never faults image script =
+      of_image image (IsRunDue image script) (LogComes script)
+      (λ n o p. played_once scripts never faults n.names script (λ lines end. told 0 (log n lines end)) o p) loaded
     where
       loaded : (o : Outcome) → IsRunDue image script o
           → (bytes : List ℕ) × (image ≡ Some bytes) × Loaded bytes (LogComes script) o
       loaded o (run_refused bytes held is) = (bytes, held, unfit is)
       loaded o (run_bad_script bytes other raw fault held is script_held fault_is was) = (bytes, held, fit raw is (faulty_script other fault script_held fault_is.is was))
       loaded o (ran bytes other raw lines end held is script_held script_is was) = (bytes, held, fit raw is (played other lines end script_held script_is was))
+
+  pub chart_is_one : IsOneScript → NoScriptIsFaulty → FaultsAreOne → ChartIsOne
+  chart_is_one scripts never faults first end image script =
+      of_image image (IsChartDue first end image script) (ChartComes first end script)
+      (λ n o p. played_once scripts never faults n.names script (λ lines stop. told 0 (chart_text n (run_of lines stop) first end)) o p) loaded
+    where
+      loaded : (o : Outcome) → IsChartDue first end image script o
+          → (bytes : List ℕ) × (image ≡ Some bytes) × Loaded bytes (ChartComes first end script) o
+      loaded o (chart_refused bytes held is) = (bytes, held, unfit is)
+      loaded o (chart_bad_script bytes other raw fault held is script_held fault_is was) = (bytes, held, fit raw is (faulty_script other fault script_held fault_is.is was))
+      loaded o (charted bytes other raw lines stop held is script_held script_is was) = (bytes, held, fit raw is (played other lines stop script_held script_is was))

@@ -14,6 +14,7 @@ use Rattle.command_due.specs.TableDue.{IsTableDue}
 use Rattle.machine_semantics.specs.Image.{Image, Script}
 use Rattle.command_due.specs.Stops.{IsStop}
 use Rattle.command_due.specs.StopDue.{IsWatchDue}
+use Rattle.command_due.specs.ChartDue.{IsChartDue}
 use Rattle.command_words.specs.declared.stop.Breakpoint.{Breakpoint}
 use Rattle.command_due.specs.Lines.{IsSlackText}
 
@@ -119,6 +120,12 @@ StopsAreOne = (image : Image) (script : Script) (stop : Breakpoint) (t other : �
 abbrev pub WatchIsOne : Type 0
 WatchIsOne =
     (stop : Breakpoint) (image script : Option (List ℕ)) (outcome other : Outcome) → IsWatchDue stop image script outcome → IsWatchDue stop image script other
+    → outcome ≡ other
+
+-- The law: what is due of `chart` is one.
+abbrev pub ChartIsOne : Type 0
+ChartIsOne =
+    (first end : ℕ) (image script : Option (List ℕ)) (outcome other : Outcome) → IsChartDue first end image script outcome → IsChartDue first end image script other
     → outcome ≡ other
 
 -- The law: what is due of `table` is one.

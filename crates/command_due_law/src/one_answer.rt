@@ -7,7 +7,7 @@
 //!
 //! The laws.
 
-ghost use Rattle.command_due_law.specs.DueOnce.{AsmIsOne, CompileIsOne, DisIsOne, GoIsOne, ImageFilesAreNotRefused, ImageRefusalsAreOne, ImagesHeldAreOne, LateReportsAreOne, MigrateIsOne, PrintIsOne, RefusalsAreOne, ReportsAreOne, RunIsOne, SlackIsOne, SlackTextsAreOne, StopsAreOne, TableIsOne, TextsHaveOneFault, TimelyTextsAreNotLate, TimelyTextsAreNotRefused, TimelyTextsHaveOneImage, WatchIsOne, WrittenOnce, WrittenOrFaulty};
+ghost use Rattle.command_due_law.specs.DueOnce.{AsmIsOne, ChartIsOne, CompileIsOne, DisIsOne, GoIsOne, ImageFilesAreNotRefused, ImageRefusalsAreOne, ImagesHeldAreOne, LateReportsAreOne, MigrateIsOne, PrintIsOne, RefusalsAreOne, ReportsAreOne, RunIsOne, SlackIsOne, SlackTextsAreOne, StopsAreOne, TableIsOne, TextsHaveOneFault, TimelyTextsAreNotLate, TimelyTextsAreNotRefused, TimelyTextsHaveOneImage, WatchIsOne, WrittenOnce, WrittenOrFaulty};
 
 use asm_law::text_and_image::{
     texts_are_of_one_image, texts_have_one_fault as image_texts_have_one_fault,
@@ -204,6 +204,17 @@ pub fn watch_is_one()
     one_script();
     one_answer();
     stops_are_one();
+}
+
+/// What is due of `chart` is one.
+pub fn chart_is_one()
+    ensures { ChartIsOne }
+{
+    images_held_are_one();
+    image_files_are_not_refused();
+    image_refusals_are_one();
+    one_script();
+    one_answer();
 }
 
 /// What is due of `table` is one.

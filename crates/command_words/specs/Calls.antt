@@ -21,7 +21,7 @@ pub data Call : Type 0 where
   why : (program : List ℕ) (over : ℕ) → Call
   fit : (program : List ℕ) (over : ℕ) → Call
   chart : (image script : List ℕ) (first end : ℕ) → Call
-  table : (table program : List ℕ) → Call
+  table : (tasks program : List ℕ) → Call
 
 -- a load that is to be made: its key, how many processes it has, and the files of its program and
 -- its script

@@ -34,8 +34,8 @@ fn are_words(words: &[String]) -> bool
 /// - `replay P S L` or `edf P S`;
 /// - `watch I S T` or `watch I S @A`, with a tick T from 0 to 1,000,000,000 or an address A from 0 to
 ///   65534, in decimal and without leading zeros;
-/// - `chart I S A B`, with ticks A from 0 to 999,999,999 and B from 1 to 1,000,000,000, in decimal and
-///   without leading zeros, A below B;
+/// - `chart I S A B`, with ticks A from 0 to 999,999,999 and B from 1 to 1,000,000,000, A below B, in
+///   decimal and without leading zeros;
 /// - `make K N P S`, with a key K from 0 to 18446744073709551615 and a number N of processes from 1
 ///   to 64, in decimal and without leading zeros.
 ///

@@ -50,6 +50,7 @@ returns-clause-refused g c = λ call is.
       asm = c.asm_is_one.ensures;
       dis = c.dis_is_one.ensures;
       watch = c.watch_is_one.ensures;
+      chart = c.chart_is_one.ensures;
       table = c.table_is_one.ensures;
     })
     g.F.Files.tells call _ _ _ (c.carry_out.ensures.went call is)
