@@ -18,8 +18,8 @@ third_line = record { name = codes "t3"; event = None; frame = 5000; deadline = 
 abbrev pub example_table : TaskTable
 example_table = record { name = codes "set"; tasks = first_line ∷ second_line ∷ third_line ∷ [] }
 
--- The law: the lines rank in the order of the table. The ceiling of m is the rank of the first line,
--- that of k the rank of the third.
+-- The law: the lines rank in the order of the table. The ceiling of m is the rank of the first
+-- line, that of k the rank of the third.
 pub record ExampleHasItsRanks : Type 0 where
   pub first : rank_of_line example_table 0 ≡ 1
   pub second : rank_of_line example_table 1 ≡ 2
