@@ -53,7 +53,10 @@ const ROWS: &[(&str, Answer)] = &[
         Answer::Puts("T3 3"),
     ),
     ("table a|process p frame 9 cost 5|end", Answer::Puts("T4 2")),
-    ("table a|process p frame 20 cost 6|end", Answer::Puts("T5 2")),
+    (
+        "table a|process p frame 20 cost 6|end",
+        Answer::Puts("T5 2"),
+    ),
     (
         "table a|process p frame 100 cost 50 stay m 32|end",
         Answer::Puts("T5 2"),
@@ -62,10 +65,19 @@ const ROWS: &[(&str, Answer)] = &[
         "table a|process p frame 10 cost 4|end|end",
         Answer::Puts("T1 4"),
     ),
-    ("table end|process p frame 10 cost 4|end", Answer::Puts("T2 1")),
+    (
+        "table end|process p frame 10 cost 4|end",
+        Answer::Puts("T2 1"),
+    ),
     ("table a|process p frame 10 cost 4", Answer::Puts("T1 3")),
-    ("table a|process p frame 010 cost 4|end", Answer::Puts("T1 2")),
-    ("table a|process p  frame 10 cost 4|end", Answer::Puts("T1 2")),
+    (
+        "table a|process p frame 010 cost 4|end",
+        Answer::Puts("T1 2"),
+    ),
+    (
+        "table a|process p  frame 10 cost 4|end",
+        Answer::Puts("T1 2"),
+    ),
 ];
 
 /// The lines of a text, which are parted by bars; an empty text has none.
