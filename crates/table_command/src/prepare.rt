@@ -22,7 +22,7 @@ use std::alloc::{AllocError, Global};
 use syntax_tree::Text;
 use table_format::TaskTable;
 use table_program::table_text;
-use table_reader::{LONGEST_TABLE, LONG_TABLE, TableFault, read_table};
+use table_reader::{LONG_TABLE, LONGEST_TABLE, TableFault, read_table};
 
 /// The table that a file holds.
 ///

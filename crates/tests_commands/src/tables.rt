@@ -1,5 +1,6 @@
 //! Task tables.
 
+use std::alloc::Global;
 use std::test::Fail;
 use tests_calls::{Expected, Left, answers, call, lines};
 
@@ -20,49 +21,93 @@ const GREATEST: &str =
 const GREATEST_PROGRAM: &str =
     "program x|process i : periodic frame 1000000000|var x_2 : int|begin|for i_2 : 1 .. 99850 do|for j_2 : 1 .. 1000 do|end for|end for|for i_2 : 1 .. 223 do|end for|x_2 := 0|x_2 := 0|end i|process x_1 : periodic frame 10 deadline 10|var x_2 : int|begin|end x_1|end x";
 
-/// A table with one task, and one that stays in a monitor for 31 ticks.
-const STAYS: &str = "table a|process p frame 100 cost 50 stay m 31|end";
+/// A cost that is just what the stay takes.
+const STAY: &str = "table a|process p frame 100 cost 50 stay m 31|end";
 
-/// Texts that are no tables, and their faults.
-const FAULTS: &[(&str, &str)] = &[
-    ("table a|end", "T6 2"),
-    ("table a|process p frame 2.5 cost 1|end", "T1 2"),
+const STAY_PROGRAM: &str =
+    "program a|monitor m|entry procedure stay31 ( )|var x : int|begin|for i : 1 .. 2 do|end for|x := 0|end stay31|end m|process p : periodic frame 100|var x : int|begin|m . stay31 ( )|end p|end a";
+
+/// What `table` comes to: the program that it stores, or the fault that it puts.
+enum Answer {
+    Stores(&'static str),
+    Puts(&'static str),
+}
+
+/// Texts, and what `table` comes to for each.
+const ROWS: &[(&str, Answer)] = &[
+    (SET, Answer::Stores(SET_PROGRAM)),
+    (GREATEST, Answer::Stores(GREATEST_PROGRAM)),
+    (STAY, Answer::Stores(STAY_PROGRAM)),
+    ("", Answer::Puts("T1 1")),
+    ("table a|end", Answer::Puts("T6 2")),
+    (
+        "table a|process p frame 2.5 cost 1|end",
+        Answer::Puts("T1 2"),
+    ),
     (
         "table a|process p event e frame 20 first 5 cost 4|end",
-        "T1 2",
+        Answer::Puts("T1 2"),
     ),
     (
         "table a|process m frame 50 cost 4|process p frame 100 cost 50 stay m 20|end",
-        "T3 3",
+        Answer::Puts("T3 3"),
     ),
-    ("table a|process p frame 9 cost 5|end", "T4 2"),
-    ("table a|process p frame 20 cost 6|end", "T5 2"),
+    ("table a|process p frame 9 cost 5|end", Answer::Puts("T4 2")),
+    (
+        "table a|process p frame 20 cost 6|end",
+        Answer::Puts("T5 2"),
+    ),
     (
         "table a|process p frame 100 cost 50 stay m 32|end",
-        "T5 2",
+        Answer::Puts("T5 2"),
     ),
-    ("table a|process p frame 10 cost 4|end|end", "T1 4"),
-    ("table end|process p frame 10 cost 4|end", "T2 1"),
-    ("table a|process p frame 10 cost 4", "T1 3"),
-    ("table a|process p frame 010 cost 4|end", "T1 2"),
-    ("table a|process p  frame 10 cost 4|end", "T1 2"),
+    (
+        "table a|process p frame 10 cost 4|end|end",
+        Answer::Puts("T1 4"),
+    ),
+    (
+        "table end|process p frame 10 cost 4|end",
+        Answer::Puts("T2 1"),
+    ),
+    ("table a|process p frame 10 cost 4", Answer::Puts("T1 3")),
+    (
+        "table a|process p frame 010 cost 4|end",
+        Answer::Puts("T1 2"),
+    ),
+    (
+        "table a|process p  frame 10 cost 4|end",
+        Answer::Puts("T1 2"),
+    ),
 ];
 
+/// The lines of a text, which are parted by bars; an empty text has none.
+fn text_of(alloc: Global, bars: &str) -> Result<String, Fail> {
+    if bars.is_empty() {
+        return Ok(String::new(alloc));
+    }
+    lines(alloc, bars)
+}
+
 #[test]
-fn tables_become_programs(rt: HostRuntime) -> Result<(), Fail> {
+fn tables_become_programs_or_have_faults(rt: HostRuntime) -> Result<(), Fail> {
     let alloc = rt.alloc();
-    for (table, program) in [(SET, SET_PROGRAM), (GREATEST, GREATEST_PROGRAM)] {
-        let text = lines(alloc, table)?;
-        let stored = lines(alloc, program)?;
+    for (table, answer) in ROWS {
+        let (status, put, program) = match answer {
+            Answer::Stores(program) => (0, "", *program),
+            Answer::Puts(fault) => (2, *fault, ""),
+        };
+        let text = text_of(alloc, table)?;
+        let put = text_of(alloc, put)?;
+        let program = text_of(alloc, program)?;
         let want = Left {
-            status: 0,
-            put: "",
-            program: Some(stored.as_str().as_bytes()),
+            status,
+            put: put.as_str(),
+            program: Some(program.as_str().as_bytes()),
             script: Some(text.as_str().as_bytes()),
             image: None,
             migrated: None,
         };
-        call(alloc, "table S P", b"", Some(text.as_str()))?.left("table S P", &want)?;
+        call(alloc, "table S P", b"", Some(text.as_str()))?.left(table, &want)?;
     }
     Ok(())
 }
@@ -80,43 +125,23 @@ fn the_program_has_the_numbers_of_the_table(rt: HostRuntime) -> Result<(), Fail>
     answers(alloc, "check P", program.as_str().as_bytes(), None, want)
 }
 
-#[test]
-fn a_stay_that_can_be_met(rt: HostRuntime) -> Result<(), Fail> {
-    let alloc = rt.alloc();
-    let text = lines(alloc, STAYS)?;
-    let want = Expected {
-        status: 0,
-        put: "",
-        puts: Some(0),
-    };
-    answers(alloc, "table S P", b"", Some(text.as_str()), want)
-}
+/// What a report says of the greatest cost and of the process that ranks above it.
+const GREATEST_SAYS: &[&str] = &[
+    "process i frame 1000000000 rank 2 cost 1000000000 suspend 0 waits 0 block 0 bound none data 1",
+    "process x_1 frame 10 rank 1 cost 4 suspend 0 waits 0 block 0 bound 4 data 1",
+    "untimely i",
+];
 
 #[test]
-fn faults_of_tables_are_told(rt: HostRuntime) -> Result<(), Fail> {
+fn the_greatest_cost_is_told(rt: HostRuntime) -> Result<(), Fail> {
     let alloc = rt.alloc();
-    for (table, fault) in FAULTS {
-        let text = lines(alloc, table)?;
-        let put = lines(alloc, fault)?;
-        let want = Left {
-            status: 2,
-            put: put.as_str(),
-            program: Some(b""),
-            script: Some(text.as_str().as_bytes()),
-            image: None,
-            migrated: None,
-        };
-        call(alloc, "table S P", b"", Some(text.as_str()))?.left(table, &want)?;
+    let program = lines(alloc, GREATEST_PROGRAM)?;
+    let found = call(alloc, "check P", program.as_str().as_bytes(), None)?;
+    let put = String::from_utf8_lossy(alloc, found.put.as_slice())?;
+    for words in GREATEST_SAYS {
+        if found.status != 3 || !put.as_str().contains(words) {
+            return Err(Fail::new(format_args!("no `{words}`: {}", put.as_str())));
+        }
     }
     Ok(())
-}
-
-#[test]
-fn an_empty_table_has_no_first_line(rt: HostRuntime) -> Result<(), Fail> {
-    let want = Expected {
-        status: 2,
-        put: "T1 1\n",
-        puts: Some(1),
-    };
-    answers(rt.alloc(), "table S P", b"", Some(""), want)
 }

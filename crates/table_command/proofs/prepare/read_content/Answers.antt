@@ -1,0 +1,9 @@
+use Rattle.std.proofs.Common.{◌<◌, length, subst}
+use Rattle.table_format.specs.Rules.{longest_text}
+use Rattle.command_answers.specs.declared.reading.Content.{Content}
+use Rattle.command_answers.specs.Contents.{IsContent}
+use Rattle.table_command.proofs.Told.{long_table}
+use Rattle.table_command.proofs.prepare.read_content.Goals as goal
+
+pub returns-in-TooLong : goal.returns-in-TooLong
+returns-in-TooLong c = λ text is. (let long : longest_text < length text = subst (λ (found : Content). IsContent longest_text found text) c.in-TooLong.is is in long_table text long)
