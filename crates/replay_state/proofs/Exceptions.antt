@@ -1,11 +1,11 @@
 -- What a process does after an exception.
-use Rattle.std.specs.Prelude.{◌≡◌, ℕ, zero, suc, List, [], ◌∷◌, Option, Some, None, map, option_map, slice_get}
+use Rattle.std.specs.Prelude.{◌≡◌, ℕ, zero, suc, List, [], ◌∷◌, Option, Some, None, option_map, slice_get}
 use Rattle.std.proofs.Common.{refl, sym, ◌∙◌, ap}
 use Rattle.syntax_tree.specs.Plain.{Process, Program}
 use Rattle.source_semantics.specs.Names.{processes}
 use Rattle.source_semantics.specs.Config.{Config, Job, changed, with_jobs}
-use Rattle.source_semantics.specs.Source.{job_after_raise, on_job, on_text}
-use Rattle.replay_state.specs.Texts.{After, IsAfter, IsPrepared, after_put, handling_at, raised_job}
+use Rattle.source_semantics.specs.Source.{job_after_raise, on_text}
+use Rattle.replay_state.specs.Texts.{After, IsAfter, IsPrepared, handling_at, raised_job}
 
 changed_alike : {A : Type 0} (f h : A → A) (k : ℕ) (xs : List A) → ((x : A) → slice_get xs k ≡ Some x → f x ≡ h x) → changed f k xs ≡ changed h k xs
 changed_alike f h k [] same = refl

@@ -1,5 +1,5 @@
 -- The configuration after a start event, from what was changed in turn.
-use Rattle.std.specs.Prelude.{◌≡◌, ℕ, false, List, Some, option_map, slice_get}
+use Rattle.std.specs.Prelude.{◌≡◌, ℕ, false, List, Some, slice_get}
 use Rattle.std.proofs.Common.{sym, ◌∙◌, ap}
 use Rattle.base.specs.declared.event.Act.TheVariants as act
 use Rattle.syntax_tree.specs.Plain.{Process, Program}

@@ -1,5 +1,5 @@
 -- Ranks and ceilings of a program by number, and the configurations of a program.
-use Rattle.std.specs.Prelude.{◌≡◌, ℕ, ◌<◌, Option, None, length, slice_index, slice_index_or}
+use Rattle.std.specs.Prelude.{◌≡◌, ℕ, ◌<◌, None, length, slice_index, slice_index_or}
 use Rattle.syntax_tree.specs.Plain.{Program}
 use Rattle.source_semantics.specs.Names.{processes, monitors, condition_count}
 use Rattle.source_semantics.specs.Config.{Config}

@@ -1,5 +1,5 @@
 -- The configuration of the source meaning that one in code stands for.
-use Rattle.std.specs.Prelude.{ℕ, List, map, Option, Some, None, ℤ, option_map}
+use Rattle.std.specs.Prelude.{List, map, option_map}
 use Rattle.syntax_tree.specs.Placed.{placed_expr, placed_scalar, placed_stmts, plain_expr, plain_scalar, plain_stmts}
 use Rattle.syntax_tree.specs.Plain.{Answers}
 use Rattle.source_semantics.specs.Store as store

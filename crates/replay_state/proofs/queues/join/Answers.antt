@@ -2,9 +2,7 @@ use Rattle.std.proofs.Common.{arith, refl, length, ◌<◌, ◌≤◌, ◌++◌,
 use Rattle.std.specs.Prelude.{is_ok}
 use Rattle.std.specs.Global.{Vec}
 use Rattle.std.proofs.lemmas.Option.{slice_get_read}
-use Rattle.source_semantics.specs.Source.{without}
 use Rattle.replay_state.proofs.Changes.{changed_past, set_changed}
-use Rattle.replay_state.specs.Queues.{tail_of}
 use Rattle.replay_state.proofs.queues.join.Goals as goal
 
 pub returns-then-condition-len : goal.returns-then-condition-len

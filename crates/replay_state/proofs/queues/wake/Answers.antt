@@ -1,7 +1,7 @@
 use Rattle.std.proofs.Common.{arith, refl, ap, length, ◌<◌, ◌≤◌, ℕ}
 use Rattle.std.proofs.lemmas.Option.{slice_get_read}
-use Rattle.source_semantics.specs.Config.{Hold, Job, active, waiting, job_doing, released_of, woken}
-use Rattle.replay_state.specs.View.{calls_of, hold_of, job_of, vars_of}
+use Rattle.source_semantics.specs.Config.{active, woken}
+use Rattle.replay_state.specs.View.{calls_of, job_of, vars_of}
 use Rattle.replay_state.proofs.Changes.{changed_past, set_changed}
 use Rattle.replay_state.proofs.queues.wake.Goals as goal
 

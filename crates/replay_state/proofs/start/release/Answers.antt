@@ -3,7 +3,7 @@ use Rattle.std.specs.Prelude.{option_map, slice_get}
 use Rattle.std.proofs.lemmas.Option.{slice_get_read, slice_get-map}
 use Rattle.syntax_tree.specs.declared.decl.Process.{Process}
 use Rattle.syntax_tree.specs.Placed.{placed, placed_process, placed_stmts, plain, plain_process, plain_stmts}
-use Rattle.source_semantics.specs.Config.{Config, Job, active, at_tick, changed, with_jobs}
+use Rattle.source_semantics.specs.Config.{Config, Job, active, changed, with_jobs}
 use Rattle.source_semantics.specs.Names.{processes}
 use Rattle.source_semantics.specs.Run.{Call}
 use Rattle.source_semantics.specs.Source.{call_of}
