@@ -28,7 +28,7 @@ fn letter_of(cell: &ControlBlock, picked: bool) -> Letter
 
 /// The letter of a process of the board, after the start events of a tick, where this process is
 /// picked, if any.
-pub fn letter_on(board: &MachineState, picked: Option<usize>, process: usize) -> Letter
+pub(crate) fn letter_on(board: &MachineState, picked: Option<usize>, process: usize) -> Letter
     ghost image: { Image }
     requires picked { picked ≡ place_of (pick image (state_of board.now).threads) }
     requires process { process < vec_len board.now.cells }
