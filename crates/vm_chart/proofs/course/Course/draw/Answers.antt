@@ -16,14 +16,14 @@ draw_column-requires g c =
     let low : column < columns.count = omega arith in
     let before = begins_before columns c.requires.1.1.1.0 column low in
     let start : c.loop-column.self.machine.tick ≡ first_tick columns column = omega (arith, c.loop-column.invariant.there, before) in
-    (c.requires.0, (refl, (c.requires.1.0, (c.requires.1.1.0, (c.requires.1.1.1.0, (low, (refl, (c.end_of-end.ensures, (c.requires.1.1.1.1.0, (c.loop-column.invariant.follows, start))))))))))
+    (c.requires.0, (refl, (c.requires.1.0, (c.requires.1.1.0, (c.requires.1.1.1.0, (low, (refl, (refl, (c.requires.1.1.1.1.0, (c.loop-column.invariant.follows, start))))))))))
 
 pub loop-column-preserved : goal.loop-column-preserved
 loop-column-preserved g c =
     let columns = c.args.columns.now in
     let column = c.loop-column.column in
     let low : column < columns.count = omega arith in
-    record { follows = c.in_ok-draw_column.ensures.follows; there = c.in_ok-draw_column.ensures.there ∙ (c.end_of-end.ensures ∙ next_is columns c.requires.1.1.1.0 column low) }
+    record { follows = c.in_ok-draw_column.ensures.follows; there = c.in_ok-draw_column.ensures.there ∙ (next_is columns c.requires.1.1.1.0 column low) }
 
 pub returns-clause-follows : goal.returns-clause-follows
 returns-clause-follows g c =

@@ -1,18 +1,19 @@
-use Rattle.std.proofs.Common.{◌≡◌, ◌≤◌, ◌<◌, ◌+◌, length, arith, sym, ◌∙◌}
-use Rattle.chart_lines.specs.Columns.{end_of}
-use Rattle.vm_chart.specs.declared.course.Course.{Course}
-use Rattle.vm_chart.specs.Follows.{Each, Follows, IsDrawnTo}
-use Rattle.vm_chart.proofs.Following.{each_at, end_within, follows_to, on_ok, on_ok_both}
+use Rattle.std.proofs.Common.{◌≡◌, ◌<◌, ℕ, arith, ap, sym, subst, ◌∙◌}
+use Rattle.run_chart.specs.declared.columns.Columns.{Columns}
+use Rattle.chart_lines.specs.Columns.{AreFew, end_of}
+use Rattle.vm_chart.proofs.Following.{on_ok_both}
 use Rattle.vm_chart.proofs.course.Course.draw_column.Goals as goal
 
-pub loop-self-init : goal.loop-self-init
-loop-self-init g c = record { follows = c.requires.1.1.1.1.1.1.1.1.1.0; from = omega (arith, c.requires.1.1.1.1.1.1.1.1.1.1); within = omega (arith, c.requires.1.1.1.1.1.1.1.1.1.1, c.requires.1.1.1.1.1.1.1.0) }
+pub end_of-end-requires : goal.end_of-end-requires
+end_of-end-requires g c =
+    let count : c.args.columns.now.count ≡ g.drawing.columns.count = ap (λ (x : Columns). x.count) c.requires.1.1.1.1.1.1.0 in
+    (subst (λ (x : Columns). AreFew x) (sym c.requires.1.1.1.1.1.1.0) c.requires.1.1.1.1.0.few, omega (arith, count, c.requires.1.1.1.1.1.0, c.requires.1.1.1.1.1.1.1.0))
 
-pub turn-requires : goal.turn-requires
-turn-requires g c =
-    let d = g.drawing in
-    let within = end_within d.columns c.requires.1.1.1.1.0 d.column c.requires.1.1.1.1.1.0 in
-    let end = c.requires.1.1.1.1.1.1.1.0 in (
+pub draw_to-requires : goal.draw_to-requires
+draw_to-requires g c =
+    let shown : c.args.columns.now ≡ g.drawing.columns = c.requires.1.1.1.1.1.1.0 in
+    let end : c.end_of-end.result ≡ end_of g.drawing.columns g.drawing.column =
+    c.end_of-end.ensures ∙ (ap (λ (x : Columns). end_of x c.args.column) shown ∙ ap (λ (n : ℕ). end_of g.drawing.columns n) c.requires.1.1.1.1.1.1.1.0) in (
       c.requires.0,
       (
         c.requires.1.0,
@@ -21,33 +22,17 @@ turn-requires g c =
           (
             c.requires.1.1.1.0,
             (
-              c.requires.1.1.1.1.1.1.0,
-              (
-                c.loop-self.invariant.follows,
-                (omega (arith, within, end, c.requires.1.1.1.1.1.1.1.1.0), (omega (arith, within, end, c.requires.1.1.1.1.0.few.end), (omega (arith, c.tick.ensures, c.loop-self-test.true), c.loop-self.invariant.from))),
-              ),
+              c.requires.1.1.1.1.0,
+              (c.requires.1.1.1.1.1.0, (ap (λ (x : Columns). x.first) shown, (end, (c.requires.1.1.1.1.1.1.1.1.0, (c.requires.1.1.1.1.1.1.1.1.1.0, c.requires.1.1.1.1.1.1.1.1.1.1))))),
             ),
           ),
         ),
       ),
     )
 
-pub end_all-requires : goal.end_all-requires
-end_all-requires g c =
-    let here : c.loop-self.self.machine.tick ≡ end_of g.drawing.columns g.drawing.column = omega (arith, c.loop-self.invariant.within, c.requires.1.1.1.1.1.1.1.0, c.tick.ensures, c.loop-self-test.false) in
-    (c.requires.1.1.1.1.0, (c.requires.1.1.1.1.1.0, each_at g.drawing (end_of g.drawing.columns g.drawing.column) c.loop-self.self here c.loop-self.invariant.follows))
-
-pub returns-clause-follows : goal.returns-clause-follows
-returns-clause-follows g c =
-    let d = g.drawing in
-    let next = record d { column = d.column + 1 } in
-    let t = end_of d.columns d.column in
-    let here : c.loop-self.self.machine.tick ≡ t = omega (arith, c.loop-self.invariant.within, c.requires.1.1.1.1.1.1.1.0, c.tick.ensures, c.loop-self-test.false) in
-    let new : Course = record { machine = c.loop-self.self.machine; traces = c.end_all.new.traces } in
-    on_ok_both c.end_all.result (Each (IsDrawnTo next t t) new.traces.items) (length new.traces.items ≡ length c.loop-self.self.traces.items) (Follows next new)
-    (λ each count. follows_to next t new here c.loop-self.invariant.follows.stands (count ∙ c.loop-self.invariant.follows.count) each) c.end_all.ensures.each c.end_all.ensures.count
-
 pub returns-clause-there : goal.returns-clause-there
 returns-clause-there g c =
-    let here : c.loop-self.self.machine.tick ≡ c.args.end = omega (arith, c.loop-self.invariant.within, c.tick.ensures, c.loop-self-test.false) in
-    on_ok c.end_all.result (c.loop-self.self.machine.tick ≡ c.args.end) here
+    let end : c.end_of-end.result ≡ end_of g.drawing.columns g.drawing.column =
+    c.end_of-end.ensures ∙ (ap (λ (x : Columns). end_of x c.args.column) c.requires.1.1.1.1.1.1.0 ∙ ap (λ (n : ℕ). end_of g.drawing.columns n) c.requires.1.1.1.1.1.1.1.0) in
+    on_ok_both c.draw_to.result (c.draw_to.new.self.machine.tick ≡ c.end_of-end.result) (c.draw_to.new.self.machine.tick ≡ c.end_of-end.result) (c.draw_to.new.self.machine.tick ≡ end_of g.drawing.columns g.drawing.column)
+    (λ one other. one ∙ end) c.draw_to.ensures.there c.draw_to.ensures.there

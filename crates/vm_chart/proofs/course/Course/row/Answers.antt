@@ -35,7 +35,7 @@ note_all-requires g c =
             few_events d to c.requires.1.1.0.ranks c.requires.0.few short,
             (
               subst (λ (es : List Event). All IsTimely es) (sym fell) (timely_between d.image d.script from to later within c.requires.1.1.1.0),
-              each_unseen d from to old.traces.items early also (each_at d from old (sym begin) c.requires.1.1.1.1.1.0),
+              (each_unseen d from to old.traces.items early also (each_at d from old (sym begin) c.requires.1.1.1.1.1.0), refl),
             ),
           ),
         ),

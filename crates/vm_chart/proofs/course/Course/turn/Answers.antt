@@ -62,7 +62,7 @@ note_all-requires g c =
             few_events d to c.requires.1.1.0.ranks c.requires.0.few short,
             (
               subst (λ (es : List Event). All IsTimely es) (sym fell) (timely_between d.image d.script from to later within c.requires.1.1.1.0),
-              each_alike d from to c.see_all.new.traces.items began passed alike c.see_all.ensures.each,
+              (each_alike d from to c.see_all.new.traces.items began passed alike c.see_all.ensures.each, refl),
             ),
           ),
         ),
