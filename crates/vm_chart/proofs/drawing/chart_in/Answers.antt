@@ -1,4 +1,4 @@
-use Rattle.std.proofs.Common.{◌≡◌, ◌≤◌, ◌+◌, ◌*◌, ℕ, IfOk, length, map, arith, refl, ap, sym, subst, ◌∙◌}
+use Rattle.std.proofs.Common.{◌≡◌, ◌≤◌, ◌+◌, ◌*◌, ℕ, IfOk, List, length, map, arith, refl, ap, sym, subst, ◌∙◌}
 use Rattle.std.specs.Prelude.{All, min}
 use Rattle.std.proofs.lemmas.List.{length-map}
 use Rattle.image.specs.Raw.{image_of, named_of, process_of}
@@ -6,6 +6,7 @@ use Rattle.machine_semantics.specs.Image.{Image, Script}
 use Rattle.machine_semantics.specs.Run.{events}
 use Rattle.run_chart.specs.Chart.{chart_in}
 use Rattle.chart_lines.specs.Traces.{AreDrawn}
+use Rattle.chart_lines.specs.declared.trace.Trace.{Trace}
 use Rattle.vm_releases.specs.Begin.{script_of}
 use Rattle.vm_runner.specs.Runnable.{IsRunnable}
 use Rattle.vm_state.specs.Plan.{IsOf}
@@ -90,8 +91,9 @@ text_of-requires g c =
     let count = length-map c.args.image.now.processes process_of in (
       c.requires.1.1.1.1.0.few,
       (
-        subst (λ (s : Script). AreDrawn (image_of c.args.image.now) s columns course.traces.items) (sym (ap (λ (d : Drawing). d.script) is))
-        (subst (λ (i : Image). AreDrawn i run columns course.traces.items) (ap (λ (d : Drawing). d.image) is) drawn),
+        subst (λ (s : Script). AreDrawn (image_of c.args.image.now) s columns c.deref.result.now) (sym (ap (λ (d : Drawing). d.script) is))
+        (subst (λ (i : Image). AreDrawn i run columns c.deref.result.now) (ap (λ (d : Drawing). d.image) is)
+        (subst (λ (ts : List Trace). AreDrawn g.drawing.image run columns ts) (sym c.deref.ensures.value) drawn)),
         omega (arith, c.requires.1.0.few, count),
       ),
     )

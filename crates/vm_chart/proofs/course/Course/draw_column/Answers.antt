@@ -7,7 +7,7 @@ use Rattle.vm_chart.proofs.course.Course.draw_column.Goals as goal
 pub end_of-end-requires : goal.end_of-end-requires
 end_of-end-requires g c =
     let count : c.args.columns.now.count ≡ g.drawing.columns.count = ap (λ (x : Columns). x.count) c.requires.1.1.1.1.1.1.0 in
-    (subst (λ (x : Columns). AreFew x) (sym c.requires.1.1.1.1.1.1.0) c.requires.1.1.1.1.0.few, omega (arith, count, c.requires.1.1.1.1.1.0, c.requires.1.1.1.1.1.1.1.0))
+    record { few = subst (λ (x : Columns). AreFew x) (sym c.requires.1.1.1.1.1.1.0) c.requires.1.1.1.1.0.few; column = omega (arith, count, c.requires.1.1.1.1.1.0, c.requires.1.1.1.1.1.1.1.0) }
 
 pub draw_to-requires : goal.draw_to-requires
 draw_to-requires g c =
