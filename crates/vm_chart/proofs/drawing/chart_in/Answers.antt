@@ -92,8 +92,8 @@ text_of-requires g c =
       c.requires.1.1.1.1.0.few,
       (
         subst (λ (s : Script). AreDrawn (image_of c.args.image.now) s columns c.deref.result.now) (sym (ap (λ (d : Drawing). d.script) is))
-        (subst (λ (i : Image). AreDrawn i run columns c.deref.result.now) (ap (λ (d : Drawing). d.image) is)
-        (subst (λ (ts : List Trace). AreDrawn g.drawing.image run columns ts) (sym c.deref.ensures.value) drawn)),
+            (subst (λ (i : Image). AreDrawn i run columns c.deref.result.now) (ap (λ (d : Drawing). d.image) is)
+            (subst (λ (ts : List Trace). AreDrawn g.drawing.image run columns ts) (sym c.deref.ensures.value) drawn)),
         omega (arith, c.requires.1.0.few, count),
       ),
     )
