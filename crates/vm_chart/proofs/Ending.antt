@@ -85,14 +85,14 @@ all_drawn d course over end follows =
       count = follows.count;
       each = λ k trace at. one k trace (follows.each k trace at);
     } where
-  one : (k : ℕ) (trace : Trace) → IsDrawnTo d course.machine.tick course.machine.tick k trace → IsDrawn d.image d.script d.columns k trace
-  one k trace is =
-      let upto : Counts k d.columns.first (events_before d.image d.script d.columns.end) trace = subst (λ (t : ℕ). Counts k d.columns.first (events_before d.image d.script t) trace) end is.counts in
-      record {
-        row =
-            is.row
-            ∙ (ap (λ (n : ℕ). map (λ i. drawn (shown d.image d.script d.columns k i)) (range_with_len 0 n)) over
-            ∙ sym (map-map drawn (shown d.image d.script d.columns k) (range_with_len 0 d.columns.count)));
-        ended = upto.ended;
-        longest = upto.longest;
-      }
+      one : (k : ℕ) (trace : Trace) → IsDrawnTo d course.machine.tick course.machine.tick k trace → IsDrawn d.image d.script d.columns k trace
+      one k trace is =
+          let upto : Counts k d.columns.first (events_before d.image d.script d.columns.end) trace = subst (λ (t : ℕ). Counts k d.columns.first (events_before d.image d.script t) trace) end is.counts in
+          record {
+            row =
+                is.row
+                ∙ (ap (λ (n : ℕ). map (λ i. drawn (shown d.image d.script d.columns k i)) (range_with_len 0 n)) over
+                ∙ sym (map-map drawn (shown d.image d.script d.columns k) (range_with_len 0 d.columns.count)));
+            ended = upto.ended;
+            longest = upto.longest;
+          }

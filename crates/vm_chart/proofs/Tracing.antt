@@ -1,12 +1,12 @@
 -- What is kept of each process, and of all.
-use Rattle.std.proofs.Common.{◌≡◌, ◌≤◌, ◌<◌, ◌+◌, ◌-◌, ◌*◌, ◌++◌, ◌⊎◌, inl, inr, ℕ, zero, suc, List, [], ◌∷◌, Some, get_or, length, map, arith, refl, ap, sym, subst, ◌∙◌}
+use Rattle.std.proofs.Common.{◌≡◌, ◌≤◌, ◌<◌, ◌+◌, ◌-◌, ◌*◌, ◌++◌, ◌⊎◌, inl, inr, ℕ, zero, suc, List, [], ◌∷◌, Some, get_or, length, take, append_assoc, map, arith, refl, ap, sym, subst, ◌∙◌}
 use Rattle.std.specs.Prelude.{All, min, slice_get, slice_set}
 use Rattle.std.specs.List.{range_with_len}
 use Rattle.std.proofs.lemmas.Bool.{cases_lt}
-use Rattle.std.proofs.lemmas.List.{length-set}
+use Rattle.std.proofs.lemmas.List.{length-append, length-take, take_more}
 use Rattle.std.proofs.lemmas.List.FromFn.{map-range_with_len_more}
-use Rattle.std.proofs.lemmas.Option.{slice_get-get_or}
-use Rattle.base.proofs.Lists.{all_back, all_front, get_other, get_set, one_some}
+use Rattle.std.proofs.lemmas.Option.{slice_get-get_or, slice_get_within}
+use Rattle.base.proofs.Lists.{all_back, all_front, get_other, get_set, one_of, one_some}
 use Rattle.base.specs.declared.event.Event.{Event}
 use Rattle.machine_semantics.specs.Image.{Image, Script}
 use Rattle.machine_semantics.specs.Run.{at_start, events, events_from, state_at}
@@ -36,8 +36,8 @@ module _ (P Q : ℕ → Trace → Type 0) where
   pub split_start : (xs : List Trace) → Each P xs → Split P Q 0 xs
   split_start xs each = record { done = λ k x at low. absurd (omega (arith, low)); left = λ k x at low. each k x at }
 
-  pub split_end : (n : ℕ) (xs : List Trace) → Split P Q n xs → (n ≡ length xs) → ((k : ℕ) (x : Trace) → slice_get xs k ≡ Some x → k < length xs) → Each Q xs
-  split_end n xs split all within k x at = (let low = within k x at in split.done k x at (omega (arith, low, all)))
+  pub split_end : (n : ℕ) (xs : List Trace) → Split P Q n xs → length xs ≤ n → Each Q xs
+  split_end n xs split all k x at = (let low : k < length xs = slice_get_within xs k x at in split.done k x at (omega (arith, low, all)))
 
   -- the one that comes next
   pub split_next : (i : ℕ) (xs : List Trace) (x : Trace) → Split P Q i xs → i < length xs → x ≡ get_or xs i x → P i x
@@ -82,6 +82,20 @@ module _ (image : Image) (script : Script) where
       subst (λ (es : List Event). All IsTimely es) (all_events ∙ before_later u script.end_tick within) all in
       let up : All IsTimely (events_before image script u) = all_front IsTimely (events_before image script u) (events_between image script u script.end_tick) whole in
       all_back IsTimely (events_before image script t) (events_between image script t u) (subst (λ (es : List Event). All IsTimely es) (before_later t u later) up)
+
+-- the events before and those of a list that were gone over, with the next of these
+pub counts_next : (k first : ℕ) (before es : List Event) (i : ℕ) (d : Event) (trace : Trace) → i < length es → Counts k first ((before ++ take i es) ++ get_or es i d ∷ []) trace → Counts k first (before ++ take (i + 1) es) trace
+counts_next k first before es i d trace low counts =
+    subst (λ (all : List Event). Counts k first all trace) (append_assoc before (take i es) (get_or es i d ∷ []) ∙ ap (λ (x : List Event). before ++ x) (sym (take_more es i d low))) counts
+
+pub few_next : (before es : List Event) (i n : ℕ) → length before + length es < n → length (before ++ take i es) < n
+few_next before es i n few =
+    let both : length (before ++ take i es) ≡ length before + length (take i es) = length-append before (take i es) in
+    let some : length (take i es) ≡ min i (length es) = length-take i es in
+    omega (arith, both, some, few)
+
+pub timely_next : (es : List Event) (i : ℕ) (d : Event) → All IsTimely es → i < length es → IsTimely (get_or es i d)
+timely_next es i d all low = one_of IsTimely es i (get_or es i d) all (slice_get-get_or es i d low)
 
 -- ---- one process
 

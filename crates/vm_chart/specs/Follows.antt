@@ -34,6 +34,11 @@ pub record Drawing : Type 0 where
   pub columns : Columns
   pub column : ℕ
 
+-- a tick from which on events are noted
+pub record Passing : Type 0 where
+  pub drawing : Drawing
+  pub from : ℕ
+
 -- the first tick of the column that is not over
 abbrev pub begins : Drawing → ℕ
 begins d = first_tick d.columns d.column

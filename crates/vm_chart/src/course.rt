@@ -118,8 +118,9 @@ impl Course {
         note_all(&mut self.traces, first, self.machine.events(), from, to);
     }
 
-    /// Draws a column, from its first tick on; an error says that memory is short.
-    fn draw_column(
+    /// Draws a column, from its first tick on, up to the tick at which it ends; an error says that
+    /// memory is short.
+    fn draw_to(
         &mut self,
         plan: &DecodedImage,
         script: &Script,
@@ -146,6 +147,35 @@ impl Course {
             self.turn(plan, script, first, end);
         }
         end_all(&mut self.traces)
+    }
+
+    /// Draws a column, from its first tick on; an error says that memory is short.
+    fn draw_column(
+        &mut self,
+        plan: &DecodedImage,
+        script: &Script,
+        columns: &Columns,
+        column: usize,
+    ) -> Result<(), AllocError>
+        ghost drawing: { Drawing }
+        requires plan { IsOf drawing.image plan.now }
+        requires script { drawing.script ≡ script_of script.now }
+        requires runnable { IsRunnable drawing.image drawing.script }
+        requires timely { All IsTimely (events drawing.image drawing.script) }
+        requires are { AreColumns drawing.columns }
+        requires some { drawing.column < drawing.columns.count }
+        requires shown { columns.now ≡ drawing.columns }
+        requires number { column ≡ drawing.column }
+        requires limit { drawing.columns.end ≤ script.now.end }
+        requires follows { Follows drawing self.old }
+        requires start { self.old.machine.tick ≡ begins drawing }
+        ensures follows { OnOk result (Follows (record drawing { column = drawing.column + 1 })
+            self.new) }
+        ensures there { OnOk result
+            (self.new.machine.tick ≡ end_of drawing.columns drawing.column) }
+    {
+        let end = end_of(columns, column);
+        self.draw_to(plan, script, columns.first, end)
     }
 
     /// Draws all columns, from their first tick on; an error says that memory is short.
@@ -177,8 +207,7 @@ impl Course {
         ensures there { OnOk result (self.new.machine.tick ≡ columns.now.end) }
     {
         for column in 0..columns.count {
-            let end = end_of(columns, column);
-            self.draw_column(plan, script, columns.first, end)?;
+            self.draw_column(plan, script, columns, column)?;
         }
         Ok(())
     }

@@ -3,8 +3,8 @@
 ghost use Rattle.std.specs.Prelude.{◌≡◌, ◌≤◌, All, IfOk};
 ghost use Rattle.image.specs.Raw.{image_of, named_of};
 ghost use Rattle.machine_semantics.specs.Run.{events};
-ghost use Rattle.run_chart.specs.Chart.{chart_text};
-ghost use Rattle.vm_chart.specs.Follows.{IsTimely};
+ghost use Rattle.run_chart.specs.Chart.{chart_in, chart_text};
+ghost use Rattle.vm_chart.specs.Follows.{AreColumns, Drawing, IsTimely};
 ghost use Rattle.vm_releases.specs.Begin.{script_of};
 ghost use Rattle.vm_runner.specs.Runnable.{IsRunnable};
 ghost use Rattle.vm_state.specs.Plan.{IsOf};
@@ -12,10 +12,41 @@ ghost use Rattle.vm_state.specs.Plan.{IsOf};
 use crate::course::Course;
 use chart_lines::{columns_of, text_of};
 use image::RawImage;
+use run_chart::Columns;
 use script::Script;
 use std::alloc::{AllocError, Global};
 use syntax_tree::Text;
 use vm_state::DecodedImage;
+
+/// The chart in these columns, the last of which ends by the end of the script. An error says that
+/// memory is short.
+fn chart_in(
+    alloc: Global,
+    image: &RawImage,
+    plan: &DecodedImage,
+    script: &Script,
+    columns: &Columns,
+) -> Result<Text, AllocError>
+    ghost drawing: { Drawing }
+    requires drawing { drawing ≡ record {
+      image = image_of image.now;
+      script = script_of script.now;
+      columns = columns.now;
+      column = 0;
+    } }
+    requires plan { IsOf (image_of image.now) plan.now }
+    requires runnable { IsRunnable (image_of image.now) (script_of script.now) }
+    requires timely { All IsTimely (events (image_of image.now) (script_of script.now)) }
+    requires columns { AreColumns columns.now }
+    requires limit { columns.now.end ≤ script.now.end }
+    ensures { IfOk result (λ text. text ≡
+        chart_in (named_of image.now) (script_of script.now) columns.now) }
+{
+    let mut course = Course::new(alloc, plan, script)?;
+    course.go_to(plan, script, columns.first, columns.first.min(columns.end));
+    course.draw(plan, script, columns)?;
+    text_of(alloc, image, columns, &course.traces)
+}
 
 /// The chart of the run of an image, whose plan is made, over a script, from tick `first` up to
 /// before tick `end`, or to the end of the script where this comes first. An error says that memory
@@ -35,10 +66,6 @@ pub fn chart(
     ensures { IfOk result (λ text. text ≡
         chart_text (named_of image.now) (script_of script.now) first end) }
 {
-    let end = end.min(script.end());
-    let columns = columns_of(first, end);
-    let mut course = Course::new(alloc, plan, script)?;
-    course.go_to(plan, script, first, first.min(end));
-    course.draw(plan, script, &columns)?;
-    text_of(alloc, image, &columns, &course.traces)
+    let columns = columns_of(first, end.min(script.end()));
+    chart_in(alloc, image, plan, script, &columns)
 }

@@ -1,10 +1,10 @@
 //! What is kept of all processes while their run is drawn.
 
-ghost use Rattle.std.specs.Prelude.{◌≡◌, ◌≤◌, ◌<◌, ◌+◌, ◌-◌, ◌++◌, ◌^◌, [], ◌∷◌, All, IfOk, List, OnOk, length};
+ghost use Rattle.std.specs.Prelude.{◌≡◌, ◌≤◌, ◌<◌, ◌+◌, ◌-◌, ◌++◌, ◌^◌, [], ◌∷◌, All, IfOk, List, OnOk, Some, length, slice_get};
 ghost use Rattle.base.specs.declared.event.Event.{Event as Fell};
 ghost use Rattle.chart_lines.specs.Columns.{end_of};
 ghost use Rattle.chart_lines.specs.Traces.{Counts};
-ghost use Rattle.vm_chart.specs.Follows.{AreColumns, Drawing, Each, IsDrawnTo, IsFresh, IsTimely, begins, events_before};
+ghost use Rattle.vm_chart.specs.Follows.{AreColumns, Drawing, Each, IsDrawnTo, IsFresh, IsTimely, Passing, begins, events_before};
 ghost use Rattle.vm_releases.specs.Begin.{script_of};
 ghost use Rattle.vm_runner.specs.Runnable.{IsRunnable};
 ghost use Rattle.vm_runner.specs.Standing.{HasBegun, events_between};
@@ -47,6 +47,21 @@ fn note_if(trace: &mut Trace, process: usize, first: u64, event: &Event)
     trace.note(first, event);
 }
 
+/// As `note_if`, of one of the events.
+fn note_at(trace: &mut Trace, process: usize, first: u64, events: &[Event], at: usize)
+    ghost before: { List Fell }
+    requires counts { Counts process first before trace.old }
+    requires few { length before < 2 ^ 63 }
+    requires at { at < length events.now }
+    requires timely { All IsTimely events.now }
+    ensures counts { (event : Fell) → slice_get events.now at ≡ Some event →
+        Counts process first (before ++ event ∷ []) trace.new }
+    ensures row { trace.new.row ≡ trace.old.row }
+    ensures letter { trace.new.letter ≡ trace.old.letter }
+{
+    note_if(trace, process, first, &events[at]);
+}
+
 /// Counts the ends and measures the responses of a process, of those of the events that are its.
 fn note_of(trace: &mut Trace, process: usize, first: u64, events: &[Event])
     ghost before: { List Fell }
@@ -57,22 +72,23 @@ fn note_of(trace: &mut Trace, process: usize, first: u64, events: &[Event])
     ensures row { trace.new.row ≡ trace.old.row }
     ensures letter { trace.new.letter ≡ trace.old.letter }
 {
-    for event in events {
-        note_if(trace, process, first, event);
+    for at in 0..events.len() {
+        note_at(trace, process, first, events, at);
     }
 }
 
 /// Counts and measures those of all processes. The events are those from tick `from` up to before
 /// tick `to`.
 pub(crate) fn note_all(traces: &mut Vec<Trace>, first: u64, events: &[Event], from: u64, to: u64)
-    ghost drawing: { Drawing }
-    requires first { first ≡ drawing.columns.first }
-    requires events { events.now ≡ events_between drawing.image drawing.script from to }
+    ghost passing: { Passing }
+    requires first { first ≡ passing.drawing.columns.first }
+    requires events { events.now ≡ events_between passing.drawing.image passing.drawing.script from to }
     requires later { from ≤ to }
-    requires few { length (events_before drawing.image drawing.script to) < 2 ^ 63 }
+    requires few { length (events_before passing.drawing.image passing.drawing.script to) < 2 ^ 63 }
     requires timely { All IsTimely events.now }
-    requires each { Each (IsDrawnTo drawing to from) traces.old.items }
-    ensures each { Each (IsDrawnTo drawing to to) traces.new.items }
+    requires each { Each (IsDrawnTo passing.drawing to from) traces.old.items }
+    requires begin { from ≡ passing.from }
+    ensures each { Each (IsDrawnTo passing.drawing to to) traces.new.items }
     ensures count { length traces.new.items ≡ length traces.old.items }
 {
     for process in 0..traces.len() {

@@ -10,4 +10,4 @@ abbrev pub ghost-end_turn : goal.ghost-end_turn
 ghost-end_turn g a = record { image = g.drawing.image; script = g.drawing.script }
 
 abbrev pub ghost-note_all : goal.ghost-note_all
-ghost-note_all g a = g.drawing
+ghost-note_all g a = record { drawing = g.drawing; from = a.from }
