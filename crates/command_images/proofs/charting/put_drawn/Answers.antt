@@ -18,7 +18,12 @@ chart-requires c =
     let raw = c.args.raw.now in
     let script = c.args.script.now in
     let end = c.requires.script.end in
-    (c.in_ok-plan.ensures, (is_runnable (by_ranks raw script) c.requires, (runs_are_timely raw script c.requires, omega (arith, end))))
+    record {
+      plan = c.in_ok-plan.ensures;
+      runnable = is_runnable (by_ranks raw script) c.requires;
+      timely = runs_are_timely raw script c.requires;
+      short = omega (arith, end);
+    }
 
 pub returns-clause-told : goal.returns-clause-told
 returns-clause-told c =
