@@ -1,0 +1,10 @@
+pub mod Splits
+pub mod Spelled
+pub mod Plain
+pub mod Ranges
+pub mod Taken
+pub mod Grown
+pub mod Texts
+pub mod Loops
+pub mod Tasks
+pub mod StaysRead

@@ -1,5 +1,5 @@
 -- The words of a line: split at each space they are what they were put together from.
-use Rattle.std.proofs.Common.{◌≡◌, ◌≢◌, ℕ, List, [], ◌∷◌, ◌++◌, Bool, true, false, refl, ap, sym, ◌∙◌, cc, ne_eqb, eqb-true}
+use Rattle.std.proofs.Common.{◌≡◌, ◌≢◌, ℕ, List, [], ◌∷◌, ◌++◌, Bool, true, false, refl, ap, sym, ◌∙◌, ne_eqb, eqb-true}
 use Rattle.std.specs.Prelude.{◌==◌, if◌then◌else◌}
 use Rattle.text_fields.specs.Fields.{Lacks, spaced}
 use Rattle.table_format.specs.Spelling.{Word}
@@ -35,7 +35,7 @@ spaced_first : (words : List Word) → words ≢ [] → spaced ([] ∷ words) �
 spaced_first [] some = cc (some, refl)
 spaced_first (word ∷ words) some = refl
 
-split_some : (bytes : List ℕ) → split bytes ≢ []
+pub split_some : (bytes : List ℕ) → split bytes ≢ []
 split_some [] e = cc
 split_some (b ∷ bs) e = at (b == 32) e
   where
