@@ -1,10 +1,10 @@
 //! Whether a line has a form, and its words are names.
 
-ghost use Rattle.std.specs.Prelude.{◌≡◌, ◌++◌, ◌↔◌, All, IfOk, IsTrue, OnOk, map, option_to_list};
+ghost use Rattle.std.specs.Prelude.{◌≡◌, ◌++◌, ◌↔◌, All, Contains, IfOk, IsTrue, OnOk, map, option_to_list};
 ghost use Rattle.std.specs.List.{list_all};
-ghost use Rattle.syntax.specs.Spellings.{is_digit as digit_test, is_identifier as identifier_test, is_word as letter_test};
+ghost use Rattle.syntax.specs.Spellings.{is_digit as digit_test, is_identifier as identifier_test, is_word as letter_test, keywords};
 ghost use Rattle.text_fields.specs.Fields.{Lacks};
-ghost use Rattle.table_format.specs.Rules.{IsName, names_of_line};
+ghost use Rattle.table_format.specs.Rules.{IsName, IsOneActivation, names_of_line};
 ghost use Rattle.table_format.specs.Faults.{IsFormed, IsTableWord, is_numeral as numeral_test, meant, numbers};
 ghost use Rattle.table_reader.specs.Reading.{bytes_of, line_seen, seen};
 
@@ -62,11 +62,18 @@ fn is_identifier(word: &[u8]) -> bool
     }
 }
 
+/// Whether the word is a keyword.
+fn is_keyword(word: &[u8]) -> bool
+    ensures { IsTrue result ↔ Contains keywords word.now }
+{
+    keyword_at(word).is_some()
+}
+
 /// Whether the word is an identifier of at most 63 bytes and no keyword.
 pub fn is_name(word: &[u8]) -> bool
     ensures { IsTrue result ↔ IsName word.now }
 {
-    word.len() <= LONGEST_NAME && is_identifier(word) && keyword_at(word).is_none()
+    word.len() <= LONGEST_NAME && is_identifier(word) && !is_keyword(word)
 }
 
 /// Puts the word, where there is one, at the end of a list.
@@ -174,11 +181,18 @@ pub fn has_names(alloc: Global, line: &LineWords<'_>) -> Result<bool, AllocError
     Ok(are_names(names.as_slice()))
 }
 
+/// Whether a line has no event, or no first activation.
+fn is_one_activation(line: &LineWords<'_>) -> bool
+    ensures { IsTrue result ↔ IsOneActivation (meant (line_seen line.now)) }
+{
+    line.head.event.is_none() || line.head.first.is_none()
+}
+
 /// Whether a line has the form of a process line.
 pub fn is_formed(alloc: Global, line: &LineWords<'_>) -> Result<bool, AllocError>
     ensures { IfOk result (λ formed. IsTrue formed ↔ IsFormed (line_seen line.now)) }
 {
-    if line.head.event.is_some() && line.head.first.is_some() {
+    if !is_one_activation(line) {
         return Ok(false);
     }
     let names = names_of(alloc, line)?;
