@@ -51,3 +51,7 @@ formed_is s names counts r one names_are counts_are words numerals = (
 -- some word in the place of a name is none
 pub not_formed : (s : SaidLine) (names : List Word) → names ≡ names_of_line (meant s) → ¬ All IsTableWord names → IsTrue false ↔ IsFormed s
 not_formed s names names_are bad = ((λ e. absurd (false≢true e)), (λ form. absurd (bad (subst (All IsTableWord) (sym names_are) form.words))))
+
+-- what is known of the same words
+pub all_of : (P : Word → Type 0) (some same : List Word) (r : Bool) → some ≡ same → (IsTrue r ↔ All P some) → IsTrue r ↔ All P same
+all_of P some same r are known = ((λ e. subst (All P) are (known.0 e)), (λ all. known.1 (subst (All P) (sym are) all)))
