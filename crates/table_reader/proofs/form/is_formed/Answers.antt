@@ -16,10 +16,10 @@ returns c =
     let names_are : names ≡ names_of_line (meant s) = ap seen c.as_slice.ensures.value ∙ c.in_ok-names.ensures in
     elim c.if-are_words.branch [
       | then-are_words w ↦
-        subst (λ (r : Bool). IsTrue r ↔ IsFormed s) (sym w.result-is)
-        (formed_is s names (seen w.as_slice-then-are_words.result.now) w.are_numerals.result one names_are (ap seen w.as_slice-then-are_words.ensures.value ∙ c.in_ok-numbers.ensures)
-        (c.are_words.ensures.0 w.if-are_words.true) w.are_numerals.ensures)
+          subst (λ (r : Bool). IsTrue r ↔ IsFormed s) (sym w.result-is)
+          (formed_is s names (seen w.as_slice-then-are_words.result.now) w.are_numerals.result one names_are (ap seen w.as_slice-then-are_words.ensures.value ∙ c.in_ok-numbers.ensures)
+          (c.are_words.ensures.0 w.if-are_words.true) w.are_numerals.ensures)
       | else-are_words w ↦
-        subst (λ (r : Bool). IsTrue r ↔ IsFormed s) (sym (w.result-is ∙ w.if-are_words.false))
-        (not_formed s names names_are (λ all. false≢true (sym w.if-are_words.false ∙ c.are_words.ensures.1 all)))
+          subst (λ (r : Bool). IsTrue r ↔ IsFormed s) (sym (w.result-is ∙ w.if-are_words.false))
+          (not_formed s names names_are (λ all. false≢true (sym w.if-are_words.false ∙ c.are_words.ensures.1 all)))
     ]
