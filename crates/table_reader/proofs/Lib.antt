@@ -8,3 +8,4 @@ pub mod Texts
 pub mod Loops
 pub mod Tasks
 pub mod StaysRead
+pub mod Lines
