@@ -1,11 +1,19 @@
 -- A process line, as its words are read one after another.
-use Rattle.std.proofs.Common.{◌≡◌, ◌≢◌, ◌++◌, ◌∷◌, ℕ, List, [], Option, Some, None, codes, refl, ap, ◌∙◌}
+use Rattle.std.proofs.Common.{◌≡◌, ◌≢◌, ℕ, Bool, true, List, [], Option, Some, None, codes, ap, ◌∙◌}
 use Rattle.std.specs.Prelude.{option_map, option_and_then}
+use Rattle.std.specs.Option.{is_some}
 use Rattle.std.specs.Borrow.{Bor}
+use Rattle.std.proofs.lemmas.Bool.{false≢true}
 use Rattle.table_format.specs.Spelling.{Word, SaidStay, SaidLine}
 use Rattle.table_reader.specs.Words.{left, split, first_word, after_key, optional}
 use Rattle.table_reader.specs.Reading.{with_cost, times_read, event_read, head_read, ticks_of, stay_read, stays_read, line_read}
 use Rattle.table_reader.proofs.Splits.{split_some}
+
+-- ---- the words that are left
+
+pub some_left : (rest : Option (Bor (List ℕ))) → is_some rest ≡ true → left rest ≢ []
+some_left None is = absurd (false≢true is)
+some_left (Some bytes) is = split_some bytes.now
 
 -- ---- what stands before the stays
 
