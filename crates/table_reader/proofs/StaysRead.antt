@@ -1,11 +1,11 @@
 -- The stays of a line, one after another.
-use Rattle.std.proofs.Common.{◌≡◌, ◌≢◌, ◌<◌, ℕ, List, [], ◌∷◌, ◌++◌, Option, Some, None, Bool, true, false, length, map, codes, refl, ap, sym, ◌∙◌, subst, arith}
+use Rattle.std.proofs.Common.{◌≡◌, ◌≢◌, ◌<◌, List, [], ◌∷◌, ◌++◌, Option, Some, None, Bool, true, false, length, map, codes, refl, ap, sym, ◌∙◌, subst, arith}
 use Rattle.std.specs.Prelude.{option_map, option_and_then, if◌then◌else◌}
 use Rattle.std.proofs.lemmas.List.{append_assoc, append-nil, map-append}
 use Rattle.table_format.specs.Spelling.{Word, SaidStay}
 use Rattle.table_format.specs.Rules.{same_name}
 use Rattle.table_reader.specs.declared.line.StayWords.{StayWords}
-use Rattle.table_reader.specs.Words.{first_word, after_key}
+use Rattle.table_reader.specs.Words.{first_word}
 use Rattle.table_reader.specs.Reading.{stay_of, ticks_of, stay_read, stays_read}
 
 -- what is read where a stay stands, and where none does

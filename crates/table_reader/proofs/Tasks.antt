@@ -8,7 +8,7 @@ use Rattle.table_reader.specs.declared.line.StayWords.{StayWords}
 use Rattle.table_reader.specs.declared.line.LineWords.{LineWords}
 use Rattle.table_reader.specs.Judging.{HasNumerals}
 use Rattle.table_reader.specs.Reading.{stay_of, line_seen}
-use Rattle.table_reader.proofs.Plain.{HasNumbers, formed_numbers}
+use Rattle.table_reader.proofs.Plain.{formed_numbers}
 
 pub has_numerals : (line : LineWords) → IsFormed (line_seen line) → HasNumerals line.head
 has_numerals line form = let n = formed_numbers (line_seen line) form in record { frame = n.frame; deadline = n.deadline; first = n.first; cost = n.cost }
