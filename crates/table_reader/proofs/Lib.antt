@@ -11,3 +11,4 @@ pub mod StaysRead
 pub mod Items
 pub mod Tests
 pub mod Places
+pub mod Lines

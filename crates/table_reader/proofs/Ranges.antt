@@ -1,6 +1,6 @@
 -- Numbers in a range, as words that are numerals spell them.
-use Rattle.std.proofs.Common.{◌≡◌, ◌≢◌, ◌<◌, ◌≤◌, ◌+◌, ◌-◌, ◌*◌, ◌^◌, ◌&&◌, ◌==◌, not, ℕ, zero, suc, Bool, true, false, List, [], ◌∷◌, ◌++◌, Option, Some, None, IfSome, IfNone, MatchOption, length, fold, get_or, map, decimal, refl, ap, sym, subst, ◌∙◌, arith, rules, All}
-use Rattle.std.specs.Prelude.{IsTrue, nat_le, option_map}
+use Rattle.std.proofs.Common.{◌≡◌, ◌≢◌, ◌<◌, ◌≤◌, ◌+◌, ◌-◌, ◌*◌, ◌^◌, ◌==◌, not, ℕ, zero, suc, true, List, [], ◌∷◌, length, fold, get_or, decimal, refl, ap, sym, ◌∙◌, arith, rules}
+use Rattle.std.specs.Prelude.{IsTrue, nat_le}
 use Rattle.std.specs.Int.{IsInRange}
 use Rattle.std.specs.List.{list_all}
 use Rattle.std.proofs.lemmas.Bool.{and_parts, leb-true, eq-eqb, false≢true}
@@ -11,7 +11,7 @@ use Rattle.text_fields.specs.LineFields.{value, is_numeral as has_no_leading_zer
 use Rattle.text_fields.proofs.Numerals.{AreDigits, read_on, numeral_is}
 use Rattle.table_format.specs.Spelling.{Word}
 use Rattle.table_format.specs.Faults.{is_numeral}
-use Rattle.table_reader.specs.Judging.{IsNumber, IsNumberIf}
+use Rattle.table_reader.specs.Judging.{IsNumber}
 
 own : IsNumeralModel AreDigits (read_on 0)
 own = numerals_by_fold AreDigits tells_by_index read_on (search rules)
@@ -62,9 +62,3 @@ low_read low high w n small to below is within =
     let from = within.0 in
     let same = ap value is ∙ value_decimal n (omega (arith, small, to)) in
     omega (arith, from, same, below)
-
-pub some_if : (low high : ℕ) (w : Word) (n : ℕ) → IsNumber low high w n → IsNumberIf low high (Some w) (Some n)
-some_if low high w n is = record { is = ap Some is.is; spelled = ap Some is.spelled; within = is.within }
-
-pub none_if : (low high : ℕ) → IsNumberIf low high None None
-none_if low high = record { is = refl; spelled = refl; within = tt }

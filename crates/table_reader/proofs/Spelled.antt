@@ -58,8 +58,10 @@ after_key_spelled key (first ∷ []) word rest e = at (same_name first key) e
 after_key_spelled key (first ∷ next ∷ words) word rest e = at (same_name first key) refl e
   where
     at : (b : Bool) → same_name first key ≡ b → (if b then first_word (next ∷ words) else None) ≡ Some (word, rest) → first ∷ next ∷ words ≡ key ∷ word ∷ rest
-    at true is f = let same = same_is first key is in cc
-    at false is f = cc
+    at true is f =
+        let pair : (let p : Word × List Word = (next, words) in p) ≡ (word, rest) = cc in
+        ap (λ (x : Word). x ∷ next ∷ words) (same_is first key is) ∙ ap (λ (p : Word × List Word). key ∷ p.0 ∷ p.1) pair
+    at false is f = absurd cc
 
 optional_spelled : (key : Word) (words : List Word) (word : Option Word) (rest : List Word) → optional key words ≡ (word, rest) → words ≡ with_key key word ++ rest
 optional_spelled key words word rest e = at (after_key key words) refl e
@@ -72,21 +74,21 @@ stays_are_spelled : (words : List Word) (stays : List SaidStay) → stays_read w
 stays_are_spelled [] stays e = let none : stays ≡ [] = cc in sym (ap (flat_map stay_words) none)
 stays_are_spelled (key ∷ []) stays e = absurd cc
 stays_are_spelled (key ∷ monitor ∷ []) stays e = absurd cc
-stays_are_spelled (key ∷ monitor ∷ ticks ∷ words) stays e = at (same_name key (codes "stay")) refl e
+stays_are_spelled (key ∷ monitor ∷ ticks ∷ words) stays e = at (same_name key (codes "stay")) refl (stays_are_spelled words) e
   where
-    more_at : (found : Option (List SaidStay)) → stays_read words ≡ found → key ≡ codes "stay" → option_map (λ more. record { monitor = monitor; ticks = ticks } ∷ more) found ≡ Some stays
-        → key ∷ monitor ∷ ticks ∷ words ≡ flat_map stay_words stays
-    more_at None is same f = absurd cc
-    more_at (Some more) is same f =
-        let whole : stays ≡ (let s : SaidStay = record { monitor = monitor; ticks = ticks } in s) ∷ more = cc in
-        let rest : words ≡ flat_map stay_words more = stays_are_spelled words more is in
-        let here : key ∷ monitor ∷ ticks ∷ words ≡ codes "stay" ∷ monitor ∷ ticks ∷ flat_map stay_words more = cc in
-        here ∙ sym (ap (flat_map stay_words) whole)
+    more_at : (found : Option (List SaidStay)) → stays_read words ≡ found → ((more : List SaidStay) → stays_read words ≡ Some more → words ≡ flat_map stay_words more) → key ≡ codes "stay"
+        → option_map (λ more. record { monitor = monitor; ticks = ticks } ∷ more) found ≡ Some stays → key ∷ monitor ∷ ticks ∷ words ≡ flat_map stay_words stays
+    more_at None is behind same f = absurd cc
+    more_at (Some more) is behind same f =
+        let whole : (let s : SaidStay = record { monitor = monitor; ticks = ticks } in s) ∷ more ≡ stays = cc in
+        ap (λ (x : Word). x ∷ monitor ∷ ticks ∷ words) same
+        ∙ (ap (λ (ws : List Word). codes "stay" ∷ monitor ∷ ticks ∷ ws) (behind more is) ∙ ap (flat_map stay_words) whole)
 
-    at : (b : Bool) → same_name key (codes "stay") ≡ b → (if b then option_map (λ more. record { monitor = monitor; ticks = ticks } ∷ more) (stays_read words) else None) ≡ Some stays
+    at : (b : Bool) → same_name key (codes "stay") ≡ b → ((more : List SaidStay) → stays_read words ≡ Some more → words ≡ flat_map stay_words more)
+        → (if b then option_map (λ more. record { monitor = monitor; ticks = ticks } ∷ more) (stays_read words) else None) ≡ Some stays
         → key ∷ monitor ∷ ticks ∷ words ≡ flat_map stay_words stays
-    at true is f = more_at (stays_read words) refl (same_is key (codes "stay") is) f
-    at false is f = absurd cc
+    at true is behind f = more_at (stays_read words) refl behind (same_is key (codes "stay") is) f
+    at false is behind f = absurd cc
 
 -- the words of a line, with these behind its cost
 abbrev words_with : SaidLine → List Word → List Word

@@ -1,17 +1,17 @@
 -- The stays of a line, one after another.
-use Rattle.std.proofs.Common.{◌≡◌, ◌≢◌, ◌<◌, ℕ, List, [], ◌∷◌, ◌++◌, Option, Some, None, Bool, true, false, length, map, codes, refl, ap, sym, ◌∙◌, subst, arith}
+use Rattle.std.proofs.Common.{◌≡◌, ◌≢◌, List, [], ◌∷◌, ◌++◌, Option, Some, None, Bool, true, false, map, codes, refl, ap, sym, ◌∙◌, subst}
 use Rattle.std.specs.Prelude.{option_map, option_and_then, if◌then◌else◌}
-use Rattle.std.proofs.lemmas.List.{append_assoc, append-nil, map-append}
+use Rattle.std.proofs.lemmas.List.{append_assoc, map-append}
 use Rattle.table_format.specs.Spelling.{Word, SaidStay}
 use Rattle.table_format.specs.Rules.{same_name}
 use Rattle.table_reader.specs.declared.line.StayWords.{StayWords}
-use Rattle.table_reader.specs.Words.{first_word, after_key}
+use Rattle.table_reader.specs.Words.{first_word}
 use Rattle.table_reader.specs.Reading.{stay_of, ticks_of, stay_read, stays_read}
 
 -- what is read where a stay stands, and where none does
 abbrev IsStep : List Word → Option (SaidStay × List Word) → Type 0
 IsStep words None = stays_read words ≡ None
-IsStep words (Some found) = (stays_read words ≡ option_map (λ more. found.0 ∷ more) (stays_read found.1)) × (length found.1 < length words)
+IsStep words (Some found) = stays_read words ≡ option_map (λ more. found.0 ∷ more) (stays_read found.1)
 
 step : (words : List Word) → words ≢ [] → IsStep words (stay_read words)
 step [] some = absurd (some refl)
@@ -28,17 +28,14 @@ step (key ∷ monitor ∷ []) some = at (same_name key (codes "stay"))
 step (key ∷ monitor ∷ ticks ∷ words) some = at (same_name key (codes "stay")) refl
   where
     at : (b : Bool) → same_name key (codes "stay") ≡ b → IsStep (key ∷ monitor ∷ ticks ∷ words) (option_and_then (λ m. ticks_of m (first_word m.1)) (if b then first_word (monitor ∷ ticks ∷ words) else None))
-    at true is = (ap (λ c. if c then option_map (λ more. record { monitor = monitor; ticks = ticks } ∷ more) (stays_read words) else None) is, omega arith)
+    at true is = ap (λ c. if c then option_map (λ more. record { monitor = monitor; ticks = ticks } ∷ more) (stays_read words) else None) is
     at false is = ap (λ c. if c then option_map (λ more. record { monitor = monitor; ticks = ticks } ∷ more) (stays_read words) else None) is
 
-pub stay_none : (words : List Word) → words ≢ [] → stay_read words ≡ None → stays_read words ≡ None
+stay_none : (words : List Word) → words ≢ [] → stay_read words ≡ None → stays_read words ≡ None
 stay_none words some is = subst (IsStep words) is (step words some)
 
-pub stay_some : (words : List Word) (s : SaidStay) (rest : List Word) → words ≢ [] → stay_read words ≡ Some (s, rest) → stays_read words ≡ option_map (λ more. s ∷ more) (stays_read rest)
-stay_some words s rest some is = (subst (IsStep words) is (step words some)).0
-
-pub stay_shorter : (words : List Word) (s : SaidStay) (rest : List Word) → words ≢ [] → stay_read words ≡ Some (s, rest) → length rest < length words
-stay_shorter words s rest some is = (subst (IsStep words) is (step words some)).1
+stay_some : (words : List Word) (s : SaidStay) (rest : List Word) → words ≢ [] → stay_read words ≡ Some (s, rest) → stays_read words ≡ option_map (λ more. s ∷ more) (stays_read rest)
+stay_some words s rest some is = subst (IsStep words) is (step words some)
 
 -- one stay more behind those that were read
 behind : (before : List SaidStay) (s : SaidStay) (found : Option (List SaidStay)) → option_map (λ more. before ++ more) (option_map (λ more. s ∷ more) found) ≡ option_map (λ more. (before ++ s ∷ []) ++ more) found
@@ -52,13 +49,6 @@ read_more old new x words rest whole some is put so_far =
     ∙ (sym (behind (map stay_of old) (stay_of x) (stays_read rest))
     ∙ (ap (option_map (λ more. map stay_of old ++ more)) (sym (stay_some words (stay_of x) rest some is)) ∙ so_far))
 
-pub read_all : (stays : List StayWords) (whole : Option (List SaidStay)) → option_map (λ more. map stay_of stays ++ more) (Some []) ≡ whole → Some (map stay_of stays) ≡ whole
-read_all stays whole so_far = ap Some (sym (append-nil (map stay_of stays))) ∙ so_far
-
 pub read_none : (stays : List StayWords) (words : List Word) (whole : Option (List SaidStay)) → words ≢ [] → stay_read words ≡ None
     → option_map (λ more. map stay_of stays ++ more) (stays_read words) ≡ whole → None ≡ whole
 read_none stays words whole some is so_far = sym (ap (option_map (λ more. map stay_of stays ++ more)) (stay_none words some is)) ∙ so_far
-
-pub nothing_before : (found : Option (List SaidStay)) → option_map (λ more. [] ++ more) found ≡ found
-nothing_before None = refl
-nothing_before (Some more) = refl
