@@ -13,10 +13,11 @@ use Rattle.table_format.specs.declared.table.TaskLine.{TaskLine}
 use Rattle.table_format.specs.declared.table.TaskTable.{TaskTable}
 use Rattle.table_format.specs.Spelling.{Word, SaidStay}
 use Rattle.table_format.specs.Rules.{same_name, task_names, monitors_named, names_of_tasks, names_of_monitors, names}
-use Rattle.table_format.specs.Faults.{with_line, HasTakenName, stay_meant}
+use Rattle.table_format.specs.Faults.{with_line, HasTakenName, stay_meant, meant}
 use Rattle.table_reader.specs.declared.line.StayWords.{StayWords}
-use Rattle.table_reader.specs.Judging.{is_among, is_event_taken, is_taken}
-use Rattle.table_reader.specs.Reading.{stay_of}
+use Rattle.table_reader.specs.declared.line.LineWords.{LineWords}
+use Rattle.table_reader.specs.Judging.{is_among, is_event_taken, is_task_taken, is_taken}
+use Rattle.table_reader.specs.Reading.{stay_of, line_seen}
 
 -- ---- a name among others
 
@@ -103,26 +104,29 @@ event_from t p (Some event) at = elim (contains_cases p.name (names t) event at)
   | inr old ↦ or_right (same_name event p.name) (is_among (names t) event) (among_from (names t) event old)
 ]
 
-taken_means : (t : TaskTable) (p : TaskLine) → IsTrue (is_taken t p) → HasTakenName t p
-taken_means t p is = elim (or_cases (is_among (names t) p.name) (is_event_taken t p p.event || list_any (IsMonitorTaken t p) (monitors_named p)) is) [
+task_means : (t : TaskTable) (p : TaskLine) → IsTrue (is_task_taken t p) → HasTakenName t p
+task_means t p is = elim (or_cases (is_among (names t) p.name) (is_event_taken t p p.event) is) [
   | inl name ↦ inl (among_means (names t) p.name name)
-  | inr more ↦ elim (or_cases (is_event_taken t p p.event) (list_any (IsMonitorTaken t p) (monitors_named p)) more) [
-    | inl event ↦ inr (inl (event_means t p p.event event))
-    | inr monitor ↦ (let found = Any-from_list_any (IsMonitorTaken t p) (monitors_named p) monitor in
-        inr (inr (found.0, found.1, found.2, found.3, monitor_means t p found.1 found.4)))
-  ]
+  | inr event ↦ inr (inl (event_means t p p.event event))
+]
+
+taken_means : (t : TaskTable) (p : TaskLine) → IsTrue (is_taken t p) → HasTakenName t p
+taken_means t p is = elim (or_cases (is_task_taken t p) (list_any (IsMonitorTaken t p) (monitors_named p)) is) [
+  | inl task ↦ task_means t p task
+  | inr monitor ↦ (let found = Any-from_list_any (IsMonitorTaken t p) (monitors_named p) monitor in
+      inr (inr (found.0, found.1, found.2, found.3, monitor_means t p found.1 found.4)))
 ]
 
 taken_from : (t : TaskTable) (p : TaskLine) → HasTakenName t p → IsTrue (is_taken t p)
 taken_from t p taken =
-    let later = is_event_taken t p p.event || list_any (IsMonitorTaken t p) (monitors_named p) in
+    let task = is_task_taken t p in
+    let monitors = list_any (IsMonitorTaken t p) (monitors_named p) in
     elim taken [
-      | inl name ↦ or_left (is_among (names t) p.name) later (among_from (names t) p.name name)
-      | inr more ↦ or_right (is_among (names t) p.name) later (elim more [
-        | inl event ↦ or_left (is_event_taken t p p.event) (list_any (IsMonitorTaken t p) (monitors_named p)) (event_from t p p.event event)
-        | inr (k, m, lt, at, here) ↦ or_right (is_event_taken t p p.event) (list_any (IsMonitorTaken t p) (monitors_named p))
-            (list_any-from_Any (IsMonitorTaken t p) (monitors_named p) (k, m, lt, at, monitor_from t p m here))
-      ])
+      | inl name ↦ or_left task monitors (or_left (is_among (names t) p.name) (is_event_taken t p p.event) (among_from (names t) p.name name))
+      | inr more ↦ elim more [
+        | inl event ↦ or_left task monitors (or_right (is_among (names t) p.name) (is_event_taken t p p.event) (event_from t p p.event event))
+        | inr (k, m, lt, at, here) ↦ or_right task monitors (list_any-from_Any (IsMonitorTaken t p) (monitors_named p) (k, m, lt, at, monitor_from t p m here))
+      ]
     ]
 
 pub taken_is : (t : TaskTable) (p : TaskLine) (test : Bool) → test ≡ is_taken t p → IsTrue test ↔ HasTakenName t p
@@ -136,3 +140,40 @@ monitors_seen (s ∷ stays) = ap (λ (xs : List Word). s.monitor.now ∷ xs) (mo
 pub ticks_seen : (stays : List StayWords) → map (λ (s : SaidStay). s.ticks) (map stay_of stays) ≡ map (λ (s : StayWords). s.ticks.now) stays
 ticks_seen [] = refl
 ticks_seen (s ∷ stays) = ap (λ (xs : List Word). s.ticks.now ∷ xs) (ticks_seen stays)
+
+-- ---- the tests of the code
+
+-- a name among those of tasks: not that of the table
+pub among_tasks : (t : TaskTable) (name own : Word) (tasks : List TaskLine) (rest : Bool) → own ≡ t.name → same_name own name ≡ false → tasks ≡ t.tasks
+    → rest ≡ list_any (λ (p : TaskLine). is_among (task_names p) name) tasks → rest ≡ is_among (names_of_tasks t) name
+among_tasks t name own tasks rest named other are is =
+    let behind = λ (b : Bool). b || list_any (λ x. same_name x name) (flat_map task_names t.tasks) in
+    let no : false ≡ same_name t.name name = sym other ∙ ap (λ (x : Word). same_name x name) named in
+    is ∙ (ap (list_any (λ (p : TaskLine). is_among (task_names p) name)) are ∙ (sym (any_flat (λ x. same_name x name) task_names t.tasks) ∙ ap behind no))
+
+-- a name of a table
+pub among_first : (t : TaskTable) (name : Word) → true ≡ is_among (names_of_tasks t) name → true ≡ is_among (names t) name
+among_first t name is = among_both t name true (is_among (names_of_monitors t) name) is refl
+
+pub among_second : (t : TaskTable) (name : Word) (tasks : List TaskLine) (rest : Bool) → false ≡ is_among (names_of_tasks t) name → tasks ≡ t.tasks
+    → rest ≡ list_any (λ (p : TaskLine). list_any (λ (s : Stay). same_name s.monitor name) p.stays) tasks → rest ≡ is_among (names t) name
+among_second t name tasks rest none are is =
+    among_both t name false rest none (is ∙ (among_monitors tasks name ∙ ap (λ (ps : List TaskLine). is_among (map (λ (s : Stay). s.monitor) (flat_map (λ (p : TaskLine). p.stays) ps)) name) are))
+
+monitors_test : (t : TaskTable) (p : TaskLine) (stays : List StayWords) → monitors_named p ≡ map (λ (s : StayWords). s.monitor.now) stays
+    → list_any (IsMonitorTaken t p) (monitors_named p) ≡ list_any (λ (s : StayWords). IsMonitorTaken t p s.monitor.now) stays
+monitors_test t p stays are =
+    ap (list_any (IsMonitorTaken t p)) are ∙ any_map (IsMonitorTaken t p) (λ (s : StayWords). s.monitor.now) stays
+
+-- a taken name of a line, by the tests of its names
+pub taken_by : (t : TaskTable) (line : LineWords) (stays : List StayWords) (task monitor : Bool) → task ≡ is_task_taken t (meant (line_seen line)) → stays ≡ line.stays.items
+    → monitor ≡ list_any (λ (s : StayWords). is_among (names_of_tasks t) s.monitor.now || is_among (task_names (meant (line_seen line))) s.monitor.now) stays
+    → IsTrue (task || monitor) ↔ HasTakenName t (meant (line_seen line))
+taken_by t line stays task monitor a are b =
+    let p : TaskLine = meant (line_seen line) in
+    let tests = λ (ss : List StayWords). list_any (λ (s : StayWords). IsMonitorTaken t p s.monitor.now) ss in
+    let m : monitor ≡ list_any (IsMonitorTaken t p) (monitors_named p) = b ∙ (ap tests are ∙ sym (monitors_test t p line.stays.items (monitors_seen line.stays.items))) in
+    taken_is t p (task || monitor) (ap (λ x. x || monitor) a ∙ ap (λ x. is_task_taken t p || x) m)
+
+pub taken_first : (t : TaskTable) (line : LineWords) → true ≡ is_task_taken t (meant (line_seen line)) → IsTrue true ↔ HasTakenName t (meant (line_seen line))
+taken_first t line a = taken_by t line line.stays.items true _ a refl refl

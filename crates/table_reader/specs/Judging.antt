@@ -25,12 +25,15 @@ abbrev pub is_event_taken : TaskTable → TaskLine → Option Word → Bool
 is_event_taken t p None = false
 is_event_taken t p (Some event) = same_name event p.name || is_among (names t) event
 
+-- whether the name of the process of a line or that of its event is taken
+abbrev pub is_task_taken : TaskTable → TaskLine → Bool
+is_task_taken t p = is_among (names t) p.name || is_event_taken t p p.event
+
 -- whether a line has a name that is taken
 abbrev pub is_taken : TaskTable → TaskLine → Bool
 is_taken t p =
-    is_among (names t) p.name
-    || (is_event_taken t p p.event
-    || list_any (λ monitor. is_among (names_of_tasks t) monitor || is_among (task_names p) monitor) (monitors_named p))
+    is_task_taken t p
+    || list_any (λ monitor. is_among (names_of_tasks t) monitor || is_among (task_names p) monitor) (monitors_named p)
 
 -- ---- numbers
 

@@ -4,7 +4,7 @@ ghost use Rattle.std.specs.Prelude.{◌≡◌, ◌↔◌, ◌||◌, IfOk, IsTrue
 ghost use Rattle.std.specs.List.{list_any};
 ghost use Rattle.table_format.specs.Rules.{CanBeMet, IsSmall, names, names_of_monitors, names_of_tasks, same_name, task_names};
 ghost use Rattle.table_format.specs.Faults.{HasTakenName, meant};
-ghost use Rattle.table_reader.specs.Judging.{is_among, is_event_taken};
+ghost use Rattle.table_reader.specs.Judging.{is_among, is_event_taken, is_task_taken as is_task_name_taken};
 ghost use Rattle.table_reader.specs.Reading.{line_seen};
 
 use crate::line::{LineWords, StayWords};
@@ -87,6 +87,14 @@ fn has_event_taken(table: &TaskTable, line: &LineWords<'_>) -> bool
     }
 }
 
+/// Whether the name of the process of a line or that of its event is taken by the lines before it or
+/// in itself.
+fn is_task_taken(table: &TaskTable, line: &LineWords<'_>) -> bool
+    ensures { result ≡ is_task_name_taken table.now (meant (line_seen line.now)) }
+{
+    is_of_table(table, line.head.name) || has_event_taken(table, line)
+}
+
 /// Whether a monitor of these stays has a name that is taken by a table, a process or an event.
 fn is_monitor_taken(table: &TaskTable, line: &LineWords<'_>, stays: &[StayWords<'_>]) -> bool
     ensures { result ≡ list_any (λ s. is_among (names_of_tasks table.now) s.monitor.now
@@ -99,9 +107,7 @@ fn is_monitor_taken(table: &TaskTable, line: &LineWords<'_>, stays: &[StayWords<
 pub fn has_taken_name(table: &TaskTable, line: &LineWords<'_>) -> bool
     ensures { IsTrue result ↔ HasTakenName table.now (meant (line_seen line.now)) }
 {
-    is_of_table(table, line.head.name)
-        || has_event_taken(table, line)
-        || is_monitor_taken(table, line, line.stays.as_slice())
+    is_task_taken(table, line) || is_monitor_taken(table, line, line.stays.as_slice())
 }
 
 /// Whether all stays and the cost of a line can be met.
