@@ -7,13 +7,13 @@ use Rattle.table_format.specs.declared.table.TaskLine.{TaskLine}
 use Rattle.table_format.specs.declared.table.TaskTable.{TaskTable}
 use Rattle.table_format.specs.Spelling.{Word, SaidLine, said, first_line, process_line, last_line, lines_before_end, table_bytes}
 use Rattle.table_format.specs.Rules.{IsName, names_of_line, names_of_tasks, names_of_monitors, IsInRanges, CanBeMet, IsSmall, IsOneActivation, IsTaskLine, IsBegun, IsTable, longest_text}
-use Rattle.table_format.specs.Faults.{meant, with_line, HasTakenName, Breaks, IsLeast, IsTableWord, IsFormed, BeginsWithFirst, IsTableFault, too_long, of_first, no_first, no_name}
+use Rattle.table_format.specs.Faults.{meant, with_line, HasTakenName, Breaks, IsLeast, IsTableWord, IsFormed, BeginsWithFirst, BeginsWithProcess, BeginsWithLast, IsTableFault, too_long, of_first, no_first, no_name}
 use Rattle.table_reader.specs.declared.fault.TableFault.{TableFault}
 use Rattle.table_reader.specs.declared.fault.TableFault.TheVariants.{Bad, Memory}
 use Rattle.table_reader.specs.Judging.{IsNew, IsAdded, IsLineFault}
 use Rattle.table_reader.specs.Answer.{IsFaultOf}
 use Rattle.table_reader.proofs.Grown.{begun_more, no_names, taken, out_of_range, not_met, too_many}
-use Rattle.table_reader.proofs.Texts.{line_fault, none_yet}
+use Rattle.table_reader.proofs.Texts.{form_fault, empty_fault, behind_fault, line_fault, none_yet}
 
 refused : (b : Bool) (P : Type 0) → b ≡ false → (IsTrue b ↔ P) → ¬ P
 refused b P no means p = false≢true (sym no ∙ means.1 p)
@@ -91,6 +91,25 @@ pub line_answer : (t : TaskTable) (s : SaidLine) (text bytes rest : List ℕ) (f
     → IsFormed s → bytes ≡ process_line s ++ rest → IsLineFault t s fault → IsFaultOf text fault
 line_answer t s text bytes rest (Bad number line) short begun so_far form is wrong = line_fault t s text bytes rest number line short begun so_far form is wrong.0 wrong.1
 line_answer t s text bytes rest Memory short begun so_far form is wrong = tt
+
+-- a fault of the text, as it is told
+told : (text : List ℕ) (fault : TableFault) (number line at : ℕ) → fault ≡ Bad number line → line ≡ at → IsTableFault text number at → IsFaultOf text fault
+told text fault number line at is here wrong = subst (IsFaultOf text) (sym is) (subst (IsTableFault text number) (sym here) wrong)
+
+pub empty_answer : (t : TaskTable) (rest : List ℕ) (fault : TableFault) (line : ℕ) → length (table_bytes t ++ rest) ≤ longest_text → IsBegun t → t.tasks ≡ [] → fault ≡ Bad 6 line → line ≡ length t.tasks + 2
+    → IsFaultOf (table_bytes t ++ rest) fault
+empty_answer t rest fault line short begun none is at =
+    told (table_bytes t ++ rest) fault 6 line (length t.tasks + 2) is at (empty_fault t (table_bytes t ++ rest) rest short begun refl none)
+
+pub behind_answer : (t : TaskTable) (rest : List ℕ) (fault : TableFault) (line : ℕ) → length (table_bytes t ++ rest) ≤ longest_text → IsBegun t → t.tasks ≢ [] → rest ≢ [] → fault ≡ Bad 1 line
+    → line ≡ length t.tasks + 3 → IsFaultOf (table_bytes t ++ rest) fault
+behind_answer t rest fault line short begun some more is at =
+    subst (IsFaultOf (table_bytes t ++ rest)) (sym is) (behind_fault t (table_bytes t ++ rest) rest line short begun refl some more at)
+
+pub form_answer : (t : TaskTable) (text bytes : List ℕ) (fault : TableFault) (line : ℕ) → length text ≤ longest_text → IsBegun t → text ≡ lines_before_end t ++ bytes
+    → ((s : SaidLine) → ¬ BeginsWithProcess bytes s) × ¬ BeginsWithLast bytes → fault ≡ Bad 1 line → line ≡ length t.tasks + 2 → IsFaultOf text fault
+form_answer t text bytes fault line short begun so_far never is at =
+    told text fault 1 line (length t.tasks + 2) is at (form_fault t text bytes short begun so_far never.0 never.1)
 
 pub long_fault : (text : List ℕ) → longest_text < length text → IsTableFault text 7 0
 long_fault text long = too_long long refl refl

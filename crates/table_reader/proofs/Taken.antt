@@ -175,5 +175,7 @@ taken_by t line stays task monitor a are b =
     let m : monitor ≡ list_any (IsMonitorTaken t p) (monitors_named p) = b ∙ (ap tests are ∙ sym (monitors_test t p line.stays.items (monitors_seen line.stays.items))) in
     taken_is t p (task || monitor) (ap (λ x. x || monitor) a ∙ ap (λ x. is_task_taken t p || x) m)
 
-pub taken_first : (t : TaskTable) (line : LineWords) → true ≡ is_task_taken t (meant (line_seen line)) → IsTrue true ↔ HasTakenName t (meant (line_seen line))
-taken_first t line a = taken_by t line line.stays.items true _ a refl refl
+pub taken_first : (t : TaskTable) (line : LineWords) (task : Bool) → task ≡ true → task ≡ is_task_taken t (meant (line_seen line)) → IsTrue task ↔ HasTakenName t (meant (line_seen line))
+taken_first t line task yes is =
+    let p : TaskLine = meant (line_seen line) in
+    taken_is t p task (yes ∙ ap (λ b. b || list_any (IsMonitorTaken t p) (monitors_named p)) (sym yes ∙ is))
