@@ -8,6 +8,5 @@ pub mod Texts
 pub mod Loops
 pub mod Tasks
 pub mod StaysRead
-pub mod Small
 pub mod Nexted
 pub mod Answered
