@@ -41,8 +41,8 @@ module _ (t : TaskTable) (begun : IsBegun t) (p : TaskLine) (free : ¬ HasTakenN
   name_no_task at = name_new (Contains-append_left (names_of_tasks t) (names_of_monitors t) p.name at)
 
   differ_with : (o : Option Word) → (IsSomeAnd o (λ event. Contains (p.name ∷ names t) event) → ⊥) → Differ (names_of_tasks t ++ (p.name ∷ option_to_list o))
-  differ_with None no = differ_more (names_of_tasks t) p.name begun.differ name_no_task
-  differ_with (Some event) no =
+  differ_with None untaken = differ_more (names_of_tasks t) p.name begun.differ name_no_task
+  differ_with (Some event) untaken =
       subst Differ (append_assoc (names_of_tasks t) (p.name ∷ []) (event ∷ []))
       (differ_more (names_of_tasks t ++ p.name ∷ []) event (differ_more (names_of_tasks t) p.name begun.differ name_no_task) event_new)
     where
@@ -51,8 +51,8 @@ module _ (t : TaskTable) (begun : IsBegun t) (p : TaskLine) (free : ¬ HasTakenN
 
       event_new : ¬ Contains (names_of_tasks t ++ p.name ∷ []) event
       event_new at = elim (pushed_cases (names_of_tasks t) p.name event at) [
-        | inl same ↦ no (zero, omega arith, sym same)
-        | inr before ↦ no (later p.name (names t) event (Contains-append_left (names_of_tasks t) (names_of_monitors t) event before))
+        | inl same ↦ untaken (zero, omega arith, sym same)
+        | inr before ↦ untaken (later p.name (names t) event (Contains-append_left (names_of_tasks t) (names_of_monitors t) event before))
       ]
 
   differ : Differ (names_of_tasks (with_line t p))
@@ -66,11 +66,11 @@ module _ (t : TaskTable) (begun : IsBegun t) (p : TaskLine) (free : ¬ HasTakenN
 
   -- a monitor so far is no name of a task of the line
   own_new : (m : Word) → Contains (names t) m → (o : Option Word) → (IsSomeAnd o (λ event. Contains (p.name ∷ names t) event) → ⊥) → ¬ Contains (p.name ∷ option_to_list o) m
-  own_new m known o no (zero, lt, is) = name_new (subst (λ (x : Word). Contains (names t) x) (sym is) known)
-  own_new m known None no (suc k, lt, is) = omega (arith, lt)
-  own_new m known (Some event) no (suc zero, lt, is) =
-      no (subst (λ (x : Word). Contains (p.name ∷ names t) x) (sym is) (let at = known.1 in (suc known.0, omega (arith, at), known.2)))
-  own_new m known (Some event) no (suc (suc k), lt, is) = omega (arith, lt)
+  own_new m known o untaken (zero, lt, is) = name_new (subst (λ (x : Word). Contains (names t) x) (sym is) known)
+  own_new m known None untaken (suc k, lt, is) = omega (arith, lt)
+  own_new m known (Some event) untaken (suc zero, lt, is) =
+      untaken (subst (λ (x : Word). Contains (p.name ∷ names t) x) (sym is) (let at = known.1 in (suc known.0, omega (arith, at), known.2)))
+  own_new m known (Some event) untaken (suc (suc k), lt, is) = omega (arith, lt)
 
   old_apart : (m : Word) → Contains (names_of_monitors t) m → ¬ Contains (names_of_tasks (with_line t p)) m
   old_apart m there here = elim (Contains-append_cases (names_of_tasks t) (task_names p) m (subst (λ (xs : List Word). Contains xs m) (tasks_more t p) here)) [

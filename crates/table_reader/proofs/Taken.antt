@@ -130,7 +130,7 @@ taken_from t p taken =
     ]
 
 pub taken_is : (t : TaskTable) (p : TaskLine) (test : Bool) → test ≡ is_taken t p → IsTrue test ↔ HasTakenName t p
-taken_is t p test is = ((λ yes. taken_means t p (sym is ∙ yes)), λ taken. is ∙ taken_from t p taken)
+taken_is t p test is = ((λ so. taken_means t p (sym is ∙ so)), λ taken. is ∙ taken_from t p taken)
 
 -- the monitors of a line by its words
 pub monitors_seen : (stays : List StayWords) → map (λ (s : Stay). s.monitor) (map stay_meant (map stay_of stays)) ≡ map (λ (s : StayWords). s.monitor.now) stays
@@ -148,8 +148,8 @@ pub among_tasks : (t : TaskTable) (name own : Word) (tasks : List TaskLine) (res
     → rest ≡ list_any (λ (p : TaskLine). is_among (task_names p) name) tasks → rest ≡ is_among (names_of_tasks t) name
 among_tasks t name own tasks rest named other are is =
     let behind = λ (b : Bool). b || list_any (λ x. same_name x name) (flat_map task_names t.tasks) in
-    let no : false ≡ same_name t.name name = sym other ∙ ap (λ (x : Word). same_name x name) named in
-    is ∙ (ap (list_any (λ (p : TaskLine). is_among (task_names p) name)) are ∙ (sym (any_flat (λ x. same_name x name) task_names t.tasks) ∙ ap behind no))
+    let differs : false ≡ same_name t.name name = sym other ∙ ap (λ (x : Word). same_name x name) named in
+    is ∙ (ap (list_any (λ (p : TaskLine). is_among (task_names p) name)) are ∙ (sym (any_flat (λ x. same_name x name) task_names t.tasks) ∙ ap behind differs))
 
 -- a name of a table
 pub among_first : (t : TaskTable) (name : Word) → true ≡ is_among (names_of_tasks t) name → true ≡ is_among (names t) name
@@ -175,5 +175,7 @@ taken_by t line stays task monitor a are b =
     let m : monitor ≡ list_any (IsMonitorTaken t p) (monitors_named p) = b ∙ (ap tests are ∙ sym (monitors_test t p line.stays.items (monitors_seen line.stays.items))) in
     taken_is t p (task || monitor) (ap (λ x. x || monitor) a ∙ ap (λ x. is_task_taken t p || x) m)
 
-pub taken_first : (t : TaskTable) (line : LineWords) → true ≡ is_task_taken t (meant (line_seen line)) → IsTrue true ↔ HasTakenName t (meant (line_seen line))
-taken_first t line a = taken_by t line line.stays.items true _ a refl refl
+pub taken_first : (t : TaskTable) (line : LineWords) (task : Bool) → task ≡ true → task ≡ is_task_taken t (meant (line_seen line)) → IsTrue task ↔ HasTakenName t (meant (line_seen line))
+taken_first t line task so is =
+    let p : TaskLine = meant (line_seen line) in
+    taken_is t p task (so ∙ ap (λ b. b || list_any (IsMonitorTaken t p) (monitors_named p)) (sym so ∙ is))

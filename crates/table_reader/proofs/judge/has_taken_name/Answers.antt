@@ -1,4 +1,4 @@
-use Rattle.std.proofs.Common.{◌≡◌, true, false}
+use Rattle.std.proofs.Common.{◌≡◌, false}
 use Rattle.table_format.specs.Faults.{meant}
 use Rattle.table_reader.specs.Judging.{is_task_taken}
 use Rattle.table_reader.specs.Reading.{line_seen}
@@ -7,8 +7,7 @@ use Rattle.table_reader.proofs.judge.has_taken_name.Goals as goal
 
 pub returns-then-is_task_taken : goal.returns-then-is_task_taken
 returns-then-is_task_taken c =
-    let yes : true ≡ is_task_taken c.args.table.now (meant (line_seen c.args.line.now)) = cc in
-    taken_first c.args.table.now c.args.line.now yes
+    taken_first c.args.table.now c.args.line.now c.is_task_taken.result c.if-is_task_taken.true c.is_task_taken.ensures
 
 pub returns-else-is_task_taken : goal.returns-else-is_task_taken
 returns-else-is_task_taken c =
