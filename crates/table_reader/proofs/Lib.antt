@@ -15,3 +15,4 @@ pub mod Lines
 pub mod Small
 pub mod Nexted
 pub mod Answered
+pub mod Endings
