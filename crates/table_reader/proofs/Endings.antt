@@ -1,16 +1,17 @@
 -- What the reader answers where the lines of a table end.
 use Rattle.std.proofs.Common.{◌≡◌, ◌≢◌, ◌≤◌, ◌+◌, ℕ, Bool, true, false, List, [], ◌++◌, length, refl, ap, sym, subst, ◌∙◌, arith}
-use Rattle.std.specs.Prelude.{IsTrue, ◌↔◌, ◌==◌}
+use Rattle.std.specs.Prelude.{IsTrue, ◌↔◌, ◌==◌, Result}
 use Rattle.std.proofs.lemmas.Bool.{false≢true}
 use Rattle.std.proofs.lemmas.List.{nil_from_length}
 use Rattle.table_format.specs.declared.table.TaskTable.{TaskTable}
-use Rattle.table_format.specs.Spelling.{table_bytes, lines_before_end, last_line}
+use Rattle.table_format.specs.Spelling.{SaidLine, process_line, table_bytes, lines_before_end}
 use Rattle.table_format.specs.Rules.{IsBegun, IsTable, longest_text}
-use Rattle.table_format.specs.Faults.{IsTableFault, BeginsWithLast}
+use Rattle.table_format.specs.Faults.{IsTableFault, BeginsWithProcess, BeginsWithLast}
 use Rattle.table_reader.specs.declared.fault.TableFault.{TableFault}
 use Rattle.table_reader.specs.declared.fault.TableFault.TheVariants.{Bad}
-use Rattle.table_reader.specs.Answer.{IsFaultOf}
-use Rattle.table_reader.proofs.Texts.{empty_fault, behind_fault, whole_table}
+use Rattle.table_reader.specs.Answer.{Answers, IsFaultOf}
+use Rattle.table_reader.specs.Judging.{IsAdded}
+use Rattle.table_reader.proofs.Texts.{empty_fault, behind_fault, whole_table, form_fault, lines_more}
 
 -- ---- whether anything is left
 
@@ -45,3 +46,21 @@ pub all_read : (t : TaskTable) (rest : List ℕ) (none empty : Bool) → length 
     → empty ≡ (length rest == 0) → empty ≡ true → IsTable (table_bytes t ++ rest) t
 all_read t rest none empty short begun no means tested yes =
     whole_table t (table_bytes t ++ rest) rest short begun refl (has_lines t none no means) (nothing rest empty tested yes)
+
+-- ---- a line behind the table so far
+
+pub no_form_here : (t : TaskTable) (text bytes : List ℕ) (fault : TableFault) (len : ℕ) → length text ≤ longest_text → IsBegun t → text ≡ lines_before_end t ++ bytes → len ≡ length t.tasks
+    → ((s : SaidLine) → ¬ BeginsWithProcess bytes s) × ¬ BeginsWithLast bytes → fault ≡ Bad 1 (len + 2) → IsFaultOf text fault
+no_form_here t text bytes fault len short begun so_far counted never is =
+    fault_is text fault 1 (len + 2) (length t.tasks + 2) is (omega (arith, counted)) (form_fault t text bytes short begun so_far never.0 never.1)
+
+pub one_more : (old new : TaskTable) (s : SaidLine) (text bytes rest : List ℕ) → IsAdded old s new → text ≡ lines_before_end old ++ bytes → bytes ≡ process_line s ++ rest
+    → text ≡ lines_before_end new ++ rest
+one_more old new s text bytes rest added so_far is =
+    lines_more old s text bytes rest added.spelled so_far is ∙ ap (λ (t : TaskTable). lines_before_end t ++ rest) (sym added.is)
+
+pub answers_of : (text other : List ℕ) (r : Result TaskTable TableFault) → text ≡ other → Answers other r → Answers text r
+answers_of text other r same is = subst (λ (x : List ℕ). Answers x r) (sym same) is
+
+pub short_of : (text other : List ℕ) → text ≡ other → length text ≤ longest_text → length other ≤ longest_text
+short_of text other same = subst (λ (x : List ℕ). length x ≤ longest_text) same
