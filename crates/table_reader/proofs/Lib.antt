@@ -16,3 +16,4 @@ pub mod Small
 pub mod Nexted
 pub mod Answered
 pub mod Endings
+pub mod Blamed
