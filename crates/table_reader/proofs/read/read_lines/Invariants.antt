@@ -6,8 +6,8 @@ use Rattle.table_reader.proofs.read.read_lines.Given as goal
 abbrev pub invariant-lines : goal.invariant-lines
 invariant-lines l = record {
   begun : IsBegun l.table;
-  text : lines_before_end l.fn.table ++ l.fn.rest.now ≡ lines_before_end l.table ++ l.bytes.now;
+  text : lines_before_end l.fn.table ++ l.fn.rest ≡ lines_before_end l.table ++ l.bytes;
 }
 
 abbrev pub decreases-lines : goal.decreases-lines
-decreases-lines l = length l.bytes.now
+decreases-lines l = length l.bytes
