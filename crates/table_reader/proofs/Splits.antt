@@ -1,5 +1,5 @@
 -- The words of a line: split at each space they are what they were put together from.
-use Rattle.std.proofs.Common.{◌≡◌, ◌≢◌, ℕ, List, [], ◌∷◌, ◌++◌, Bool, true, false, refl, ap, sym, ◌∙◌, cc, ne_eqb, eqb-true}
+use Rattle.std.proofs.Common.{◌≡◌, ◌≢◌, ℕ, List, [], ◌∷◌, ◌++◌, Bool, true, false, refl, ap, sym, ◌∙◌, ne_eqb, eqb-true}
 use Rattle.std.specs.Prelude.{◌==◌, if◌then◌else◌}
 use Rattle.text_fields.specs.Fields.{Lacks, spaced}
 use Rattle.table_format.specs.Spelling.{Word}
@@ -32,10 +32,10 @@ spaced_grown b (word ∷ []) = refl
 spaced_grown b (word ∷ next ∷ words) = refl
 
 spaced_first : (words : List Word) → words ≢ [] → spaced ([] ∷ words) ≡ 32 ∷ spaced words
-spaced_first [] some = cc (some, refl)
+spaced_first [] some = absurd (some refl)
 spaced_first (word ∷ words) some = refl
 
-split_some : (bytes : List ℕ) → split bytes ≢ []
+pub split_some : (bytes : List ℕ) → split bytes ≢ []
 split_some [] e = cc
 split_some (b ∷ bs) e = at (b == 32) e
   where
@@ -49,8 +49,10 @@ split_some (b ∷ bs) e = at (b == 32) e
 
 pub spaced_split : (bytes : List ℕ) → spaced (split bytes) ≡ bytes
 spaced_split [] = refl
-spaced_split (b ∷ bs) = at (b == 32) refl
+spaced_split (b ∷ bs) = at (b == 32) refl (spaced_split bs)
   where
-    at : (t : Bool) → (b == 32) ≡ t → spaced (if t then [] ∷ split bs else grown b (split bs)) ≡ b ∷ bs
-    at true e = spaced_first (split bs) (split_some bs) ∙ (let same : b ≡ 32 = eqb-true b 32 e in ap (λ c. c ∷ spaced (split bs)) (sym same)) ∙ ap (λ (t : List ℕ). b ∷ t) (spaced_split bs)
-    at false e = spaced_grown b (split bs) ∙ ap (λ (t : List ℕ). b ∷ t) (spaced_split bs)
+    at : (t : Bool) → (b == 32) ≡ t → spaced (split bs) ≡ bs → spaced (if t then [] ∷ split bs else grown b (split bs)) ≡ b ∷ bs
+    at true e so =
+        spaced_first (split bs) (split_some bs)
+        ∙ ((let same : b ≡ 32 = eqb-true b 32 e in ap (λ (c : ℕ). c ∷ spaced (split bs)) (sym same)) ∙ ap (λ (t : List ℕ). b ∷ t) so)
+    at false e so = spaced_grown b (split bs) ∙ ap (λ (t : List ℕ). b ∷ t) so

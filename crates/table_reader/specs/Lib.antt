@@ -1,3 +1,5 @@
 pub mod Words
 pub mod Reading
+pub mod Judging
+pub mod Nexts
 pub mod Answer

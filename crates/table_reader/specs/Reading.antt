@@ -45,7 +45,6 @@ stay_seen next = (stay_of next.stay, left next.words.rest)
 
 -- ---- what is read
 
-
 abbrev pub with_cost : (name : Word) → (event : Option Word) → (frame : Word) → (deadline first : Option Word) → Word × List Word → SaidLine × List Word
 with_cost name event frame deadline first cost =
     (record { name = name; event = event; frame = frame; deadline = deadline; first = first; cost = cost.0; stays = [] }, cost.1)

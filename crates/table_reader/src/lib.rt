@@ -11,6 +11,7 @@ mod fault;
 mod form;
 mod judge;
 mod line;
+mod next;
 mod read;
 mod refusal;
 mod task;

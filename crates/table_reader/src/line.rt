@@ -85,16 +85,13 @@ fn read_stay(words: Words<'_>) -> Option<NextStay<'_>>
 }
 
 /// The stays to the end of a line, by their words; None where other words stand there.
-fn read_stays(
-    alloc: Global,
-    words: Words<'_>,
-) -> Result<Option<Vec<StayWords<'_>>>, AllocError>
+fn read_stays(alloc: Global, words: Words<'_>) -> Result<Option<Vec<StayWords<'_>>>, AllocError>
     ensures { IfOk result (λ stays. option_map (λ found. map stay_of found.items) stays ≡
         stays_read (left words.entry.rest)) }
 {
     let mut stays = Vec::new(alloc);
     let mut at = words;
-    while at.rest.is_some() {
+    'stays: while at.rest.is_some() {
         match read_stay(at) {
             None => return Ok(None),
             Some(next) => {

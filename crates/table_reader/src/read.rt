@@ -1,78 +1,33 @@
 //! Reading a table.
 
+ghost use Rattle.std.specs.Prelude.{◌≡◌, ◌≤◌, ◌<◌, ◌+◌, ◌++◌, ◌^◌, length, All, OnErr, OnOk, MatchOption, IfOk, IfErr, MatchResult};
+ghost use Rattle.table_format.specs.Spelling.{lines_before_end, table_bytes};
+ghost use Rattle.table_format.specs.Rules.{IsBegun, IsName, longest_text, names_of_line};
+ghost use Rattle.table_format.specs.Faults.{Breaks, HasTakenName, IsFormed, IsLeast, meant};
+ghost use Rattle.table_reader.specs.declared.fault.TableFault.TheVariants.{Bad};
 ghost use Rattle.table_reader.specs.Answer.{Answers};
+ghost use Rattle.table_reader.specs.Judging.{IsAdded, IsLineFault, IsNew};
+ghost use Rattle.table_reader.specs.Reading.{line_seen};
 
 use crate::fault::TableFault;
-use crate::form::{is_formed, is_name, is_table_word, names_of};
+use crate::form::{has_names, is_name};
 use crate::judge::{can_be_met, has_taken_name, is_small};
-use crate::line::{LineWords, read_line};
+use crate::line::LineWords;
+use crate::next::{NextLine, first_line, next_line};
 use crate::refusal::{self, LONG_TABLE};
 use crate::task::task_of;
 use std::alloc::{AllocError, Global};
 use syntax_tree::{List, Name};
-use table_format::TaskTable;
-use text_fields::cut_at;
+use table_format::{TaskLine, TaskTable};
 
 /// How many bytes a table has at most.
 pub const LONGEST_TABLE: usize = 1_048_576;
 
-/// What stands before the name of a table.
-const KEY: &[u8] = b"table ";
-
-/// The name of a table, and the bytes behind the first line.
-#[derive(Clone, Copy)]
-struct FirstLine<'a> {
-    name: &'a [u8],
-    rest: &'a [u8],
-}
-
-/// What the next line is, and the bytes behind it.
-#[derive(Drop)]
-enum NextLine<'a> {
-    Process {
-        words: LineWords<'a>,
-        rest: &'a [u8],
-    },
-    Last {
-        rest: &'a [u8],
-    },
-}
-
-/// The first line of some bytes; None where it has no form.
-fn first_line(bytes: &[u8]) -> Option<FirstLine<'_>> {
-    let cut = cut_at(bytes, b'\n')?;
-    let name = cut.before.strip_prefix(KEY)?;
-    if !is_table_word(name) {
-        return None;
-    }
-    Some(FirstLine {
-        name,
-        rest: cut.after,
-    })
-}
-
-/// The next line of some bytes; None where it has no form.
-fn next_line(alloc: Global, bytes: &[u8]) -> Result<Option<NextLine<'_>>, AllocError> {
-    let Some(cut) = cut_at(bytes, b'\n') else {
-        return Ok(None);
-    };
-    if cut.before == b"end" {
-        return Ok(Some(NextLine::Last { rest: cut.after }));
-    }
-    let Some(words) = read_line(alloc, cut.before)? else {
-        return Ok(None);
-    };
-    if !is_formed(alloc, &words)? {
-        return Ok(None);
-    }
-    Ok(Some(NextLine::Process {
-        words,
-        rest: cut.after,
-    }))
-}
-
 /// A fault on a line.
-fn bad(number: u8, line: usize) -> TableFault {
+fn bad(number: u8, line: usize) -> TableFault
+    requires { line < 2 ^ 32 }
+    ensures { result ≡ Bad number line }
+{
     TableFault::Bad {
         number,
         line: line as u32,
@@ -85,8 +40,13 @@ fn name_fault(
     alloc: Global,
     table: &TaskTable,
     words: &LineWords<'_>,
-) -> Result<Option<u8>, AllocError> {
-    if !names_of(alloc, words)?.iter().all(|name| is_name(name)) {
+) -> Result<Option<u8>, AllocError>
+    ensures { IfOk result (λ fault. MatchOption fault
+        (All IsName (names_of_line (meant (line_seen words.now)))
+        × ¬ HasTakenName table.now (meant (line_seen words.now)))
+        (λ number. IsLeast (Breaks table.now (meant (line_seen words.now))) number)) }
+{
+    if !has_names(alloc, words)? {
         return Ok(Some(refusal::NAME));
     }
     if has_taken_name(table, words) {
@@ -95,12 +55,14 @@ fn name_fault(
     Ok(None)
 }
 
-/// Puts the process line of these words behind the lines of a table, or gives its fault.
-fn add_line(
-    alloc: Global,
-    table: &mut TaskTable,
-    words: &LineWords<'_>,
-) -> Result<(), TableFault> {
+/// The process line of these words behind the lines of a table, or the fault that it has by itself
+/// or by its names.
+fn new_task(alloc: Global, table: &TaskTable, words: &LineWords<'_>) -> Result<TaskLine, TableFault>
+    requires few { length table.now.tasks ≤ 64 }
+    requires formed { IsFormed (line_seen words.now) }
+    ensures { MatchResult result (λ task. IsNew table.now (line_seen words.now) task)
+        (λ fault. IsLineFault table.now (line_seen words.now) fault) }
+{
     let line = table.tasks.len() + 2;
     if let Some(number) = name_fault(alloc, table, words)? {
         return Err(bad(number, line));
@@ -111,6 +73,18 @@ fn add_line(
     if !can_be_met(&task) {
         return Err(bad(refusal::UNMET, line));
     }
+    Ok(task)
+}
+
+/// Puts the process line of these words behind the lines of a table, or gives its fault.
+fn add_line(alloc: Global, table: &mut TaskTable, words: &LineWords<'_>) -> Result<(), TableFault>
+    requires begun { IsBegun table.old }
+    requires formed { IsFormed (line_seen words.now) }
+    ensures ok { OnOk result (IsAdded table.old (line_seen words.now) table.new) }
+    ensures err { IfErr result (λ fault. IsLineFault table.old (line_seen words.now) fault) }
+{
+    let line = table.tasks.len() + 2;
+    let task = new_task(alloc, table, words)?;
     table.tasks.push(task)?;
     if !is_small(alloc, table)? {
         return Err(bad(refusal::COUNT, line));
@@ -118,9 +92,12 @@ fn add_line(
     Ok(())
 }
 
-/// Whether the last line of a table stands where it may, with these bytes behind it; else its
-/// fault.
-fn end_with(table: &TaskTable, rest: &[u8]) -> Result<(), TableFault> {
+/// The table, whose last line stands before these bytes; else its fault.
+fn end_of(table: TaskTable, rest: &[u8]) -> Result<TaskTable, TableFault>
+    requires begun { IsBegun table }
+    requires short { length (table_bytes table ++ rest.now) ≤ longest_text }
+    ensures { Answers (table_bytes table ++ rest.now) result }
+{
     let line = table.tasks.len() + 2;
     if table.tasks.is_empty() {
         return Err(bad(refusal::COUNT, line));
@@ -128,19 +105,20 @@ fn end_with(table: &TaskTable, rest: &[u8]) -> Result<(), TableFault> {
     if !rest.is_empty() {
         return Err(bad(refusal::FORM, line + 1));
     }
-    Ok(())
+    Ok(table)
 }
 
 /// Reads the lines behind the first one.
-fn read_lines(alloc: Global, mut table: TaskTable, rest: &[u8]) -> Result<TaskTable, TableFault> {
+fn read_lines(alloc: Global, mut table: TaskTable, rest: &[u8]) -> Result<TaskTable, TableFault>
+    requires begun { IsBegun table }
+    requires short { length (lines_before_end table ++ rest.now) ≤ longest_text }
+    ensures { Answers (lines_before_end table ++ rest.now) result }
+{
     let mut bytes = rest;
-    loop {
+    'lines: loop {
         match next_line(alloc, bytes)? {
             None => return Err(bad(refusal::FORM, table.tasks.len() + 2)),
-            Some(NextLine::Last { rest }) => {
-                end_with(&table, rest)?;
-                return Ok(table);
-            }
+            Some(NextLine::Last { rest }) => return end_of(table, rest),
             Some(NextLine::Process { words, rest }) => {
                 add_line(alloc, &mut table, &words)?;
                 bytes = rest;

@@ -1,11 +1,13 @@
 //! The numbers of a process line.
 
-ghost use Rattle.std.specs.Prelude.{◌≡◌, ◌≤◌, ◌<◌, ◌^◌, Some, IfOk, IfSome, IfNone, MatchOption};
+ghost use Rattle.std.specs.Prelude.{◌≡◌, ◌<◌, ◌^◌, List, map, option_map, All, IfOk, IfSome, IsTrue, MatchOption};
 ghost use Rattle.std.specs.Int.{IsInRange};
-ghost use Rattle.table_format.specs.Rules.{IsInRanges};
-ghost use Rattle.table_format.specs.Faults.{IsFormed, meant};
 ghost use Rattle.text_fields.specs.LineFields.{value};
-ghost use Rattle.table_reader.specs.Reading.{line_seen};
+ghost use Rattle.table_format.specs.Spelling.{SaidStay, said};
+ghost use Rattle.table_format.specs.Rules.{IsInRanges};
+ghost use Rattle.table_format.specs.Faults.{IsFormed, is_numeral, meant, stay_meant};
+ghost use Rattle.table_reader.specs.Judging.{AreNumbers, AreStays, HasNumerals, IsNumber, IsNumberIf};
+ghost use Rattle.table_reader.specs.Reading.{bytes_of, line_seen, said_with, stay_of};
 
 use crate::line::{HeadWords, LineWords, StayWords};
 use std::alloc::{AllocError, Global};
@@ -27,10 +29,10 @@ struct Numbers {
 
 /// The number that the word spells, if it is in this range.
 fn ranged(word: &[u8], low: u64, high: u64) -> Option<u64>
-    requires { high < 2 ^ 32 }
-    ensures found { IfSome result (λ n. word.now ≡ decimal n) }
-    ensures within { IfSome result (λ n. IsInRange low high n) }
-    ensures none { IfNone result ((n : ℕ) → IsInRange low high n → word.now ≢ decimal n) }
+    requires small { high < 2 ^ 32 }
+    requires numeral { IsTrue (is_numeral word.now) }
+    ensures { MatchOption result (¬ IsInRange low high (value word.now))
+        (λ n. IsNumber low high word.now n) }
 {
     match unsigned(word, high) {
         None => None,
@@ -43,17 +45,33 @@ fn ranged(word: &[u8], low: u64, high: u64) -> Option<u64>
     }
 }
 
+/// The same where the word may be left out.
+fn ranged_if(word: Option<&[u8]>, low: u64, high: u64) -> Option<Option<u64>>
+    requires small { high < 2 ^ 32 }
+    requires numeral { IfSome (bytes_of word) (λ w. IsTrue (is_numeral w)) }
+    ensures { MatchOption result
+        (¬ IfSome (option_map value (bytes_of word.entry)) (λ n. IsInRange low high n))
+        (λ number. IsNumberIf low high (bytes_of word.entry) number) }
+{
+    match word {
+        None => Some(None),
+        Some(word) => match ranged(word, low, high) {
+            None => None,
+            Some(number) => Some(Some(number)),
+        },
+    }
+}
+
 /// The numbers of a line but those of its stays; None where one is out of its range.
-fn numbers_of(head: HeadWords<'_>) -> Option<Numbers> {
+fn numbers_of(head: HeadWords<'_>) -> Option<Numbers>
+    requires { HasNumerals head }
+    ensures { MatchOption result
+        ((stays : List SaidStay) → ¬ IsInRanges (meant (said_with head.entry stays)))
+        (λ numbers. AreNumbers head.entry numbers) }
+{
     let frame = ranged(head.frame, 10, GREATEST)?;
-    let deadline = match head.deadline {
-        None => None,
-        Some(word) => Some(ranged(word, 10, frame)?),
-    };
-    let first = match head.first {
-        None => None,
-        Some(word) => Some(ranged(word, 0, GREATEST)?),
-    };
+    let deadline = ranged_if(head.deadline, 10, frame)?;
+    let first = ranged_if(head.first, 0, GREATEST)?;
     let cost = ranged(head.cost, 4, GREATEST)?;
     Some(Numbers {
         frame,
@@ -64,7 +82,12 @@ fn numbers_of(head: HeadWords<'_>) -> Option<Numbers> {
 }
 
 /// The stays of these words; None where one is out of its range.
-fn stays_of(alloc: Global, words: &[StayWords<'_>]) -> Result<Option<List<Stay>>, AllocError> {
+fn stays_of(alloc: Global, words: &[StayWords<'_>]) -> Result<Option<List<Stay>>, AllocError>
+    requires { All (λ s. IsTrue (is_numeral s.ticks.now)) words.now }
+    ensures { IfOk result (λ found. MatchOption found
+        (¬ All (λ s. IsInRange 3 1000000000 s.ticks) (map stay_meant (map stay_of words.now)))
+        (λ stays. AreStays (map stay_of words.now) stays)) }
+{
     let mut stays = List::new(alloc);
     for word in words {
         let Some(ticks) = ranged(word.ticks, 3, GREATEST) else {
@@ -77,7 +100,9 @@ fn stays_of(alloc: Global, words: &[StayWords<'_>]) -> Result<Option<List<Stay>>
 }
 
 /// The name of an event, where there is one.
-fn event_of(alloc: Global, word: Option<&[u8]>) -> Result<Option<Name>, AllocError> {
+fn event_of(alloc: Global, word: Option<&[u8]>) -> Result<Option<Name>, AllocError>
+    ensures { IfOk result (λ event. event ≡ bytes_of word.entry) }
+{
     match word {
         None => Ok(None),
         Some(word) => Ok(Some(Name::new(alloc, word)?)),

@@ -1,6 +1,6 @@
 //! The words of a line, from left to right.
 
-ghost use Rattle.std.specs.Prelude.{◌≡◌, option_map};
+ghost use Rattle.std.specs.Prelude.{◌≡◌, Some, option_map};
 ghost use Rattle.table_reader.specs.Words.{after_key as read_after, first_word, left, optional as read_optional, optional_seen, seen_next};
 
 use text_fields::cut_at;
@@ -27,7 +27,7 @@ pub struct OptionalWord<'a> {
 
 /// The first of some bytes' words, and the words behind it.
 fn first_of(bytes: &[u8]) -> NextWord<'_>
-    ensures { Some (seen_next result) ≡ first_word (left (Some bytes)) }
+    ensures { Some (seen_next result) ≡ first_word (left (Some bytes.entry)) }
 {
     match cut_at(bytes, b' ') {
         None => NextWord {
