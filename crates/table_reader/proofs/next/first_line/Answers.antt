@@ -21,5 +21,5 @@ pub returns : goal.returns
 returns c = (
   c.if-not-is_table_word.ensures.0 refl,
   first_is c.args.bytes.now c.in_ok-cut.cut.before.now c.in_ok-cut.cut.after.now c.in_ok-cut.ensures.found c.in_ok-name.name.now
-  (strip_prefix_is {E = nat_eq} unsigned_Decides c.in_ok-cut.cut.before.now (codes "table ") (Some c.in_ok-name.name) c.in_ok-name.ensures.cases),
+      (strip_prefix_is {E = nat_eq} unsigned_Decides c.in_ok-cut.cut.before.now (codes "table ") (Some c.in_ok-name.name) c.in_ok-name.ensures.cases),
 )
