@@ -12,7 +12,6 @@ pub mod Items
 pub mod Tests
 pub mod Places
 pub mod Lines
-pub mod Small
 pub mod Nexted
 pub mod Answered
 pub mod Endings
