@@ -88,6 +88,26 @@ fn text_of(alloc: Global, bars: &str) -> Result<String, Fail> {
     lines(alloc, bars)
 }
 
+/// A call of `table` on a text, what it puts, and what P then holds.
+fn becomes<'x>(
+    alloc: Global,
+    table: &str,
+    text: &'x str,
+    status: u8,
+    put: &'x str,
+    program: &'x str,
+) -> Result<(), Fail> {
+    let want = Left {
+        status,
+        put,
+        program: Some(program.as_bytes()),
+        script: Some(text.as_bytes()),
+        image: None,
+        migrated: None,
+    };
+    call(alloc, "table S P", b"", Some(text))?.left(table, &want)
+}
+
 #[test]
 fn tables_become_programs_or_have_faults(rt: HostRuntime) -> Result<(), Fail> {
     let alloc = rt.alloc();
@@ -99,15 +119,14 @@ fn tables_become_programs_or_have_faults(rt: HostRuntime) -> Result<(), Fail> {
         let text = text_of(alloc, table)?;
         let put = text_of(alloc, put)?;
         let program = text_of(alloc, program)?;
-        let want = Left {
+        becomes(
+            alloc,
+            table,
+            text.as_str(),
             status,
-            put: put.as_str(),
-            program: Some(program.as_str().as_bytes()),
-            script: Some(text.as_str().as_bytes()),
-            image: None,
-            migrated: None,
-        };
-        call(alloc, "table S P", b"", Some(text.as_str()))?.left(table, &want)?;
+            put.as_str(),
+            program.as_str(),
+        )?;
     }
     Ok(())
 }
