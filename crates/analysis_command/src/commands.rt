@@ -12,13 +12,13 @@ use outside::Files;
 use std::alloc::Global;
 
 /// `why`.
-#[tactic(auto, using(command_answers::proofs::Trying::tried_last))]
+#[tactic(auto, using(command_answers::proofs::Held::first_unread, command_answers::proofs::Trying::tried_last))]
 pub fn prepare_why<'a, F: Files>(
     alloc: Global,
-    program: &str,
+    program: &'a str,
     over: u16,
     files: &mut F,
-) -> Result<PreparedCall<'a>, PrepareError>
+) -> Result<PreparedCall<'a>, PrepareError<'a>>
     requires { over ≤ 1000 }
     ensures prepared { Prepares F.tells (call.why program.now over) (F.state files.old)
         (F.state files.new) result }
@@ -38,13 +38,13 @@ pub fn prepare_why<'a, F: Files>(
 }
 
 /// `fit`.
-#[tactic(auto, using(command_answers::proofs::Trying::tried_last))]
+#[tactic(auto, using(command_answers::proofs::Held::first_unread, command_answers::proofs::Trying::tried_last))]
 pub fn prepare_fit<'a, F: Files>(
     alloc: Global,
-    program: &str,
+    program: &'a str,
     over: u16,
     files: &mut F,
-) -> Result<PreparedCall<'a>, PrepareError>
+) -> Result<PreparedCall<'a>, PrepareError<'a>>
     requires { over ≤ 1000 }
     ensures prepared { Prepares F.tells (call.fit program.now over) (F.state files.old)
         (F.state files.new) result }

@@ -7,13 +7,17 @@ use Rattle.std.proofs.lemmas.Bool.{cases_eq, OnTrue_at, OnTrue_from}
 use Rattle.outside.specs.Outside.{FilesState, SinkState, Outside, outside, Rose, Appends, AppendsFront, HasTakenSome}
 use Rattle.command_words.specs.Calls.{Call, Load}
 use Rattle.command_answers.specs.Went.{IsWhole, IsCut, WriteFailed, PutFailed, Went, IsUsage}
+use Rattle.command_answers.specs.declared.status.Status.{Status}
+use Rattle.command_answers.specs.declared.status.Status.TheVariants as status
+use Rattle.command_answers.specs.Acts.{number_of}
+use Rattle.command_answers.specs.Causes.{HasCause}
 use Rattle.command_answers.specs.Files.{sources_of, target_of}
 use Rattle.command_answers.specs.Tried.{HasTried, HasTriedTarget}
 use Rattle.command.specs.Due.{IsSummary}
 use Rattle.command.specs.Made as of_make
 use Rattle.command.specs.Made.{Made}
 use Rattle.command.specs.Tried.{HasRead, HasWritten}
-use Rattle.command.specs.Settled.{HasTakenNothing, IsSettled, whole, idle, lost}
+use Rattle.command.specs.Settled.{CauseStands, HasTakenNothing, IsSettled, whole, idle, lost}
 use Rattle.command.proofs.Settling.{same_state, none_below, front_below, text_taken, whole_front, rose_below}
 
 -- the sink below stands as the buffer, with its status; or what waited was not taken whole
@@ -242,3 +246,42 @@ low_settled P tells m w s n told settled = OnTrue_from tells _ (λ tell low. by 
   by : tells ≡ true → n < 6 → (n ≡ s) ⊎ (n ≡ 7) → P n
   by tell low (inl is) = subst P (sym is) (OnTrue_at tell told (subst (λ k. k < 6) is low))
   by tell low (inr is) = absurd (omega (arith, is, low))
+
+-- ---- what the status names
+
+faults_since : (sources targets : List (List ℕ)) (f f' : FilesState) (b m : SinkState) (s : Status) → (number_of s ≢ 7 → m.faults ≡ b.faults)
+    → HasCause sources targets (outside f b) (outside f' m) s → (m.faults ≡ b.faults) ⊎ Rose b.faults m.faults
+faults_since sources targets f f' b m (status.Unwritten name) quiet (is, rose, same) = inl same
+faults_since sources targets f f' b m status.Unput quiet rose = inr rose
+faults_since sources targets f f' b m (status.Unread name) quiet cause = inl (quiet (λ e. absurd cc))
+faults_since sources targets f f' b m status.Done quiet cause = inl (quiet (λ e. absurd cc))
+faults_since sources targets f f' b m status.Usage quiet cause = inl (quiet (λ e. absurd cc))
+faults_since sources targets f f' b m status.Text quiet cause = inl (quiet (λ e. absurd cc))
+faults_since sources targets f f' b m status.Late quiet cause = inl (quiet (λ e. absurd cc))
+faults_since sources targets f f' b m status.Image quiet cause = inl (quiet (λ e. absurd cc))
+faults_since sources targets f f' b m status.Script quiet cause = inl (quiet (λ e. absurd cc))
+faults_since sources targets f f' b m status.Memory quiet cause = inl (quiet (λ e. absurd cc))
+faults_since sources targets f f' b m status.Log quiet cause = inl (quiet (λ e. absurd cc))
+
+-- the buffer's count of faults is that of the sink below
+same_faults : (sources targets : List (List ℕ)) (f f' : FilesState) (b m w : SinkState) (s : Status) → w.faults ≡ m.faults
+    → HasCause sources targets (outside f b) (outside f' m) s → HasCause sources targets (outside f b) (outside f' w) s
+same_faults sources targets f f' b m w (status.Unread name) faults cause = cause
+same_faults sources targets f f' b m w (status.Unwritten name) faults (is, rose, same) = (is, rose, faults ∙ same)
+same_faults sources targets f f' b m w status.Unput faults rose = subst (Rose b.faults) (sym faults) rose
+same_faults sources targets f f' b m w status.Done faults cause = tt
+same_faults sources targets f f' b m w status.Usage faults cause = tt
+same_faults sources targets f f' b m w status.Text faults cause = tt
+same_faults sources targets f f' b m w status.Late faults cause = tt
+same_faults sources targets f f' b m w status.Image faults cause = tt
+same_faults sources targets f f' b m w status.Script faults cause = tt
+same_faults sources targets f f' b m w status.Memory faults cause = tt
+same_faults sources targets f f' b m w status.Log faults cause = tt
+
+pub cause_settled : (sources targets : List (List ℕ)) (f f' : FilesState) (b m w : SinkState) (s n : Status) → (number_of s ≢ 7 → m.faults ≡ b.faults)
+    → HasCause sources targets (outside f b) (outside f' m) s → CauseStands m w s n → HasCause sources targets (outside f b) (outside f' w) n
+cause_settled sources targets f f' b m w s n quiet cause (inl (is, faults)) =
+    subst (HasCause sources targets (outside f b) (outside f' w)) (sym is) (same_faults sources targets f f' b m w s faults cause)
+cause_settled sources targets f f' b m w s n quiet cause (inr (is, rose)) =
+    subst (HasCause sources targets (outside f b) (outside f' w)) (sym is)
+    (rose_below b.faults m.faults w.faults (faults_since sources targets f f' b m s quiet cause) rose)

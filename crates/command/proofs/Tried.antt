@@ -2,16 +2,18 @@
 use Rattle.std.proofs.Common.{◌≡◌, ◌≢◌, ◌⊎◌, ◌∙◌, ◌++◌, ◌∷◌, ℕ, List, [], Option, Some, None, inl, inr, sym, subst, ap, arith}
 use Rattle.std.specs.Prelude.{IfSome, IsSomeAnd, String}
 use Rattle.std.specs.Global.{Global}
-use Rattle.outside.specs.Outside.{IsAdded}
+use Rattle.outside.specs.Outside.{IsAdded, Outside}
 use Rattle.command_words.specs.Calls.{Call, Load}
 use Rattle.command_words.specs.Words.{IsCommand, IsMake}
 use Rattle.command_words.specs.WordsLaws.{NoCommandIsALoad, WordsAreOneCommand, WordsAreOneLoad}
 use Rattle.command_answers.specs.declared.act.Store.{Store}
 use Rattle.command_answers.specs.Acts.{IsAtTarget}
-use Rattle.command_answers.specs.Files.{sources_of, target_of}
+use Rattle.command_answers.specs.declared.status.Status.{Status}
+use Rattle.command_answers.specs.Causes.{HasCause}
+use Rattle.command_answers.specs.Files.{listed, sources_of, target_of}
 use Rattle.command_answers.specs.Tried.{HasTried, HasTriedTarget}
 use Rattle.command_perform.specs.Performed.{WritesIt}
-use Rattle.command.specs.Tried.{HasRead, HasWritten}
+use Rattle.command.specs.Tried.{HasEnded, HasRead, HasWritten}
 
 -- ---- a command that was performed
 
@@ -65,5 +67,23 @@ pub load_written : WordsAreOneLoad → NoCommandIsALoad → (words : List (Strin
 load_written one none words load before now status is h = record {
   command = λ call asked. absurd (none words call load asked is);
   load = λ other asked. subst (λ (l : Load). HasTried (l.program ∷ l.script ∷ []) before now status) (one words load other is asked) h;
+  other = λ no no_load. absurd (no_load load is);
+}
+
+-- ---- what ended it, by the words
+
+pub command_ended : WordsAreOneCommand → NoCommandIsALoad → (words : List (String Global)) (call : Call) (before now : Outside) (answer : Status) → IsCommand words call
+    → HasCause (sources_of call) (listed (target_of call)) before now answer → HasEnded words before now answer
+command_ended one none words call before now answer is cause = record {
+  command = λ other asked. subst (λ c. HasCause (sources_of c) (listed (target_of c)) before now answer) (one words call other is asked) cause;
+  load = λ load asked. absurd (none words call load is asked);
+  other = λ no no_load. absurd (no call is);
+}
+
+pub load_ended : WordsAreOneLoad → NoCommandIsALoad → (words : List (String Global)) (load : Load) (before now : Outside) (answer : Status) → IsMake words load
+    → HasCause [] (load.program ∷ load.script ∷ []) before now answer → HasEnded words before now answer
+load_ended one none words load before now answer is cause = record {
+  command = λ call asked. absurd (none words call load asked is);
+  load = λ other asked. subst (λ l. HasCause [] (l.program ∷ l.script ∷ []) before now answer) (one words load other is asked) cause;
   other = λ no no_load. absurd (no_load load is);
 }

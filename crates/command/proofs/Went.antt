@@ -1,6 +1,6 @@
 -- What is prepared and performed went as is due.
 use Rattle.std.proofs.Common.{◌≡◌, ◌≢◌, ◌≤◌, ◌<◌, ◌⊎◌, ◌∙◌, ℕ, List, [], Option, Some, None, Bool, true, false, inl, inr, refl, sym, subst, ap, arith}
-use Rattle.std.specs.Prelude.{IsSomeAnd, IfSome}
+use Rattle.std.specs.Prelude.{Contains, IsSomeAnd, IfSome}
 use Rattle.std.specs.Bool.{OnTrue}
 use Rattle.outside.specs.Outside.{FilesState, SinkState, Outside, outside, Rose, AllStay, NoneFell}
 use Rattle.command_words.specs.Calls.{Call}
@@ -8,11 +8,13 @@ use Rattle.command_answers.specs.declared.status.Status.{Status}
 use Rattle.command_answers.specs.declared.status.Status.TheVariants as status
 use Rattle.command_answers.specs.declared.act.PreparedCall.{PreparedCall}
 use Rattle.command_answers.specs.declared.act.Store.{Store}
-use Rattle.command_answers.specs.Files.{Held, target_of}
+use Rattle.command_answers.specs.Causes.{HasCause}
+use Rattle.command_answers.specs.Files.{Held, listed, sources_of, target_of}
 use Rattle.command_answers.specs.Acts.{number_of, outcome_of, bytes_due, IsAtTarget}
-use Rattle.command_answers.specs.Went.{IsAnswer, IsStored, Stores, IsWhole, WriteFailed, PutFailed, HasText, IsCut, Went}
-use Rattle.command_answers.specs.Prepared.{IsPrepared, ReadsFailed}
-use Rattle.command_perform.specs.Performed.{StoresIt, OthersKept, StoreFailed, Performed}
+use Rattle.command_answers.specs.Went.{IsAnswer, IsStored, Stores, IsWhole, WriteFailed, PutFailed, HasText, IsCut, ReadFailed, Went}
+use Rattle.command_answers.specs.Prepared.{Failed, IsPrepared, IsReached}
+use Rattle.command_perform.specs.Performed.{StoresIt, OthersKept, StoreFailed, Performed, targets}
+use Rattle.command_answers.proofs.Caused.{cause_since, more_targets}
 use Rattle.command_answers.proofs.Held.{rose_since}
 
 stay_since : (b m n : Held) → AllStay b m → AllStay m n → AllStay b n
@@ -50,8 +52,9 @@ number_low status.Text = omega arith
 number_low status.Late = omega arith
 number_low status.Image = omega arith
 number_low status.Script = omega arith
-number_low status.Unread = omega arith
-number_low status.Unwritten = omega arith
+number_low (status.Unread name) = omega arith
+number_low (status.Unwritten name) = omega arith
+number_low status.Unput = omega arith
 number_low status.Memory = omega arith
 number_low status.Log = omega arith
 
@@ -154,3 +157,27 @@ unread tells call b n o stay failed = record {
   others = λ name other. stay name;
   stays = λ some other. stay;
 }
+
+-- ---- why a call ended
+
+-- the image, if there is one, is stored in the file that the call writes
+target_is_named : (call : Call) (s : Option Store) (name : List ℕ) → IsAtTarget call s → Contains (targets s) name → Contains (listed (target_of call)) name
+target_is_named call None name at (k, low, is) = absurd (omega (arith, low))
+target_is_named call (Some s) name at is = subst (λ (t : Option (List ℕ)). Contains (listed t) name) (sym at) is
+
+pub performed_cause : (call : Call) (b m n : FilesState) (o o' : SinkState) (s : Option Store) (answer : Status) → IsAtTarget call s
+    → NoneFell b.read_faults m.read_faults → NoneFell b.write_faults m.write_faults
+    → HasCause [] (targets s) (outside m o) (outside n o') answer → HasCause (sources_of call) (listed (target_of call)) (outside b o) (outside n o') answer
+performed_cause call b m n o o' s answer at reads writes cause =
+    cause_since (sources_of call) (listed (target_of call)) b m n o o' answer reads writes
+    (more_targets [] (targets s) (sources_of call) (listed (target_of call)) (outside m o) (outside n o') answer
+    (λ name is. absurd (none_named name is)) (λ name is. target_is_named call s name at is) cause)
+  where
+    none_named : (name : List ℕ) → Contains {List ℕ} [] name → ⊥
+    none_named name (k, low, is) = omega (arith, low)
+
+-- a read that failed
+pub read_failed : (tells : Bool) (call : Call) (b n : FilesState) (o o' : SinkState) (name : List ℕ) → Failed b n name → IsReached tells call b.held name → ReadFailed tells call (outside b o) (outside n o')
+read_failed tells call b n o o' name failed (inl is) = inl (subst (Failed b n) is failed)
+read_failed tells call b n o o' name failed (inr (inl (is, reached))) = inr (inl (subst (λ (f : Option (List ℕ)). IsSomeAnd f (Failed b n)) (sym is) failed, reached))
+read_failed tells call b n o o' name failed (inr (inr (is, reached))) = inr (inr (subst (λ (f : Option (List ℕ)). IsSomeAnd f (Failed b n)) (sym is) failed, reached))

@@ -5,3 +5,4 @@ pub mod Steps
 pub mod Targets
 pub mod Settled
 pub mod Tried
+pub mod Told

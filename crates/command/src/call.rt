@@ -12,7 +12,7 @@ ghost use Rattle.command_due.specs.CommandsDue.{Outcome};
 ghost use Rattle.command.specs.Made.{Made};
 ghost use Rattle.command_answers.specs.Promise.{HasDone, IsRefusedForTime};
 ghost use Rattle.command.specs.Targets.{IsNoTarget};
-ghost use Rattle.command.specs.Tried.{HasRead, HasWritten};
+ghost use Rattle.command.specs.Tried.{HasEnded, HasRead, HasWritten};
 
 use crate::carry::carry_out;
 use asm_law::text_and_image::images_told_are_held;
@@ -74,7 +74,12 @@ use vm_law::suitable_scripts::scripts_suit;
 /// or F, its faults, its time, reading S, its faults, reading L, its faults and the verdict,
 /// storing, putting. `make` reads nothing, and its texts have no fault. The want of memory, 8, may
 /// come at any step.
-pub fn rte<F: Files, O: Sink>(alloc: Global, words: &[String], files: &mut F, out: &mut O) -> Status
+pub fn rte<'a, F: Files, O: Sink>(
+    alloc: Global,
+    words: &'a [String],
+    files: &mut F,
+    out: &mut O,
+) -> Status<'a>
     // A call of a command went as is due, by what its files hold.
     ensures went { (call : Call) → IsCommand words.now call → Went F.tells call
         (outside (F.state files.old) (O.state out.old))
@@ -109,6 +114,9 @@ pub fn rte<F: Files, O: Sink>(alloc: Global, words: &[String], files: &mut F, ou
         (number_of result ≡ 0) ⊎ (number_of result ≡ 7) }
     // With a status but 7 the sink's count of faults is what it was.
     ensures quiet { number_of result ≢ 7 → (O.state out.new).faults ≡ (O.state out.old).faults }
+    // A file that failed is one that the words let the call read, or write, and the status names it.
+    ensures cause { HasEnded words.now (outside (F.state files.old) (O.state out.old))
+        (outside (F.state files.new) (O.state out.new)) result }
     // Each file that the words name is read at most once, in the order of the steps, and no other;
     // with status 0 all that are to be read.
     ensures reads { HasRead words.now (F.state files.old).reads (F.state files.new).reads

@@ -1,16 +1,17 @@
 //! The call, without what the laws say of it.
 
-ghost use Rattle.std.specs.Prelude.{◌≡◌, ◌≢◌, ◌≤◌, ◌<◌, ◌⊎◌, ℕ, List, Some, codes};
-ghost use Rattle.outside.specs.Outside.{outside, AllStay, Appends, AppendsFront, Rose};
+ghost use Rattle.std.specs.Prelude.{◌≡◌, ◌≢◌, ◌≤◌, ◌<◌, ◌⊎◌, ℕ, List, [], Some, codes};
+ghost use Rattle.outside.specs.Outside.{outside, AllStay, Appends, AppendsFront, FilesState, Rose};
 ghost use Rattle.command_words.specs.Calls.{Call, Load, over_of};
 ghost use Rattle.command_words.specs.Words.{call_of, IsCommand, IsMake};
 ghost use Rattle.command_answers.specs.Acts.{number_of};
-ghost use Rattle.command_answers.specs.Files.{sources_of, target_of};
+ghost use Rattle.command_answers.specs.Causes.{HasCause};
+ghost use Rattle.command_answers.specs.Files.{listed, sources_of, target_of};
 ghost use Rattle.command_answers.specs.Tried.{HasTried, HasTriedTarget};
 ghost use Rattle.command_answers.specs.Went.{Went, IsUsage};
 ghost use Rattle.command.specs.Made.{Made};
 ghost use Rattle.command.specs.Targets.{IsNoTarget};
-ghost use Rattle.command.specs.Tried.{HasRead, HasWritten};
+ghost use Rattle.command.specs.Tried.{HasEnded, HasRead, HasWritten};
 
 use crate::{make, prepare};
 use command_answers::{PrepareError, Status};
@@ -21,30 +22,36 @@ use outside::{Files, Sink};
 use std::alloc::Global;
 
 /// Puts the usage.
-fn usage<O: Sink>(out: &mut O) -> Status
+fn usage<'a, O: Sink>(out: &mut O) -> Status<'a>
     ensures answer { ((number_of result ≡ 1) ×
         Appends (O.state out.old).taken (O.state out.new).taken (codes "usage\n"))
         ⊎ ((number_of result ≡ 7) × Rose (O.state out.old).faults (O.state out.new).faults
         × AppendsFront (O.state out.old).taken (O.state out.new).taken (codes "usage\n")) }
+    ensures cause { (before now : FilesState) → HasCause [] []
+        (outside before (O.state out.old)) (outside now (O.state out.new)) result }
     ensures quiet { number_of result ≢ 7 → (O.state out.new).faults ≡ (O.state out.old).faults }
 {
     match out.put(b"usage\n") {
         Ok(()) => Status::Usage,
-        Err(_) => Status::Unwritten,
+        Err(_) => Status::Unput,
     }
 }
 
 /// Prepares what is due of a command, and performs it.
-fn carry<F: Files, O: Sink>(
+fn carry<'a, F: Files, O: Sink>(
     alloc: Global,
-    command: &Command<'_>,
+    command: &Command<'a>,
     files: &mut F,
     out: &mut O,
-) -> Status
+) -> Status<'a>
     requires { over_of (call_of command.now) ≤ 1000 }
     ensures went { Went F.tells (call_of command.now)
         (outside (F.state files.old) (O.state out.old))
         (outside (F.state files.new) (O.state out.new)) (number_of result) }
+    ensures cause { HasCause (sources_of (call_of command.now))
+        (listed (target_of (call_of command.now)))
+        (outside (F.state files.old) (O.state out.old))
+        (outside (F.state files.new) (O.state out.new)) result }
     ensures reads { HasTried (sources_of (call_of command.now)) (F.state files.old).reads
         (F.state files.new).reads (number_of result) }
     ensures writes { HasTriedTarget (target_of (call_of command.now)) (F.state files.old).writes
@@ -52,18 +59,18 @@ fn carry<F: Files, O: Sink>(
 {
     match prepare(alloc, command, files) {
         Ok(act) => perform(alloc, &act, files, out),
-        Err(PrepareError::Unread) => Status::Unread,
+        Err(PrepareError::Unread(name)) => Status::Unread(name),
         Err(PrepareError::Memory) => Status::Memory,
     }
 }
 
 /// Does what the words ask.
-pub fn carry_out<F: Files, O: Sink>(
+pub fn carry_out<'a, F: Files, O: Sink>(
     alloc: Global,
-    words: &[String],
+    words: &'a [String],
     files: &mut F,
     out: &mut O,
-) -> Status
+) -> Status<'a>
     ensures went { (call : Call) → IsCommand words.now call → Went F.tells call
         (outside (F.state files.old) (O.state out.old))
         (outside (F.state files.new) (O.state out.new)) (number_of result) }
@@ -79,6 +86,8 @@ pub fn carry_out<F: Files, O: Sink>(
     ensures others { (name : List ℕ) → IsNoTarget words.now name →
         (F.state files.new).held name ≡ (F.state files.old).held name }
     ensures quiet { number_of result ≢ 7 → (O.state out.new).faults ≡ (O.state out.old).faults }
+    ensures cause { HasEnded words.now (outside (F.state files.old) (O.state out.old))
+        (outside (F.state files.new) (O.state out.new)) result }
     ensures reads { HasRead words.now (F.state files.old).reads (F.state files.new).reads
         (number_of result) }
     ensures writes { HasWritten words.now (F.state files.old).writes (F.state files.new).writes

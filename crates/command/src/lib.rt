@@ -8,7 +8,8 @@
 //! `command::whole_call` is what `main` does, over any files and any sink: it lends `rte` a buffer,
 //! writes what waits at the end, and answers 7 where that fails. All that `rte` promises of its sink,
 //! it promises of the sink below the buffer. `specs/Settled.antt` says what the end of a buffer comes
-//! to.
+//! to. Last it tells a person, by another sink, why the call ended: `specs/Told.antt` has the message
+//! of each status.
 //!
 //! `making` is `make`: `specs/Due.antt` says what the line of a load tells, `specs/Made.antt` what
 //! each status says of the call. The texts are those of a timely program and of a script for it
@@ -22,6 +23,7 @@ mod making;
 mod preparing;
 mod summing;
 mod system;
+mod telling;
 mod texts;
 mod whole;
 
@@ -29,4 +31,5 @@ pub use call::rte;
 pub use making::make;
 pub use preparing::prepare;
 pub use system::system_words;
+pub use telling::words_are_short;
 pub use whole::whole_call;

@@ -33,13 +33,14 @@ use table_command::prepare_table;
 ///
 /// # Errors
 ///
-/// `Unread` only where a read failed, that of the script only where what comes before has no fault.
+/// `Unread`, with the name of the file, only where its read failed, that of the script only where
+/// what comes before has no fault.
 /// `Memory` where there is not enough memory.
 pub fn prepare<'a, F: Files>(
     alloc: Global,
     command: &Command<'a>,
     files: &mut F,
-) -> Result<PreparedCall<'a>, PrepareError>
+) -> Result<PreparedCall<'a>, PrepareError<'a>>
     requires overhead { over_of (call_of command.now) ≤ 1000 }
     ensures prepared { Prepares F.tells (call_of command.now) (F.state files.old)
         (F.state files.new) result }

@@ -12,27 +12,31 @@ ghost use Rattle.command_answers.specs.Promise.{HasDone, IsRefusedForTime};
 ghost use Rattle.command_due.specs.CommandsDue.{Outcome};
 ghost use Rattle.command.specs.Made.{Made};
 ghost use Rattle.command.specs.Targets.{IsNoTarget};
-ghost use Rattle.command.specs.Tried.{HasRead, HasWritten};
-ghost use Rattle.command.specs.Settled.{HasTakenNothing, IsSettled};
+ghost use Rattle.command.specs.Tried.{HasEnded, HasRead, HasWritten};
+ghost use Rattle.command.specs.Settled.{CauseStands, HasTakenNothing, IsSettled};
+ghost use Rattle.command.specs.Told.{HasTold};
 
 use crate::rte;
+use crate::telling::tell;
 use command_answers::Status;
 use outside::{Buffered, Files, Sink};
 use std::alloc::Global;
 
 /// Whether the status says that nothing was put.
-fn puts_nothing(status: Status) -> bool
+fn puts_nothing(status: Status<'_>) -> bool
     ensures yes { result ≡ true → (number_of status ≡ 6) ⊎ (number_of status ≡ 8) }
     ensures no { result ≡ false → (number_of status ≢ 6) × (number_of status ≢ 8) }
 {
-    matches!(status, Status::Unread | Status::Memory)
+    matches!(status, Status::Unread(_) | Status::Memory)
 }
 
 /// Writes what waits to the sink below, and gives that back with the status that the call then has.
 /// Where nothing was put, nothing waits.
-fn settle<S: Sink>(status: Status, out: Buffered<S>) -> (Status, S)
-    ensures { IsSettled (⟦<Buffered<S> as Sink>⟧.state out) (S.state result.1)
+fn settle<'a, S: Sink>(status: Status<'a>, out: Buffered<S>) -> (Status<'a>, S)
+    ensures settled { IsSettled (⟦<Buffered<S> as Sink>⟧.state out) (S.state result.1)
         (number_of status) (number_of result.0) }
+    ensures cause { CauseStands (⟦<Buffered<S> as Sink>⟧.state out) (S.state result.1)
+        status result.0 }
 {
     if puts_nothing(status) {
         return (status, out.into_sink());
@@ -40,19 +44,21 @@ fn settle<S: Sink>(status: Status, out: Buffered<S>) -> (Status, S)
     let (written, sink) = out.finish();
     match written {
         Ok(()) => (status, sink),
-        Err(_) => (Status::Unwritten, sink),
+        Err(_) => (Status::Unput, sink),
     }
 }
 
 /// Does what the words ask, as `rte`, and gives the sink back with the status. What is put
 /// waits in a buffer of 65,536 bytes, and is written at the end; where that fails the status is 7.
-/// The sink has taken nothing yet, where it tells.
-pub fn whole_call<F: Files, S: Sink>(
+/// The sink has taken nothing yet, where it tells. Last, `err` gets the message for a person, of the
+/// statuses that have one; whether it takes it is not looked at.
+pub fn whole_call<'a, F: Files, S: Sink, E: Sink>(
     alloc: Global,
-    words: &[String],
+    words: &'a [String],
     files: &mut F,
     sink: S,
-) -> (Status, S)
+    err: &mut E,
+) -> (Status<'a>, S)
     requires nothing { HasTakenNothing (S.state sink).taken }
     // A call of a command went as is due, by what its files hold.
     ensures went { (call : Call) → IsCommand words.now call → Went F.tells call
@@ -88,6 +94,13 @@ pub fn whole_call<F: Files, S: Sink>(
         (number_of result.0 ≡ 0) ⊎ (number_of result.0 ≡ 7) }
     // With a status but 7 the sink's count of faults is what it was.
     ensures quiet { number_of result.0 ≢ 7 → (S.state result.1).faults ≡ (S.state sink).faults }
+    // A file that failed is one that the words let the call read, or write, and the status names it.
+    ensures cause { HasEnded words.now (outside (F.state files.old) (S.state sink))
+        (outside (F.state files.new) (S.state result.1)) result.0 }
+    // The other sink got the message of the status, or a front of it: for words that are no
+    // command what is wrong with them and the usage, for a file that failed its name. With status 0
+    // nothing was put there.
+    ensures told { HasTold words.now result.0 (E.state err.old) (E.state err.new) }
     // Each file that the words name is read at most once, in the order of the steps, and no other;
     // with status 0 all that are to be read.
     ensures reads { HasRead words.now (F.state files.old).reads (F.state files.new).reads
@@ -108,5 +121,7 @@ pub fn whole_call<F: Files, S: Sink>(
 {
     let mut out = Buffered::new(alloc, sink);
     let status = rte(alloc, words, files, &mut out);
-    settle(status, out)
+    let (status, sink) = settle(status, out);
+    tell(alloc, words, status, err);
+    (status, sink)
 }

@@ -1,15 +1,17 @@
 -- What is due by what files hold, and reads that failed.
-use Rattle.std.proofs.Common.{◌≤◌, ℕ, List, Option, Some, None, Bool, true, false, arith}
+use Rattle.std.proofs.Common.{◌≡◌, ◌≤◌, ℕ, List, Option, Some, None, Bool, true, false, Err, inl, inr, sym, subst, arith}
 use Rattle.std.specs.Prelude.{IsSomeAnd}
 use Rattle.std.specs.Bool.{OnTrue}
-use Rattle.outside.specs.Outside.{FilesState, Rose}
+use Rattle.outside.specs.Outside.{FilesState, NoneFell, Rose}
 use Rattle.command_words.specs.Calls.{Call}
 use Rattle.command_words.specs.Calls as call
 use Rattle.command_answers.specs.declared.act.PreparedCall.{PreparedCall}
-use Rattle.command_answers.specs.Files.{IsDue, target_of}
+use Rattle.command_answers.specs.Files.{IsDue, ReachesLog, ReachesScript, log_file_of, script_of, source_of, target_of}
 use Rattle.command_answers.specs.Acts.{outcome_of}
 use Rattle.command_answers.specs.Acting.{CanBeDone}
-use Rattle.command_answers.specs.Prepared.{IsPrepared}
+use Rattle.command_answers.specs.Prepared.{Failed, IsPrepared, IsReadError, Prepares}
+use Rattle.command_answers.specs.declared.prepare_error.PrepareError.{PrepareError}
+use Rattle.command_answers.specs.declared.prepare_error.PrepareError.TheVariants as unready
 
 -- ---- what a file holds
 
@@ -27,3 +29,20 @@ acted tells call before act can due = record { due = due; at = can.at; stored = 
 
 pub rose_since : (before mid now : ℕ) → before ≤ mid → Rose mid now → Rose before now
 rose_since before mid now le rose = omega (arith, le, rose)
+
+module _ (tells : Bool) (call : Call) (name : List ℕ) where
+  -- the first file could not be read
+  pub first_unread : (before now : FilesState) (why : PrepareError) → name ≡ source_of call → IsReadError name before now why → Prepares tells call before now (Err why)
+  first_unread before now (unready.Unread failed) is (at, rose) = (subst (Failed before now) (sym at) rose, inl (subst (λ n. n ≡ source_of call) (sym at) is))
+  first_unread before now unready.Memory is error = tt
+
+  module _ (before mid now : FilesState) (fell : NoneFell before.read_faults mid.read_faults) where
+    since : Failed mid now name → Failed before now name
+    since rose = rose_since (before.read_faults name) (mid.read_faults name) (now.read_faults name) (fell name) rose
+
+    -- that of the script could not, behind those before
+    pub script_unread : (why : PrepareError) → script_of call ≡ Some name → OnTrue tells (ReachesScript call before.held) → IsReadError name mid now why
+        → Prepares tells call before now (Err why)
+    script_unread (unready.Unread failed) is reached (at, rose) =
+        (subst (Failed before now) (sym at) (since rose), inr (inl (subst (λ n. script_of call ≡ Some n) (sym at) is, reached)))
+    script_unread unready.Memory is reached error = tt

@@ -1,3 +1,4 @@
+pub mod Caused
 pub mod Coming
 pub mod Held
 pub mod Judged

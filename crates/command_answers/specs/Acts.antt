@@ -32,8 +32,9 @@ number_of status.Text = 2
 number_of status.Late = 3
 number_of status.Image = 4
 number_of status.Script = 5
-number_of status.Unread = 6
-number_of status.Unwritten = 7
+number_of (status.Unread name) = 6
+number_of (status.Unwritten name) = 7
+number_of status.Unput = 7
 number_of status.Memory = 8
 number_of status.Log = 9
 

@@ -9,3 +9,4 @@ pub mod Acting
 pub mod Runnable
 pub mod Scripted
 pub mod Tried
+pub mod Causes

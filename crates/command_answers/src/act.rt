@@ -34,7 +34,7 @@ pub struct PreparedRun {
 /// fails from here on.
 #[derive(Drop)]
 pub struct PreparedCall<'a> {
-    pub status: Status,
+    pub status: Status<'a>,
     pub text: Text,
     pub store: Option<Store<'a>>,
     pub run: Option<PreparedRun>,

@@ -10,7 +10,7 @@ use std::alloc::{AllocError, Global};
 use syntax_tree::{Place, Text};
 
 /// The act that puts a text, and stores and runs nothing.
-pub fn put<'a>(status: Status, text: Text) -> PreparedCall<'a>
+pub fn put<'a>(status: Status<'a>, text: Text) -> PreparedCall<'a>
     ensures { result ≡ puts status text }
 {
     PreparedCall {

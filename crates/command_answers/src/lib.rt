@@ -2,8 +2,8 @@
 //!
 //! `specs/Files.antt` says which files a call reads and writes and what is due of it by what they
 //! hold, `specs/Went.antt` what each status says of the call, `specs/Tried.antt` which files were
-//! read and written, `specs/Acts.antt` what an act comes to: an act is what is left of a call when
-//! all is read and judged.
+//! read and written, `specs/Causes.antt` which of them, or the output, ended it, `specs/Acts.antt`
+//! what an act comes to: an act is what is left of a call when all is read and judged.
 //!
 //! `specs/Promise.antt` and `specs/Runs.antt` are the sentence that the top call carries: what
 //! statuses 0 and 3 say of texts, images, scripts and runs.

@@ -4,20 +4,20 @@ use std::alloc::AllocError;
 
 /// Why nothing was prepared.
 #[derive(Clone, Copy, Debug, PartialEq, Eq)]
-pub enum PrepareError {
-    /// A read failed.
-    Unread,
+pub enum PrepareError<'a> {
+    /// The read of the file of this name failed.
+    Unread(&'a str),
     /// There was not enough memory.
     Memory,
 }
 
-impl From<AllocError> for PrepareError {
+impl<'a> From<AllocError> for PrepareError<'a> {
     ghost use Rattle.std.specs.Prelude.{◌≡◌};
     ghost use Rattle.command_answers.specs.declared.prepare_error.PrepareError.TheVariants as unready;
 
     ghost from_gives = { λ _ made. made ≡ unready.Memory };
 
-    fn from(_: AllocError) -> PrepareError {
+    fn from(_: AllocError) -> PrepareError<'a> {
         PrepareError::Memory
     }
 }

@@ -2,8 +2,9 @@
 
 ghost use Rattle.std.specs.Prelude.{◌≡◌, ◌∷◌, [], IfErr, IfOk, IsSomeAnd, OnOk};
 ghost use Rattle.std.specs.Bool.{OnTrue};
-ghost use Rattle.outside.specs.Outside.{AllStay, IsAdded, NoneFell, Rose};
+ghost use Rattle.outside.specs.Outside.{AllStay, IsAdded, NoneFell};
 ghost use Rattle.command_answers.specs.Contents.{IsContent};
+ghost use Rattle.command_answers.specs.Prepared.{IsReadError};
 ghost use Rattle.command_answers.specs.Tried.{HasTried, error_status};
 
 use crate::prepare_error::PrepareError;
@@ -37,13 +38,17 @@ pub enum Content {
 ///
 /// # Errors
 ///
-/// `Unread` only where the name's count of faults rose. `Memory` where there is not enough memory.
+/// `Unread`, with the name, only where its count of faults rose. `Memory` where there is not enough
+/// memory.
 #[tactic(auto, using(crate::proofs::Trying::tried_last, crate::proofs::Trying::tried_at_most))]
-pub fn read<F: Files>(files: &mut F, name: &str, most: usize) -> Result<Content, PrepareError>
+pub fn read<'a, F: Files>(
+    files: &mut F,
+    name: &'a str,
+    most: usize,
+) -> Result<Content, PrepareError<'a>>
     ensures content { IfOk result (λ content.
         OnTrue F.tells (IsSomeAnd ((F.state files.old).held name.now) (IsContent most content))) }
-    ensures unread { result ≡ Err PrepareError.Unread →
-        Rose ((F.state files.old).read_faults name.now) ((F.state files.new).read_faults name.now) }
+    ensures failed { IfErr result (IsReadError name.now (F.state files.old) (F.state files.new)) }
     ensures files { AllStay (F.state files.old).held (F.state files.new).held }
     ensures read_counts { NoneFell (F.state files.old).read_faults (F.state files.new).read_faults }
     ensures write_counts { NoneFell (F.state files.old).write_faults
@@ -57,7 +62,7 @@ pub fn read<F: Files>(files: &mut F, name: &str, most: usize) -> Result<Content,
     match files.read(name, most) {
         Ok(bytes) => Ok(Content::Bytes(bytes)),
         Err(ReadFault::Long) => Ok(Content::TooLong),
-        Err(ReadFault::Failed) => Err(PrepareError::Unread),
+        Err(ReadFault::Failed) => Err(PrepareError::Unread(name)),
         Err(ReadFault::Memory) => Err(PrepareError::Memory),
     }
 }

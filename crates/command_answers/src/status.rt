@@ -2,7 +2,7 @@
 
 /// How a call ended. The first that is due in the order of its steps is the answer.
 #[derive(Clone, Copy, Debug, PartialEq, Eq)]
-pub enum Status {
+pub enum Status<'a> {
     /// 0: all that is due was done.
     Done,
     /// 1: the words are no command.
@@ -15,17 +15,19 @@ pub enum Status {
     Image,
     /// 5: the text is no script.
     Script,
-    /// 6: a read failed.
-    Unread,
-    /// 7: the store or a put failed.
-    Unwritten,
+    /// 6: the read of the file of this name failed.
+    Unread(&'a str),
+    /// 7: the write of the file of this name failed.
+    Unwritten(&'a str),
+    /// 7: a put failed.
+    Unput,
     /// 8: there was not enough memory, or `replay` met functions that nest too deep for it.
     Memory,
     /// 9: the text is no log, or its events are no run of the program.
     Log,
 }
 
-impl Status {
+impl Status<'_> {
     ghost use Rattle.std.specs.Prelude.{◌≡◌};
     ghost use Rattle.command_answers.specs.Acts.{number_of};
 
@@ -40,8 +42,8 @@ impl Status {
             Status::Late => 3,
             Status::Image => 4,
             Status::Script => 5,
-            Status::Unread => 6,
-            Status::Unwritten => 7,
+            Status::Unread(_) => 6,
+            Status::Unwritten(_) | Status::Unput => 7,
             Status::Memory => 8,
             Status::Log => 9,
         }

@@ -1,9 +1,9 @@
 -- What is due of a run that is drawn, by what files hold.
 use Rattle.std.proofs.Common.{◌≡◌, ◌≢◌, ℕ, List, Option, Some, None, Bool, true, false, ◌⊎◌, Ok, Err, inl, inr, refl, subst}
-use Rattle.std.specs.Prelude.{Result, IfOk, IsSomeAnd}
+use Rattle.std.specs.Prelude.{Result, IfErr, IfOk, IsSomeAnd}
 use Rattle.std.specs.Bool.{OnTrue}
 use Rattle.image.specs.declared.raw.RawImage.{RawImage}
-use Rattle.outside.specs.Outside.{FilesState, AllStay, NoneFell, Rose}
+use Rattle.outside.specs.Outside.{FilesState, AllStay, NoneFell}
 use Rattle.script.specs.declared.fault.ScriptFault.{ScriptFault}
 use Rattle.script.specs.declared.fault.ScriptFault.TheVariants as script_fault
 use Rattle.script.specs.declared.script.Script.{Script}
@@ -17,11 +17,10 @@ use Rattle.command_answers.specs.declared.act.PreparedCall.{PreparedCall}
 use Rattle.command_answers.specs.declared.status.Status.TheVariants as status
 use Rattle.command_answers.specs.Acts.{outcome_of}
 use Rattle.command_answers.specs.declared.prepare_error.PrepareError.{PrepareError}
-use Rattle.command_answers.specs.declared.prepare_error.PrepareError.TheVariants as unready
 use Rattle.command_answers.specs.Acting.{IsQuiet, puts}
-use Rattle.command_answers.specs.Prepared.{Prepares, ReadsFailed}
+use Rattle.command_answers.specs.Prepared.{IsReadError, Prepares}
 use Rattle.command_answers.proofs.Coming.{put_comes_to}
-use Rattle.command_answers.proofs.Held.{acted, of_held, rose_since}
+use Rattle.command_answers.proofs.Held.{acted, of_held, script_unread}
 use Rattle.command_images.specs.Charted.{IsDrawnDue, IsDrawnOver, misspelled, drawn}
 
 -- ---- scripts
@@ -65,22 +64,13 @@ chart_stops true a b (Some bytes) script P outcome is refused = chart_refused by
 chart_stops true a b None script P outcome is refused = absurd is
 chart_stops false a b held script P outcome is refused = tt
 
-chart_script_failed : (tells : Bool) (image script : List ℕ) (a b : ℕ) (before mid now : FilesState) (P : List ℕ → Type 0) (raw : RawImage)
-    → OnTrue tells (IsSomeAnd (before.held image) P) → ((bytes : List ℕ) → P bytes → IsImageFile bytes raw)
-    → NoneFell before.read_faults mid.read_faults → Rose (mid.read_faults script) (now.read_faults script) → ReadsFailed tells (call.chart image script a b) before now
-chart_script_failed tells image script a b before mid now P raw is loads first rose =
-    inr (inl (
-      rose_since (before.read_faults script) (mid.read_faults script) (now.read_faults script) (first script) rose,
-      of_held tells (before.held image) P (λ bytes. (r : RawImage) × IsImageFile bytes r) is (λ bytes p. (raw, loads bytes p)),
-    ))
-
 pub chart_prepares : (tells : Bool) (image script : List ℕ) (a b : ℕ) (before mid now : FilesState) (P : List ℕ → Type 0) (raw : RawImage) (result : Result PreparedCall PrepareError)
     → OnTrue tells (IsSomeAnd (before.held image) P) → ((bytes : List ℕ) → P bytes → IsImageFile bytes raw) → AllStay before.held mid.held → NoneFell before.read_faults mid.read_faults
     → IfOk result (λ act. OnTrue tells (IsSomeAnd (mid.held script) (λ other. IsDrawnDue a b raw other (outcome_of act)))) → IfOk result IsQuiet
-    → (result ≡ Err unready.Unread → Rose (mid.read_faults script) (now.read_faults script)) → Prepares tells (call.chart image script a b) before now result
+    → IfErr result (IsReadError script mid now) → Prepares tells (call.chart image script a b) before now result
 chart_prepares tells image script a b before mid now P raw (Ok act) is loads stays fell due quiet failed =
     acted tells (call.chart image script a b) before act (quiet None)
     (chart_due tells a b (before.held image) (before.held script) (mid.held script) P raw (outcome_of act) is loads due (stays script))
-chart_prepares tells image script a b before mid now P raw (Err unready.Unread) is loads stays fell due quiet failed =
-    chart_script_failed tells image script a b before mid now P raw is loads fell (failed refl)
-chart_prepares tells image script a b before mid now P raw (Err unready.Memory) is loads stays fell due quiet failed = tt
+chart_prepares tells image script a b before mid now P raw (Err why) is loads stays fell due quiet failed =
+    script_unread tells (call.chart image script a b) script before mid now fell why refl
+    (of_held tells (before.held image) P (λ bytes. (r : RawImage) × IsImageFile bytes r) is (λ bytes p. (raw, loads bytes p))) failed

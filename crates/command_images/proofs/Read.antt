@@ -1,20 +1,19 @@
 -- What is due of images, by what files hold.
-use Rattle.std.proofs.Common.{◌≡◌, ℕ, List, Option, Some, None, Bool, true, false, Ok, Err, inl, inr, refl, subst}
-use Rattle.std.specs.Prelude.{Result, IfOk, IsSomeAnd}
+use Rattle.std.proofs.Common.{◌≡◌, ℕ, List, Option, Some, None, Bool, true, false, Ok, Err, refl, subst}
+use Rattle.std.specs.Prelude.{Result, IfErr, IfOk, IsSomeAnd}
 use Rattle.std.specs.Bool.{OnTrue}
 use Rattle.image.specs.declared.raw.RawImage.{RawImage}
-use Rattle.outside.specs.Outside.{FilesState, AllStay, NoneFell, Rose}
+use Rattle.outside.specs.Outside.{FilesState, AllStay, NoneFell}
 use Rattle.command_words.specs.Calls as call
 use Rattle.command_due.specs.CommandsDue.{Outcome, IsImageFile, IsImageRefused, IsRunDue, run_refused, run_bad_script, ran}
 use Rattle.command_answers.specs.declared.act.PreparedCall.{PreparedCall}
 use Rattle.command_answers.specs.Acts.{outcome_of}
 use Rattle.command_answers.specs.declared.prepare_error.PrepareError.{PrepareError}
-use Rattle.command_answers.specs.declared.prepare_error.PrepareError.TheVariants as unready
 use Rattle.command_answers.specs.Acting.{CanBeDone}
-use Rattle.command_answers.specs.Prepared.{Prepares, ReadsFailed}
+use Rattle.command_answers.specs.Prepared.{IsReadError, Prepares}
 use Rattle.command_answers.specs.Scripted as scripted
 use Rattle.command_images.specs.Scripted.{IsRawRunDue}
-use Rattle.command_answers.proofs.Held.{of_held, acted, rose_since}
+use Rattle.command_answers.proofs.Held.{of_held, acted, script_unread}
 
 -- ---- `run`
 
@@ -39,22 +38,13 @@ run_stops true (Some bytes) script P outcome is refused = run_refused bytes refl
 run_stops true None script P outcome is refused = absurd is
 run_stops false held script P outcome is refused = tt
 
-run_script_failed : (tells : Bool) (image script : List ℕ) (before mid now : FilesState) (P : List ℕ → Type 0) (raw : RawImage)
-    → OnTrue tells (IsSomeAnd (before.held image) P) → ((bytes : List ℕ) → P bytes → IsImageFile bytes raw)
-    → NoneFell before.read_faults mid.read_faults → Rose (mid.read_faults script) (now.read_faults script) → ReadsFailed tells (call.run image script) before now
-run_script_failed tells image script before mid now P raw is loads first rose =
-    inr (inl (
-      rose_since (before.read_faults script) (mid.read_faults script) (now.read_faults script) (first script) rose,
-      of_held tells (before.held image) P (λ bytes. (r : RawImage) × IsImageFile bytes r) is (λ bytes p. (raw, loads bytes p)),
-    ))
-
 pub run_prepares : (tells : Bool) (image script : List ℕ) (before mid now : FilesState) (P : List ℕ → Type 0) (raw : RawImage) (result : Result PreparedCall PrepareError)
     → OnTrue tells (IsSomeAnd (before.held image) P) → ((bytes : List ℕ) → P bytes → IsImageFile bytes raw) → AllStay before.held mid.held → NoneFell before.read_faults mid.read_faults
     → IfOk result (λ act. OnTrue tells (IsSomeAnd (mid.held script) (λ other. IsRawRunDue raw other (outcome_of act)))) → IfOk result (CanBeDone None)
-    → (result ≡ Err unready.Unread → Rose (mid.read_faults script) (now.read_faults script)) → Prepares tells (call.run image script) before now result
+    → IfErr result (IsReadError script mid now) → Prepares tells (call.run image script) before now result
 run_prepares tells image script before mid now P raw (Ok act) is loads stays fell due can failed =
     acted tells (call.run image script) before act can
     (run_due tells (before.held image) (before.held script) (mid.held script) P raw (outcome_of act) is loads due (stays script))
-run_prepares tells image script before mid now P raw (Err unready.Unread) is loads stays fell due can failed =
-    run_script_failed tells image script before mid now P raw is loads fell (failed refl)
-run_prepares tells image script before mid now P raw (Err unready.Memory) is loads stays fell due can failed = tt
+run_prepares tells image script before mid now P raw (Err why) is loads stays fell due can failed =
+    script_unread tells (call.run image script) script before mid now fell why refl
+    (of_held tells (before.held image) P (λ bytes. (r : RawImage) × IsImageFile bytes r) is (λ bytes p. (raw, loads bytes p))) failed

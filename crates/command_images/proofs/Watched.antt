@@ -1,9 +1,9 @@
 -- What is due of a run that is watched, by what files hold.
 use Rattle.std.proofs.Common.{◌≡◌, ◌≢◌, ℕ, List, Option, Some, None, Bool, true, false, ◌⊎◌, Ok, Err, inl, inr, refl, subst}
-use Rattle.std.specs.Prelude.{Result, IfOk, IsSomeAnd}
+use Rattle.std.specs.Prelude.{Result, IfErr, IfOk, IsSomeAnd}
 use Rattle.std.specs.Bool.{OnTrue}
 use Rattle.image.specs.declared.raw.RawImage.{RawImage}
-use Rattle.outside.specs.Outside.{FilesState, AllStay, NoneFell, Rose}
+use Rattle.outside.specs.Outside.{FilesState, AllStay, NoneFell}
 use Rattle.script.specs.declared.fault.ScriptFault.{ScriptFault}
 use Rattle.script.specs.declared.fault.ScriptFault.TheVariants as script_fault
 use Rattle.script.specs.declared.script.Script.{Script}
@@ -18,11 +18,10 @@ use Rattle.command_answers.specs.declared.act.PreparedCall.{PreparedCall}
 use Rattle.command_answers.specs.declared.status.Status.TheVariants as status
 use Rattle.command_answers.specs.Acts.{outcome_of}
 use Rattle.command_answers.specs.declared.prepare_error.PrepareError.{PrepareError}
-use Rattle.command_answers.specs.declared.prepare_error.PrepareError.TheVariants as unready
 use Rattle.command_answers.specs.Acting.{IsQuiet, puts}
-use Rattle.command_answers.specs.Prepared.{Prepares, ReadsFailed}
+use Rattle.command_answers.specs.Prepared.{IsReadError, Prepares}
 use Rattle.command_answers.proofs.Coming.{put_comes_to}
-use Rattle.command_answers.proofs.Held.{acted, of_held, rose_since}
+use Rattle.command_answers.proofs.Held.{acted, of_held, script_unread}
 use Rattle.command_images.specs.Watched.{IsSeenDue, IsTold, misspelled, seen}
 
 -- ---- scripts
@@ -66,22 +65,13 @@ watch_stops true stop (Some bytes) script P outcome is refused = watch_refused b
 watch_stops true stop None script P outcome is refused = absurd is
 watch_stops false stop held script P outcome is refused = tt
 
-watch_script_failed : (tells : Bool) (image script : List ℕ) (stop : Breakpoint) (before mid now : FilesState) (P : List ℕ → Type 0) (raw : RawImage)
-    → OnTrue tells (IsSomeAnd (before.held image) P) → ((bytes : List ℕ) → P bytes → IsImageFile bytes raw)
-    → NoneFell before.read_faults mid.read_faults → Rose (mid.read_faults script) (now.read_faults script) → ReadsFailed tells (call.watch image script stop) before now
-watch_script_failed tells image script stop before mid now P raw is loads first rose =
-    inr (inl (
-      rose_since (before.read_faults script) (mid.read_faults script) (now.read_faults script) (first script) rose,
-      of_held tells (before.held image) P (λ bytes. (r : RawImage) × IsImageFile bytes r) is (λ bytes p. (raw, loads bytes p)),
-    ))
-
 pub watch_prepares : (tells : Bool) (image script : List ℕ) (stop : Breakpoint) (before mid now : FilesState) (P : List ℕ → Type 0) (raw : RawImage) (result : Result PreparedCall PrepareError)
     → OnTrue tells (IsSomeAnd (before.held image) P) → ((bytes : List ℕ) → P bytes → IsImageFile bytes raw) → AllStay before.held mid.held → NoneFell before.read_faults mid.read_faults
     → IfOk result (λ act. OnTrue tells (IsSomeAnd (mid.held script) (λ other. IsSeenDue stop raw other (outcome_of act)))) → IfOk result IsQuiet
-    → (result ≡ Err unready.Unread → Rose (mid.read_faults script) (now.read_faults script)) → Prepares tells (call.watch image script stop) before now result
+    → IfErr result (IsReadError script mid now) → Prepares tells (call.watch image script stop) before now result
 watch_prepares tells image script stop before mid now P raw (Ok act) is loads stays fell due quiet failed =
     acted tells (call.watch image script stop) before act (quiet None)
     (watch_due tells stop (before.held image) (before.held script) (mid.held script) P raw (outcome_of act) is loads due (stays script))
-watch_prepares tells image script stop before mid now P raw (Err unready.Unread) is loads stays fell due quiet failed =
-    watch_script_failed tells image script stop before mid now P raw is loads fell (failed refl)
-watch_prepares tells image script stop before mid now P raw (Err unready.Memory) is loads stays fell due quiet failed = tt
+watch_prepares tells image script stop before mid now P raw (Err why) is loads stays fell due quiet failed =
+    script_unread tells (call.watch image script stop) script before mid now fell why refl
+    (of_held tells (before.held image) P (λ bytes. (r : RawImage) × IsImageFile bytes r) is (λ bytes p. (raw, loads bytes p))) failed

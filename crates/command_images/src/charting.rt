@@ -1,14 +1,14 @@
 //! `chart`.
 
-ghost use Rattle.std.specs.Prelude.{◌∷◌, [], ◌≡◌, ℕ, List, None, IfOk, IsSomeAnd};
+ghost use Rattle.std.specs.Prelude.{◌∷◌, [], ◌≡◌, ℕ, List, None, IfErr, IfOk, IsSomeAnd};
 ghost use Rattle.std.specs.Bool.{OnTrue};
 ghost use Rattle.command_answers.specs.Acts.{outcome_of};
-ghost use Rattle.outside.specs.Outside.{AllStay, NoneFell, Rose};
+ghost use Rattle.outside.specs.Outside.{AllStay, NoneFell};
 ghost use Rattle.script.specs.Scripts.{longest_text};
 ghost use Rattle.command_words.specs.Calls as call;
 ghost use Rattle.command_answers.specs.Acting.{IsQuiet};
 ghost use Rattle.command_answers.specs.Contents.{IsContent};
-ghost use Rattle.command_answers.specs.Prepared.{Prepares};
+ghost use Rattle.command_answers.specs.Prepared.{IsReadError, Prepares};
 ghost use Rattle.command_answers.specs.Tried.{HasTried, status_of};
 ghost use Rattle.command_answers.specs.Runnable.{IsRunnable, RunsRaw};
 ghost use Rattle.command_images.specs.Charted.{IsDrawnDue, IsDrawnOver};
@@ -66,19 +66,18 @@ fn chart_act<'a>(
 fn chart_on<'a, F: Files>(
     alloc: Global,
     raw: &RawImage,
-    script: &str,
+    script: &'a str,
     first: u64,
     end: u64,
     files: &mut F,
-) -> Result<PreparedCall<'a>, PrepareError>
+) -> Result<PreparedCall<'a>, PrepareError<'a>>
     requires { IsRunnable raw.now }
     ensures due { IfOk result (λ act. OnTrue F.tells
         (IsSomeAnd ((F.state files.old).held script.now)
         (λ text. IsDrawnDue first end raw.now text (outcome_of act)))) }
     ensures quiet { IfOk result IsQuiet }
-    ensures unread { result ≡ Err PrepareError.Unread →
-        Rose ((F.state files.old).read_faults script.now)
-        ((F.state files.new).read_faults script.now) }
+    ensures failed { IfErr result
+        (IsReadError script.now (F.state files.old) (F.state files.new)) }
     ensures files { AllStay (F.state files.old).held (F.state files.new).held }
     ensures read_counts { NoneFell (F.state files.old).read_faults (F.state files.new).read_faults }
     ensures write_counts { NoneFell (F.state files.old).write_faults
@@ -95,15 +94,15 @@ fn chart_on<'a, F: Files>(
 }
 
 /// `chart`: the image is read and judged, and the script only where the image is valid.
-#[tactic(auto, using(command_answers::proofs::Trying::tried_first, command_answers::proofs::Trying::tried_on, command_answers::proofs::Trying::tried_alone))]
+#[tactic(auto, using(command_answers::proofs::Held::first_unread, command_answers::proofs::Trying::tried_first, command_answers::proofs::Trying::tried_on, command_answers::proofs::Trying::tried_alone))]
 pub fn prepare_chart<'a, F: Files>(
     alloc: Global,
-    image: &str,
-    script: &str,
+    image: &'a str,
+    script: &'a str,
     first: u64,
     end: u64,
     files: &mut F,
-) -> Result<PreparedCall<'a>, PrepareError>
+) -> Result<PreparedCall<'a>, PrepareError<'a>>
     ensures prepared { Prepares F.tells (call.chart image.now script.now first end)
         (F.state files.old) (F.state files.new) result }
     ensures files { AllStay (F.state files.old).held (F.state files.new).held }

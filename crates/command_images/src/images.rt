@@ -122,13 +122,13 @@ fn migrate_act<'a>(
 }
 
 /// `migrate`.
-#[tactic(auto, using(command_answers::proofs::Trying::tried_last))]
+#[tactic(auto, using(command_answers::proofs::Held::first_unread, command_answers::proofs::Trying::tried_last))]
 pub fn prepare_migrate<'a, F: Files>(
     alloc: Global,
-    image: &str,
+    image: &'a str,
     target: &'a str,
     files: &mut F,
-) -> Result<PreparedCall<'a>, PrepareError>
+) -> Result<PreparedCall<'a>, PrepareError<'a>>
     ensures prepared { Prepares F.tells (call.migrate image.now target.now) (F.state files.old)
         (F.state files.new) result }
     ensures files { AllStay (F.state files.old).held (F.state files.new).held }

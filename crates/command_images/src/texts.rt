@@ -104,13 +104,13 @@ fn asm_act<'a>(
 }
 
 /// `asm`.
-#[tactic(auto, using(command_answers::proofs::Trying::tried_last))]
+#[tactic(auto, using(command_answers::proofs::Held::first_unread, command_answers::proofs::Trying::tried_last))]
 pub fn prepare_asm<'a, F: Files>(
     alloc: Global,
-    text: &str,
+    text: &'a str,
     image: &'a str,
     files: &mut F,
-) -> Result<PreparedCall<'a>, PrepareError>
+) -> Result<PreparedCall<'a>, PrepareError<'a>>
     ensures prepared { Prepares F.tells (call.asm text.now image.now) (F.state files.old)
         (F.state files.new) result }
     ensures files { AllStay (F.state files.old).held (F.state files.new).held }
@@ -218,13 +218,13 @@ fn dis_act<'a>(
 }
 
 /// `dis`.
-#[tactic(auto, using(command_answers::proofs::Trying::tried_last))]
+#[tactic(auto, using(command_answers::proofs::Held::first_unread, command_answers::proofs::Trying::tried_last))]
 pub fn prepare_dis<'a, F: Files>(
     alloc: Global,
-    image: &str,
+    image: &'a str,
     text: &'a str,
     files: &mut F,
-) -> Result<PreparedCall<'a>, PrepareError>
+) -> Result<PreparedCall<'a>, PrepareError<'a>>
     ensures prepared { Prepares F.tells (call.dis image.now text.now) (F.state files.old)
         (F.state files.new) result }
     ensures files { AllStay (F.state files.old).held (F.state files.new).held }

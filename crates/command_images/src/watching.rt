@@ -1,14 +1,14 @@
 //! `watch`.
 
-ghost use Rattle.std.specs.Prelude.{◌∷◌, [], ◌≡◌, ℕ, List, None, IfOk, IsSomeAnd};
+ghost use Rattle.std.specs.Prelude.{◌∷◌, [], ◌≡◌, ℕ, List, None, IfErr, IfOk, IsSomeAnd};
 ghost use Rattle.std.specs.Bool.{OnTrue};
 ghost use Rattle.command_answers.specs.Acts.{outcome_of};
-ghost use Rattle.outside.specs.Outside.{AllStay, NoneFell, Rose};
+ghost use Rattle.outside.specs.Outside.{AllStay, NoneFell};
 ghost use Rattle.script.specs.Scripts.{longest_text};
 ghost use Rattle.command_words.specs.Calls as call;
 ghost use Rattle.command_answers.specs.Acting.{IsQuiet};
 ghost use Rattle.command_answers.specs.Contents.{IsContent};
-ghost use Rattle.command_answers.specs.Prepared.{Prepares};
+ghost use Rattle.command_answers.specs.Prepared.{IsReadError, Prepares};
 ghost use Rattle.command_answers.specs.Tried.{HasTried, status_of};
 ghost use Rattle.command_answers.specs.Runnable.{IsRunnable, RunsRaw};
 ghost use Rattle.command_images.specs.Watched.{IsSeenDue, IsTold};
@@ -63,18 +63,17 @@ fn watch_act<'a>(
 fn watch_on<'a, F: Files>(
     alloc: Global,
     raw: &RawImage,
-    script: &str,
+    script: &'a str,
     stop: Breakpoint,
     files: &mut F,
-) -> Result<PreparedCall<'a>, PrepareError>
+) -> Result<PreparedCall<'a>, PrepareError<'a>>
     requires { IsRunnable raw.now }
     ensures due { IfOk result (λ act. OnTrue F.tells
         (IsSomeAnd ((F.state files.old).held script.now)
         (λ text. IsSeenDue stop raw.now text (outcome_of act)))) }
     ensures quiet { IfOk result IsQuiet }
-    ensures unread { result ≡ Err PrepareError.Unread →
-        Rose ((F.state files.old).read_faults script.now)
-        ((F.state files.new).read_faults script.now) }
+    ensures failed { IfErr result
+        (IsReadError script.now (F.state files.old) (F.state files.new)) }
     ensures files { AllStay (F.state files.old).held (F.state files.new).held }
     ensures read_counts { NoneFell (F.state files.old).read_faults (F.state files.new).read_faults }
     ensures write_counts { NoneFell (F.state files.old).write_faults
@@ -91,14 +90,14 @@ fn watch_on<'a, F: Files>(
 }
 
 /// `watch`: the image is read and judged, and the script only where the image is valid.
-#[tactic(auto, using(command_answers::proofs::Trying::tried_first, command_answers::proofs::Trying::tried_on, command_answers::proofs::Trying::tried_alone))]
+#[tactic(auto, using(command_answers::proofs::Held::first_unread, command_answers::proofs::Trying::tried_first, command_answers::proofs::Trying::tried_on, command_answers::proofs::Trying::tried_alone))]
 pub fn prepare_watch<'a, F: Files>(
     alloc: Global,
-    image: &str,
-    script: &str,
+    image: &'a str,
+    script: &'a str,
     stop: Breakpoint,
     files: &mut F,
-) -> Result<PreparedCall<'a>, PrepareError>
+) -> Result<PreparedCall<'a>, PrepareError<'a>>
     ensures prepared { Prepares F.tells (call.watch image.now script.now stop)
         (F.state files.old) (F.state files.new) result }
     ensures files { AllStay (F.state files.old).held (F.state files.new).held }

@@ -1,11 +1,14 @@
 -- How acts end.
-use Rattle.std.proofs.Common.{◌≡◌, ◌≢◌, ◌++◌, ◌∷◌, ℕ, Bool, List, [], Option, Some, None, Result, Ok, Err, OnOk, OnErr, inl, inr, refl, arith}
-use Rattle.std.specs.Prelude.{IsSomeAnd}
+use Rattle.std.proofs.Common.{◌≡◌, ◌≢◌, ◌++◌, ◌∷◌, ℕ, Bool, List, [], Option, Some, None, Result, Ok, Err, OnOk, OnErr, inl, inr, refl, sym, subst, arith}
+use Rattle.std.specs.Prelude.{IsSome, IsSomeAnd}
+use Rattle.command_answers.specs.Causes.{HasCause}
+use Rattle.command_answers.specs.declared.status.Status.{Status}
+use Rattle.command_answers.specs.declared.status.Status.TheVariants as status
 use Rattle.command_answers.specs.declared.act.Store.{Store}
 use Rattle.command_answers.specs.declared.act.PreparedCall.{PreparedCall}
 use Rattle.command_answers.specs.Acts.{outcome_of}
 use Rattle.outside.specs.Outside.{outside, FilesState, SinkState, Rose, Appends, AppendsFront, Appends-nothing, Appends-append, AppendsFront-append}
-use Rattle.command_perform.specs.Performed.{OthersKept, StoreFailed, Performed, WritesIt}
+use Rattle.command_perform.specs.Performed.{OthersKept, StoreFailed, Performed, WritesIt, targets}
 
 -- ---- text and log
 
@@ -61,3 +64,15 @@ not_stored tells act files files' out rose others unread written = record {
   unread = unread;
   written = written;
 }
+
+-- the name is that of the image, whose write failed
+pub write_cause : (store : Option Store) (files files' : FilesState) (out : SinkState) (answer : Status)
+    → IsSomeAnd store (λ s. answer ≡ status.Unwritten s.name) → IsSomeAnd store (λ s. Rose (files.write_faults s.name.now) (files'.write_faults s.name.now))
+    → HasCause [] (targets store) (outside files out) (outside files' out) answer
+write_cause None files files' out answer is rose = absurd is
+write_cause (Some s) files files' out answer is rose =
+    subst (HasCause [] (s.name.now ∷ []) (outside files out) (outside files' out)) (sym is) ((0, omega arith, refl), rose, refl)
+
+pub some_store : (store : Option Store) (files files' : FilesState) → IsSomeAnd store (λ s. Rose (files.write_faults s.name.now) (files'.write_faults s.name.now)) → IsSome store
+some_store None files files' rose = absurd rose
+some_store (Some s) files files' rose = tt

@@ -1,5 +1,5 @@
 -- What has been done of an act.
-use Rattle.std.specs.Prelude.{◌≡◌, ◌≢◌, ◌⊎◌, ℕ, Bool, List, [], Option, Some, None}
+use Rattle.std.specs.Prelude.{◌≡◌, ◌≢◌, ◌⊎◌, ℕ, Bool, List, [], ◌∷◌, Option, Some, None}
 use Rattle.std.specs.Bool.{OnTrue}
 use Rattle.outside.specs.Outside.{Outside, Rose, AllStay, OthersStay, Appends, AppendsFront, IsAddedAtMost}
 use Rattle.command_answers.specs.declared.act.Store.{Store}
@@ -21,6 +21,11 @@ OthersKept (Some s) held held' = OthersStay held held' s.name.now
 abbrev pub StoreFailed : Option Store → (before now : Outside) → Type 0
 StoreFailed None before now = ⊥
 StoreFailed (Some s) before now = Rose (before.files.write_faults s.name.now) (now.files.write_faults s.name.now)
+
+-- the file that it is to stand in, if there is one
+abbrev pub targets : Option Store → List (List ℕ)
+targets None = []
+targets (Some s) = s.name.now ∷ []
 
 -- its file, if there is one, was written once at most, and no other
 abbrev pub WritesIt : Option Store → (before now : List (List ℕ)) → Type 0

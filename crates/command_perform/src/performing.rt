@@ -1,10 +1,11 @@
 //! Performing.
 
-ghost use Rattle.std.specs.Prelude.{◌≡◌, ◌≢◌, ◌<◌, ◌++◌, [], IfOk, IfSome, IsSomeAnd, OnOk, OnErr};
+ghost use Rattle.std.specs.Prelude.{◌≡◌, ◌≢◌, ◌++◌, [], IfOk, IfSome, IsSome, IsSomeAnd, OnOk, OnErr};
 ghost use Rattle.outside.specs.Outside.{outside, AllStay, Appends, AppendsFront, Rose};
 ghost use Rattle.command_answers.specs.Acts.{CanRun, log_due, number_of};
+ghost use Rattle.command_answers.specs.Causes.{HasCause};
 ghost use Rattle.command_answers.specs.Went.{IsAnswer};
-ghost use Rattle.command_perform.specs.Performed.{OthersKept, Performed, StoresIt, WritesIt};
+ghost use Rattle.command_perform.specs.Performed.{OthersKept, Performed, StoresIt, WritesIt, targets};
 ghost use Rattle.command_perform.specs.Ready.{IsReady, run_of};
 
 use crate::ready::Ready;
@@ -40,6 +41,18 @@ fn store<F: Files>(image: &Option<Store<'_>>, files: &mut F) -> Result<(), Write
     match image {
         Some(image) => files.write(image.name, image.bytes.as_slice()),
         None => Ok(()),
+    }
+}
+
+/// The status of a write that failed.
+fn unwritten<'a>(image: &Option<Store<'a>>) -> Status<'a>
+    requires { IsSome image.now }
+    ensures number { number_of result ≡ 7 }
+    ensures name { IsSomeAnd image.now (λ s. result ≡ Status.Unwritten s.name) }
+{
+    match image {
+        Some(image) => Status::Unwritten(image.name),
+        None => unreachable!(),
     }
 }
 
@@ -79,19 +92,24 @@ fn tell<O: Sink>(text: &[u8], run: Option<Ready<'_>>, out: &mut O) -> Result<(),
 
 /// Stores the image of the act, puts its text, unless it is empty, and then the log of its run, one
 /// put a line. No file is read, and that of the image is written once. The answer is the act's
-/// status; `Unwritten` where the write or a put failed, and nothing is put after that; `Memory` where there is not enough memory for the machine or for the
+/// status; `Unwritten`, with the name, where the write failed, and `Unput` where a put failed, and
+/// nothing is put after that; `Memory` where there is not enough memory for the machine or for the
 /// write, and then nothing was stored or put.
-pub fn perform<F: Files, O: Sink>(
+#[tactic(auto, using(command_answers::proofs::Caused::answers_have_cause))]
+pub fn perform<'a, F: Files, O: Sink>(
     alloc: Global,
-    act: &PreparedCall<'_>,
+    act: &PreparedCall<'a>,
     files: &mut F,
     out: &mut O,
-) -> Status
+) -> Status<'a>
     requires runs { IfSome act.now.run CanRun }
     requires status { IsAnswer (number_of act.now.status) }
-    ensures { Performed F.tells act.now
+    ensures performed { Performed F.tells act.now
         (outside (F.state files.old) (O.state out.old))
         (outside (F.state files.new) (O.state out.new)) (number_of result) }
+    ensures cause { HasCause [] (targets act.now.store)
+        (outside (F.state files.old) (O.state out.old))
+        (outside (F.state files.new) (O.state out.new)) result }
 {
     let run = match make_ready(alloc, &act.run) {
         Ok(run) => run,
@@ -100,9 +118,9 @@ pub fn perform<F: Files, O: Sink>(
     match store(&act.store, files) {
         Ok(()) => match tell(act.text.as_bytes(), run, out) {
             Ok(()) => act.status,
-            Err(_) => Status::Unwritten,
+            Err(_) => Status::Unput,
         },
-        Err(WriteFault::Failed) => Status::Unwritten,
+        Err(WriteFault::Failed) => unwritten(&act.store),
         Err(WriteFault::Memory) => Status::Memory,
     }
 }

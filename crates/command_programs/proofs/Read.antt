@@ -1,10 +1,10 @@
 -- What is due of programs, by what files hold.
 use Rattle.std.proofs.Common.{◌≡◌, ℕ, List, Option, Some, None, Bool, true, false, Ok, Err, inl, inr, refl, subst, ap, ◌∙◌}
-use Rattle.std.specs.Prelude.{Result, IfOk, IsSomeAnd}
+use Rattle.std.specs.Prelude.{Result, IfErr, IfOk, IsSomeAnd}
 use Rattle.std.specs.Bool.{OnTrue}
 use Rattle.image.specs.Raw.{named_of}
 use Rattle.image.specs.Named.{NamedImage}
-use Rattle.outside.specs.Outside.{FilesState, AllStay, NoneFell, Rose}
+use Rattle.outside.specs.Outside.{FilesState, AllStay, NoneFell}
 use Rattle.sched_table.specs.Report.{report_text}
 use Rattle.sched_table.specs.Json.{report_json}
 use Rattle.command_words.specs.Calls as call
@@ -15,15 +15,14 @@ use Rattle.compile.specs.Compile.{IsImageOf}
 use Rattle.command_answers.specs.declared.act.PreparedCall.{PreparedCall}
 use Rattle.command_answers.specs.Acts.{outcome_of}
 use Rattle.command_answers.specs.declared.prepare_error.PrepareError.{PrepareError}
-use Rattle.command_answers.specs.declared.prepare_error.PrepareError.TheVariants as unready
 use Rattle.command_programs.specs.declared.programs.Format.{Format}
 use Rattle.command_programs.specs.declared.programs.Format.TheVariants as format
 use Rattle.command_answers.specs.Acting.{CanBeDone, IsQuiet}
 use Rattle.command_programs.specs.Formats.{report_call, shown}
-use Rattle.command_answers.specs.Prepared.{IsPrepared, Prepares, ReadsFailed}
+use Rattle.command_answers.specs.Prepared.{IsPrepared, IsReadError, Prepares}
 use Rattle.command_answers.specs.Scripted as scripted
 use Rattle.command_programs.specs.Scripted.{IsBuiltRunDue, bytes_for}
-use Rattle.command_answers.proofs.Held.{of_held, acted, rose_since}
+use Rattle.command_answers.proofs.Held.{of_held, acted, script_unread}
 
 pub reported : (tells : Bool) (format : Format) (program : List ℕ) (over : ℕ) (before : FilesState) (act : PreparedCall) (P : List ℕ → Type 0)
     → IsQuiet act → OnTrue tells (IsSomeAnd (before.held program) P) → ((text : List ℕ) → P text → IsReportDue (shown format) over text (outcome_of act))
@@ -61,22 +60,13 @@ go_stops false over held script P outcome is refused = tt
 timely : (over : ℕ) (text : List ℕ) (b : Built) → IsImageOf over text b → (n : NamedImage) × IsTimelyText over text n
 timely over text b image = (named_of b.image, image.timely)
 
-go_script_failed : (tells : Bool) (program image script : List ℕ) (over : ℕ) (before mid now : FilesState) (P : List ℕ → Type 0) (b : Built)
-    → OnTrue tells (IsSomeAnd (before.held program) P) → ((text : List ℕ) → P text → IsImageOf over text b)
-    → NoneFell before.read_faults mid.read_faults → Rose (mid.read_faults script) (now.read_faults script) → ReadsFailed tells (call.go program image script over) before now
-go_script_failed tells program image script over before mid now P b is compiles first rose =
-    inr (inl (
-      rose_since (before.read_faults script) (mid.read_faults script) (now.read_faults script) (first script) rose,
-      of_held tells (before.held program) P (λ text. (n : NamedImage) × IsTimelyText over text n) is (λ text p. timely over text b (compiles text p)),
-    ))
-
 pub go_prepares : (tells : Bool) (program image script : List ℕ) (over : ℕ) (before mid now : FilesState) (P : List ℕ → Type 0) (b : Built) (result : Result PreparedCall PrepareError)
     → OnTrue tells (IsSomeAnd (before.held program) P) → ((text : List ℕ) → P text → IsImageOf over text b) → AllStay before.held mid.held → NoneFell before.read_faults mid.read_faults
     → IfOk result (λ act. OnTrue tells (IsSomeAnd (mid.held script) (λ other. IsBuiltRunDue b other (outcome_of act)))) → IfOk result (CanBeDone (Some image))
-    → (result ≡ Err unready.Unread → Rose (mid.read_faults script) (now.read_faults script)) → Prepares tells (call.go program image script over) before now result
+    → IfErr result (IsReadError script mid now) → Prepares tells (call.go program image script over) before now result
 go_prepares tells program image script over before mid now P b (Ok act) is compiles stays fell due can failed =
     acted tells (call.go program image script over) before act can
     (go_due tells over (before.held program) (before.held script) (mid.held script) P b (outcome_of act) is compiles due (stays script))
-go_prepares tells program image script over before mid now P b (Err unready.Unread) is compiles stays fell due can failed =
-    go_script_failed tells program image script over before mid now P b is compiles fell (failed refl)
-go_prepares tells program image script over before mid now P b (Err unready.Memory) is compiles stays fell due can failed = tt
+go_prepares tells program image script over before mid now P b (Err why) is compiles stays fell due can failed =
+    script_unread tells (call.go program image script over) script before mid now fell why refl
+    (of_held tells (before.held program) P (λ text. (n : NamedImage) × IsTimelyText over text n) is (λ text p. timely over text b (compiles text p))) failed

@@ -1,14 +1,14 @@
 //! `go`.
 
-ghost use Rattle.std.specs.Prelude.{◌∷◌, [], ◌≡◌, ◌≤◌, ℕ, List, Some, IfOk, IsSomeAnd};
+ghost use Rattle.std.specs.Prelude.{◌∷◌, [], ◌≡◌, ◌≤◌, ℕ, List, Some, IfErr, IfOk, IsSomeAnd};
 ghost use Rattle.std.specs.Bool.{OnTrue};
 ghost use Rattle.command_answers.specs.Acts.{outcome_of};
-ghost use Rattle.outside.specs.Outside.{AllStay, NoneFell, Rose};
+ghost use Rattle.outside.specs.Outside.{AllStay, NoneFell};
 ghost use Rattle.script.specs.Scripts.{longest_text};
 ghost use Rattle.command_words.specs.Calls as call;
 ghost use Rattle.command_answers.specs.Acting.{CanBeDone};
 ghost use Rattle.command_answers.specs.Contents.{IsContent};
-ghost use Rattle.command_answers.specs.Prepared.{Prepares};
+ghost use Rattle.command_answers.specs.Prepared.{IsReadError, Prepares};
 ghost use Rattle.command_answers.specs.Tried.{HasTried, status_of};
 ghost use Rattle.command_programs.specs.Runnable.{IsRunnableBuilt, RunsBuilt};
 ghost use Rattle.command_programs.specs.Scripted.{IsBuiltRunDue, built_run};
@@ -77,17 +77,16 @@ fn go_on<'a, F: Files>(
     alloc: Global,
     built: Built,
     image: &'a str,
-    script: &str,
+    script: &'a str,
     files: &mut F,
-) -> Result<PreparedCall<'a>, PrepareError>
+) -> Result<PreparedCall<'a>, PrepareError<'a>>
     requires { IsRunnableBuilt built }
     ensures due { IfOk result (λ act. OnTrue F.tells
         (IsSomeAnd ((F.state files.old).held script.now)
         (λ text. IsBuiltRunDue built text (outcome_of act)))) }
     ensures done { IfOk result (CanBeDone (Some image.now)) }
-    ensures unread { result ≡ Err PrepareError.Unread →
-        Rose ((F.state files.old).read_faults script.now)
-        ((F.state files.new).read_faults script.now) }
+    ensures failed { IfErr result
+        (IsReadError script.now (F.state files.old) (F.state files.new)) }
     ensures files { AllStay (F.state files.old).held (F.state files.new).held }
     ensures read_counts { NoneFell (F.state files.old).read_faults (F.state files.new).read_faults }
     ensures write_counts { NoneFell (F.state files.old).write_faults
@@ -104,15 +103,15 @@ fn go_on<'a, F: Files>(
 }
 
 /// `go`: the program is read and judged, and the script only where the program is timely.
-#[tactic(auto, using(command_answers::proofs::Trying::tried_first, command_answers::proofs::Trying::tried_on, command_answers::proofs::Trying::tried_alone))]
+#[tactic(auto, using(command_answers::proofs::Held::first_unread, command_answers::proofs::Trying::tried_first, command_answers::proofs::Trying::tried_on, command_answers::proofs::Trying::tried_alone))]
 pub fn prepare_go<'a, F: Files>(
     alloc: Global,
-    program: &str,
+    program: &'a str,
     image: &'a str,
-    script: &str,
+    script: &'a str,
     over: u16,
     files: &mut F,
-) -> Result<PreparedCall<'a>, PrepareError>
+) -> Result<PreparedCall<'a>, PrepareError<'a>>
     requires { over ≤ 1000 }
     ensures prepared { Prepares F.tells (call.go program.now image.now script.now over)
         (F.state files.old) (F.state files.new) result }

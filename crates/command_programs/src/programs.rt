@@ -190,14 +190,14 @@ fn compile_act<'a>(
 }
 
 /// `check` and `json`, by the format of the report.
-#[tactic(auto, using(command_answers::proofs::Trying::tried_last))]
+#[tactic(auto, using(command_answers::proofs::Held::first_unread, command_answers::proofs::Trying::tried_last))]
 pub fn prepare_report<'a, F: Files>(
     alloc: Global,
     format: Format,
-    program: &str,
+    program: &'a str,
     over: u16,
     files: &mut F,
-) -> Result<PreparedCall<'a>, PrepareError>
+) -> Result<PreparedCall<'a>, PrepareError<'a>>
     requires { over ≤ 1000 }
     ensures prepared { Prepares F.tells (report_call format program.now over) (F.state files.old)
         (F.state files.new) result }
@@ -217,13 +217,13 @@ pub fn prepare_report<'a, F: Files>(
 }
 
 /// `slack`.
-#[tactic(auto, using(command_answers::proofs::Trying::tried_last))]
+#[tactic(auto, using(command_answers::proofs::Held::first_unread, command_answers::proofs::Trying::tried_last))]
 pub fn prepare_slack<'a, F: Files>(
     alloc: Global,
-    program: &str,
+    program: &'a str,
     over: u16,
     files: &mut F,
-) -> Result<PreparedCall<'a>, PrepareError>
+) -> Result<PreparedCall<'a>, PrepareError<'a>>
     requires { over ≤ 1000 }
     ensures prepared { Prepares F.tells (call.slack program.now over) (F.state files.old)
         (F.state files.new) result }
@@ -243,12 +243,12 @@ pub fn prepare_slack<'a, F: Files>(
 }
 
 /// `print`.
-#[tactic(auto, using(command_answers::proofs::Trying::tried_last))]
+#[tactic(auto, using(command_answers::proofs::Held::first_unread, command_answers::proofs::Trying::tried_last))]
 pub fn prepare_print<'a, F: Files>(
     alloc: Global,
-    program: &str,
+    program: &'a str,
     files: &mut F,
-) -> Result<PreparedCall<'a>, PrepareError>
+) -> Result<PreparedCall<'a>, PrepareError<'a>>
     ensures prepared { Prepares F.tells (call.print program.now) (F.state files.old)
         (F.state files.new) result }
     ensures files { AllStay (F.state files.old).held (F.state files.new).held }
@@ -267,14 +267,14 @@ pub fn prepare_print<'a, F: Files>(
 }
 
 /// `compile`.
-#[tactic(auto, using(command_answers::proofs::Trying::tried_last))]
+#[tactic(auto, using(command_answers::proofs::Held::first_unread, command_answers::proofs::Trying::tried_last))]
 pub fn prepare_compile<'a, F: Files>(
     alloc: Global,
-    program: &str,
+    program: &'a str,
     image: &'a str,
     over: u16,
     files: &mut F,
-) -> Result<PreparedCall<'a>, PrepareError>
+) -> Result<PreparedCall<'a>, PrepareError<'a>>
     requires { over ≤ 1000 }
     ensures prepared { Prepares F.tells (call.compile program.now image.now over)
         (F.state files.old) (F.state files.new) result }

@@ -1,6 +1,6 @@
 -- What is due of `edf`, by what files hold.
 use Rattle.std.proofs.Common.{◌≡◌, ◌∙◌, ℕ, List, Option, Some, None, Bool, true, false, Ok, Err, inl, inr, refl, ap, subst}
-use Rattle.std.specs.Prelude.{Result, IfOk, IsSomeAnd}
+use Rattle.std.specs.Prelude.{Result, IfErr, IfOk, IsSomeAnd}
 use Rattle.std.specs.Bool.{OnTrue}
 use Rattle.syntax_tree.specs.declared.place.Place.{Place}
 use Rattle.image.specs.Named.{NamedImage}
@@ -19,11 +19,11 @@ use Rattle.command_answers.specs.Acts.{outcome_of}
 use Rattle.command_answers.specs.declared.prepare_error.PrepareError.{PrepareError}
 use Rattle.command_answers.specs.declared.prepare_error.PrepareError.TheVariants as unready
 use Rattle.command_answers.specs.Acting.{CanBeDone, puts}
-use Rattle.command_answers.specs.Prepared.{Failed, Prepares}
+use Rattle.command_answers.specs.Prepared.{IsReadError, Prepares}
 use Rattle.command_answers.proofs.Coming.{outcome_of_puts}
-use Rattle.command_answers.proofs.Held.{acted, of_held, rose_since}
+use Rattle.command_answers.proofs.Held.{acted, of_held, script_unread}
 use Rattle.command_due.specs.EdfDue.{IsEdfDue, IsFeasibleText, IsJudgedText, edf_bad_script, edf_faulty, edf_ran, edf_unfit, edf_waits}
-use Rattle.edf_command.specs.Judged.{IsMet, IsScriptDue, IsStopped, IsSubjectDue, Stops, faulty, misspelled, ran, scripted, unfit, waits}
+use Rattle.edf_command.specs.Judged.{IsMet, IsScriptDue, IsScriptError, IsStopped, IsSubjectDue, Stops, faulty, misspelled, ran, scripted, unfit, waits}
 
 -- ---- texts that are not judged
 
@@ -74,12 +74,13 @@ module _ (tells : Bool) (program script : List ℕ) (before mid now : FilesState
 
   pub edf_prepares : (result : Result PreparedCall PrepareError) → OnTrue tells (IsSomeAnd (before.held program) P) → ((text : List ℕ) → P text → IsJudgedText text n answer)
       → AllStay before.held mid.held → NoneFell before.read_faults mid.read_faults → IfOk result (λ act. OnTrue tells (IsSubjectDue n answer (mid.held script) (outcome_of act)))
-      → IfOk result (CanBeDone None) → (result ≡ Err unready.Unread → Failed mid now script × IsMet answer) → Prepares tells (call.edf program script) before now result
-  edf_prepares (Ok act) is judged stays fell due done unread =
+      → IfOk result (CanBeDone None) → IfErr result (IsScriptError answer script mid now) → Prepares tells (call.edf program script) before now result
+  edf_prepares (Ok act) is judged stays fell due done failed =
       acted tells (call.edf program script) before act done (due_of tells (before.held program) (mid.held script) (before.held script) (outcome_of act) is judged due (stays script))
-  edf_prepares (Err unready.Unread) is judged stays fell due done unread =
-      inr (inl (
-        rose_since (before.read_faults script) (mid.read_faults script) (now.read_faults script) (fell script) (unread refl).0,
-        of_held tells (before.held program) P (λ text. (m : NamedImage) × (points : ℕ) × IsFeasibleText text m points) is (λ text p. feasible n answer (unread refl).1 text (judged text p)),
-      ))
-  edf_prepares (Err unready.Memory) is judged stays fell due done unread = tt
+  edf_prepares (Err why) is judged stays fell due done failed = unread why failed
+    where
+      unread : (w : PrepareError) → IsScriptError answer script mid now w → Prepares tells (call.edf program script) before now (Err w)
+      unread (unready.Unread name) (error, met) =
+          script_unread tells (call.edf program script) script before mid now fell (unready.Unread name) refl
+          (of_held tells (before.held program) P (λ text. (m : NamedImage) × (points : ℕ) × IsFeasibleText text m points) is (λ text p. feasible n answer met text (judged text p))) error
+      unread unready.Memory error = tt

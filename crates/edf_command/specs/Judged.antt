@@ -16,6 +16,10 @@ use Rattle.compile.specs.declared.read_text.ProgramTextFault.TheVariants as faul
 use Rattle.command_due.specs.EdfDue.{IsJudgedText, IsUnfit, edf_log}
 use Rattle.command_due.specs.Report.{edf_report}
 use Rattle.command_due.specs.Waits.{IsFirstWait}
+use Rattle.outside.specs.Outside.{FilesState}
+use Rattle.command_answers.specs.declared.prepare_error.PrepareError.{PrepareError}
+use Rattle.command_answers.specs.declared.prepare_error.PrepareError.TheVariants as unready
+use Rattle.command_answers.specs.Prepared.{IsReadError}
 use Rattle.edf_command.specs.declared.judging.Subject.{Subject}
 
 -- the text is that of a program without waits, this is its image and what the test says of it; each
@@ -51,3 +55,8 @@ pub data IsScriptDue (n : NamedImage) (answer : Judgement) (text : List ℕ) (ou
 pub data IsSubjectDue (n : NamedImage) (answer : Judgement) (script : Option (List ℕ)) (outcome : Outcome) : Type 0 where
   unfit : IsUnfit answer → outcome ≡ told 3 (edf_report n answer) → IsSubjectDue n answer script outcome
   scripted : (text : List ℕ) → IsMet answer → script ≡ Some text → IsScriptDue n answer text outcome → IsSubjectDue n answer script outcome
+
+-- why the script could not be read, which is read only where the demand is met
+abbrev pub IsScriptError : Judgement → List ℕ → (before now : FilesState) → PrepareError → Type 0
+IsScriptError answer name before now (unready.Unread failed) = IsReadError name before now (unready.Unread failed) × IsMet answer
+IsScriptError answer name before now unready.Memory = Unit {0}

@@ -1,14 +1,14 @@
 //! `edf`.
 
-ghost use Rattle.std.specs.Prelude.{◌≡◌, ◌∷◌, [], Err, None, IfOk, IsSomeAnd};
+ghost use Rattle.std.specs.Prelude.{◌≡◌, ◌∷◌, [], None, IfErr, IfOk, IsSomeAnd};
 ghost use Rattle.std.specs.Bool.{OnTrue};
 ghost use Rattle.command_answers.specs.Acts.{outcome_of};
 ghost use Rattle.command_answers.specs.Acting.{CanBeDone};
-ghost use Rattle.command_answers.specs.Prepared.{Failed, Prepares};
+ghost use Rattle.command_answers.specs.Prepared.{IsReadError, Prepares};
 ghost use Rattle.command_answers.specs.Tried.{HasTried, MayHaveTried, status_of};
 ghost use Rattle.image.specs.Raw.{named_of};
 ghost use Rattle.outside.specs.Outside.{AllStay, NoneFell};
-ghost use Rattle.edf_command.specs.Judged.{IsMet, IsScriptDue, IsSubject, IsSubjectDue};
+ghost use Rattle.edf_command.specs.Judged.{IsMet, IsScriptDue, IsScriptError, IsSubject, IsSubjectDue};
 ghost use Rattle.command_words.specs.Calls as call;
 
 use crate::judging::{Subject, judge_source, refuse_source};
@@ -23,17 +23,17 @@ use std::alloc::Global;
 fn run_on<'a, F: Files>(
     alloc: Global,
     subject: Subject,
-    script: &str,
+    script: &'a str,
     files: &mut F,
-) -> Result<PreparedCall<'a>, PrepareError>
+) -> Result<PreparedCall<'a>, PrepareError<'a>>
     requires subject { IsSubject subject }
     requires met { IsMet subject.answer }
     ensures due { IfOk result (λ act. OnTrue F.tells
         (IsSomeAnd ((F.state files.old).held script.now) (λ text.
         IsScriptDue (named_of subject.image) subject.answer text (outcome_of act)))) }
     ensures done { IfOk result (CanBeDone None) }
-    ensures unread { result ≡ Err PrepareError.Unread →
-        Failed (F.state files.old) (F.state files.new) script.now }
+    ensures failed { IfErr result
+        (IsReadError script.now (F.state files.old) (F.state files.new)) }
     ensures files { AllStay (F.state files.old).held (F.state files.new).held }
     ensures read_counts { NoneFell (F.state files.old).read_faults (F.state files.new).read_faults }
     ensures write_counts { NoneFell (F.state files.old).write_faults
@@ -53,15 +53,15 @@ fn run_on<'a, F: Files>(
 fn judged_on<'a, F: Files>(
     alloc: Global,
     subject: Subject,
-    script: &str,
+    script: &'a str,
     files: &mut F,
-) -> Result<PreparedCall<'a>, PrepareError>
+) -> Result<PreparedCall<'a>, PrepareError<'a>>
     requires { IsSubject subject }
     ensures due { IfOk result (λ act. OnTrue F.tells (IsSubjectDue (named_of subject.image)
         subject.answer ((F.state files.old).held script.now) (outcome_of act))) }
     ensures done { IfOk result (CanBeDone None) }
-    ensures unread { result ≡ Err PrepareError.Unread →
-        Failed (F.state files.old) (F.state files.new) script.now × IsMet subject.answer }
+    ensures failed { IfErr result (IsScriptError subject.answer script.now (F.state files.old)
+        (F.state files.new)) }
     ensures files { AllStay (F.state files.old).held (F.state files.new).held }
     ensures read_counts { NoneFell (F.state files.old).read_faults (F.state files.new).read_faults }
     ensures write_counts { NoneFell (F.state files.old).write_faults
@@ -80,13 +80,13 @@ fn judged_on<'a, F: Files>(
 }
 
 /// `edf`: the program is read and judged, and the script only where its demand is met.
-#[tactic(auto, using(command_answers::proofs::Trying::tried_first, command_answers::proofs::Trying::tried_perhaps, command_answers::proofs::Trying::tried_alone))]
+#[tactic(auto, using(command_answers::proofs::Held::first_unread, command_answers::proofs::Trying::tried_first, command_answers::proofs::Trying::tried_perhaps, command_answers::proofs::Trying::tried_alone))]
 pub fn prepare_edf<'a, F: Files>(
     alloc: Global,
-    program: &str,
-    script: &str,
+    program: &'a str,
+    script: &'a str,
     files: &mut F,
-) -> Result<PreparedCall<'a>, PrepareError>
+) -> Result<PreparedCall<'a>, PrepareError<'a>>
     ensures prepared { Prepares F.tells (call.edf program.now script.now)
         (F.state files.old) (F.state files.new) result }
     ensures files { AllStay (F.state files.old).held (F.state files.new).held }

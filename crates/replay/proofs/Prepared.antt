@@ -1,6 +1,6 @@
 -- What is due of `replay`, by what files hold.
 use Rattle.std.proofs.Common.{◌≡◌, ◌≢◌, ◌<◌, ◌^◌, ◌⊎◌, ℕ, List, Option, Some, None, Bool, true, false, Ok, Err, inl, inr, arith, refl, subst}
-use Rattle.std.specs.Prelude.{Result, IfOk, IsSomeAnd}
+use Rattle.std.specs.Prelude.{Result, IfErr, IfOk, IsSomeAnd}
 use Rattle.std.specs.Bool.{OnTrue}
 use Rattle.syntax_tree.specs.declared.place.Place.{Place}
 use Rattle.syntax_tree.specs.Placed.{Prog, plain}
@@ -26,10 +26,10 @@ use Rattle.command_answers.specs.Acts.{outcome_of}
 use Rattle.command_answers.specs.declared.prepare_error.PrepareError.{PrepareError}
 use Rattle.command_answers.specs.declared.prepare_error.PrepareError.TheVariants as unready
 use Rattle.command_answers.specs.Acting.{IsQuiet, puts}
-use Rattle.command_answers.specs.Prepared.{Failed, Prepares, ReadsFailed}
+use Rattle.command_answers.specs.Prepared.{Failed, IsReadError, Prepares}
 use Rattle.command_answers.proofs.Coming.{outcome_of_puts, put_comes_to}
 use Rattle.command_answers.proofs.Held.{acted, of_held, rose_since}
-use Rattle.replay.specs.Scripted.{IsReplayed, IsScriptFor, LaterFailed, judged, misspelled}
+use Rattle.replay.specs.Scripted.{IsLaterError, IsReplayed, IsScriptFor, judged, misspelled}
 
 pub faulty_replay : (why : ProgramTextFault) (number : ℕ) (place : Place) → why ≡ text_fault.Text number place → (text : List ℕ) (script log : Option (List ℕ)) → ReadsWritten text (Err why)
     → IsReplayDue (Some text) script log (outcome_of (puts status.Text (fault_line number place)))
@@ -70,13 +70,19 @@ module _ (tells : Bool) (g : Prog Place) (names : ImageNames) (same : names ≡ 
   log_due lines end (Ok act) is right stays due = on_log tells (before.held script) (before.held log) (mid.held log) lines end (outcome_of act) is right due (stays log)
   log_due lines end (Err why) is right stays due = tt
 
-  pub log_failed : (lines : List ScriptLine) (end : ℕ) → OnTrue tells (IsSomeAnd (before.held script) P) → ((text : List ℕ) → P text → IsScript names text lines end)
-      → NoneFell before.read_faults mid.read_faults → Failed mid now log → LaterFailed tells g before now script log
-  log_failed lines end is right fell failed =
-      inr (
-        rose_since (before.read_faults log) (mid.read_faults log) (now.read_faults log) (fell log) failed,
-        of_held tells (before.held script) P (IsScriptFor g) is (λ text p. (lines, end, is_for text lines end (right text p))),
-      )
+  log_error : (lines : List ScriptLine) (end : ℕ) (why : PrepareError) → OnTrue tells (IsSomeAnd (before.held script) P) → ((text : List ℕ) → P text → IsScript names text lines end)
+      → NoneFell before.read_faults mid.read_faults → IsReadError log mid now why → IsLaterError tells g before now script log why
+  log_error lines end (unready.Unread name) is right fell (at, failed) = (
+      subst (Failed before now) (sym at) (rose_since (before.read_faults log) (mid.read_faults log) (now.read_faults log) (fell log) failed),
+      inr (at, of_held tells (before.held script) P (IsScriptFor g) is (λ text p. (lines, end, is_for text lines end (right text p)))),
+    )
+  log_error lines end unready.Memory is right fell failed = tt
+
+  pub log_failed : (lines : List ScriptLine) (end : ℕ) (result : Result PreparedCall PrepareError) → OnTrue tells (IsSomeAnd (before.held script) P)
+      → ((text : List ℕ) → P text → IsScript names text lines end) → NoneFell before.read_faults mid.read_faults
+      → IfErr result (IsReadError log mid now) → IfErr result (IsLaterError tells g before now script log)
+  log_failed lines end (Ok act) is right fell failed = tt
+  log_failed lines end (Err why) is right fell failed = log_error lines end why is right fell failed
 
   bad : (t : Bool) (held other : Option (List ℕ)) (why : ScriptFault) (outcome : Outcome) → OnTrue t (IsSomeAnd held P)
       → ((text : List ℕ) → P text → (why ≡ fault.Memory) ⊎ IsFault names text why) → why ≢ fault.Memory → outcome ≡ bad_script why
@@ -119,25 +125,29 @@ module _ (tells : Bool) (program script log : List ℕ) (before mid now : FilesS
   recorded true None a c g is written right same = absurd is
   recorded false held a c g is written right same = tt
 
-  later_failed : (g : Prog Place) → OnTrue tells (IsSomeAnd (before.held program) P) → ((text : List ℕ) → P text → IsWritten text g) → AllStay before.held mid.held
-      → NoneFell before.read_faults mid.read_faults → LaterFailed tells g mid now script log → ReadsFailed tells (call.replay program script log) before now
-  later_failed g is written stays fell (inl failed) =
-      inr (inl (
-        rose_since (before.read_faults script) (mid.read_faults script) (now.read_faults script) (fell script) failed,
-        of_held tells (before.held program) P (λ text. (h : Prog Place) × IsWritten text h) is (λ text p. (g, written text p)),
-      ))
-  later_failed g is written stays fell (inr failed) =
-      inr (inr (
-        rose_since (before.read_faults log) (mid.read_faults log) (now.read_faults log) (fell log) failed.0,
-        recorded tells (before.held program) (mid.held script) (before.held script) g is written failed.1 (stays script),
-      ))
+  later_failed : (g : Prog Place) (why : PrepareError) → OnTrue tells (IsSomeAnd (before.held program) P) → ((text : List ℕ) → P text → IsWritten text g)
+      → AllStay before.held mid.held → NoneFell before.read_faults mid.read_faults → IsLaterError tells g mid now script log why
+      → Prepares tells (call.replay program script log) before now (Err why)
+  later_failed g (unready.Unread name) is written stays fell (failed, of) = (
+      rose_since (before.read_faults name.now) (mid.read_faults name.now) (now.read_faults name.now) (fell name.now) failed,
+      elim of [
+        | inl at ↦ inr (inl (
+            ap (λ (n : List ℕ). Some n) (sym at),
+            of_held tells (before.held program) P (λ text. (h : Prog Place) × IsWritten text h) is (λ text p. (g, written text p)),
+          ))
+        | inr (at, right) ↦ inr (inr (
+            ap (λ (n : List ℕ). Some n) (sym at),
+            recorded tells (before.held program) (mid.held script) (before.held script) g is written right (stays script),
+          ))
+      ],
+    )
+  later_failed g unready.Memory is written stays fell error = tt
 
   pub replay_prepares : (g : Prog Place) (result : Result PreparedCall PrepareError) → OnTrue tells (IsSomeAnd (before.held program) P) → ((text : List ℕ) → P text → IsWritten text g)
       → AllStay before.held mid.held → NoneFell before.read_faults mid.read_faults
       → IfOk result (λ act. OnTrue tells (IsReplayed g (mid.held script) (mid.held log) (outcome_of act))) → IfOk result IsQuiet
-      → (result ≡ Err unready.Unread → LaterFailed tells g mid now script log) → Prepares tells (call.replay program script log) before now result
+      → IfErr result (IsLaterError tells g mid now script log) → Prepares tells (call.replay program script log) before now result
   replay_prepares g (Ok act) is written stays fell due quiet failed =
       acted tells (call.replay program script log) before act (quiet None)
       (due_of tells (before.held program) (mid.held script) (mid.held log) (before.held script) (before.held log) g (outcome_of act) is written due (stays script) (stays log))
-  replay_prepares g (Err unready.Unread) is written stays fell due quiet failed = later_failed g is written stays fell (failed refl)
-  replay_prepares g (Err unready.Memory) is written stays fell due quiet failed = tt
+  replay_prepares g (Err why) is written stays fell due quiet failed = later_failed g why is written stays fell failed

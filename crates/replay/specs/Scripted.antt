@@ -4,6 +4,8 @@ use Rattle.std.specs.Bool.{OnTrue}
 use Rattle.syntax_tree.specs.declared.place.Place.{Place}
 use Rattle.syntax_tree.specs.Placed.{Prog, plain}
 use Rattle.built_image.specs.Named.{names_of}
+use Rattle.command_answers.specs.declared.prepare_error.PrepareError.{PrepareError}
+use Rattle.command_answers.specs.declared.prepare_error.PrepareError.TheVariants as unready
 use Rattle.command_answers.specs.Prepared.{Failed}
 use Rattle.outside.specs.Outside.{FilesState}
 use Rattle.script.specs.declared.fault.ScriptFault.{ScriptFault}
@@ -25,7 +27,9 @@ pub data IsReplayed (g : Prog Place) (script log : Option (List ℕ)) (outcome :
   judged : (text : List ℕ) (lines : List ScriptLine) (end : ℕ) (other : List ℕ) → script ≡ Some text → IsScript (names_of (plain g)) text lines end
       → log ≡ Some other → IsJudged g lines end other outcome → IsReplayed g script log outcome
 
--- the read of the script failed, or that of the log, where the script is one
-abbrev pub LaterFailed : Bool → Prog Place → (before now : FilesState) → (script log : List ℕ) → Type 0
-LaterFailed tells g before now script log =
-    Failed before now script ⊎ (Failed before now log × OnTrue tells (IsSomeAnd (before.held script) (IsScriptFor g)))
+-- why the script could not be read, or the log, which is read only where the script is one
+abbrev pub IsLaterError : Bool → Prog Place → (before now : FilesState) → (script log : List ℕ) → PrepareError → Type 0
+IsLaterError tells g before now script log (unready.Unread name) =
+    Failed before now name.now
+    × ((name.now ≡ script) ⊎ ((name.now ≡ log) × OnTrue tells (IsSomeAnd (before.held script) (IsScriptFor g))))
+IsLaterError tells g before now script log unready.Memory = Unit {0}

@@ -1,14 +1,14 @@
 //! `replay`.
 
-ghost use Rattle.std.specs.Prelude.{◌∷◌, [], ◌≡◌, ◌<◌, ◌^◌, Err, IfOk, IsSomeAnd};
+ghost use Rattle.std.specs.Prelude.{◌∷◌, [], ◌≡◌, ◌<◌, ◌^◌, IfErr, IfOk, IsSomeAnd};
 ghost use Rattle.std.specs.Bool.{OnTrue};
 ghost use Rattle.command_answers.specs.Acts.{outcome_of};
 ghost use Rattle.command_answers.specs.Acting.{IsQuiet};
-ghost use Rattle.command_answers.specs.Prepared.{Failed, Prepares};
+ghost use Rattle.command_answers.specs.Prepared.{IsReadError, Prepares};
 ghost use Rattle.command_answers.specs.Tried.{HasTried, status_of};
 ghost use Rattle.outside.specs.Outside.{AllStay, NoneFell};
 ghost use Rattle.replay.specs.Held.{IsSource};
-ghost use Rattle.replay.specs.Scripted.{IsReplayed, LaterFailed};
+ghost use Rattle.replay.specs.Scripted.{IsLaterError, IsReplayed};
 ghost use Rattle.command_due.specs.ReplayDue.{IsJudged};
 ghost use Rattle.syntax_tree.specs.Placed.{placed};
 ghost use Rattle.command_words.specs.Calls as call;
@@ -29,9 +29,9 @@ fn log_on<'a, F: Files>(
     alloc: Global,
     source: &Source,
     script: &Script,
-    log: &str,
+    log: &'a str,
     files: &mut F,
-) -> Result<PreparedCall<'a>, PrepareError>
+) -> Result<PreparedCall<'a>, PrepareError<'a>>
     requires source { IsSource source.now }
     requires end { script.now.end < 2 ^ 61 }
     ensures due { IfOk result (λ act. OnTrue F.tells
@@ -39,8 +39,8 @@ fn log_on<'a, F: Files>(
         IsJudged (placed source.now.program) script.now.lines script.now.end other
         (outcome_of act)))) }
     ensures quiet { IfOk result IsQuiet }
-    ensures unread { result ≡ Err PrepareError.Unread →
-        Failed (F.state files.old) (F.state files.new) log.now }
+    ensures failed { IfErr result
+        (IsReadError log.now (F.state files.old) (F.state files.new)) }
     ensures files { AllStay (F.state files.old).held (F.state files.new).held }
     ensures read_counts { NoneFell (F.state files.old).read_faults (F.state files.new).read_faults }
     ensures write_counts { NoneFell (F.state files.old).write_faults
@@ -61,17 +61,17 @@ fn log_on<'a, F: Files>(
 fn script_on<'a, F: Files>(
     alloc: Global,
     source: &Source,
-    script: &str,
-    log: &str,
+    script: &'a str,
+    log: &'a str,
     files: &mut F,
-) -> Result<PreparedCall<'a>, PrepareError>
+) -> Result<PreparedCall<'a>, PrepareError<'a>>
     requires { IsSource source.now }
     ensures due { IfOk result (λ act. OnTrue F.tells (IsReplayed (placed source.now.program)
         ((F.state files.old).held script.now) ((F.state files.old).held log.now)
         (outcome_of act))) }
     ensures quiet { IfOk result IsQuiet }
-    ensures unread { result ≡ Err PrepareError.Unread → LaterFailed F.tells (placed source.now.program)
-        (F.state files.old) (F.state files.new) script.now log.now }
+    ensures failed { IfErr result (IsLaterError F.tells (placed source.now.program)
+        (F.state files.old) (F.state files.new) script.now log.now) }
     ensures files { AllStay (F.state files.old).held (F.state files.new).held }
     ensures read_counts { NoneFell (F.state files.old).read_faults (F.state files.new).read_faults }
     ensures write_counts { NoneFell (F.state files.old).write_faults
@@ -92,14 +92,14 @@ fn script_on<'a, F: Files>(
 
 /// `replay`: the program is read and judged, the script only where the program has no fault, and
 /// the log only where the script has none.
-#[tactic(auto, using(command_answers::proofs::Trying::tried_first, command_answers::proofs::Trying::tried_on, command_answers::proofs::Trying::tried_alone))]
+#[tactic(auto, using(command_answers::proofs::Held::first_unread, command_answers::proofs::Trying::tried_first, command_answers::proofs::Trying::tried_on, command_answers::proofs::Trying::tried_alone))]
 pub fn prepare_replay<'a, F: Files>(
     alloc: Global,
-    program: &str,
-    script: &str,
-    log: &str,
+    program: &'a str,
+    script: &'a str,
+    log: &'a str,
     files: &mut F,
-) -> Result<PreparedCall<'a>, PrepareError>
+) -> Result<PreparedCall<'a>, PrepareError<'a>>
     ensures prepared { Prepares F.tells (call.replay program.now script.now log.now)
         (F.state files.old) (F.state files.new) result }
     ensures files { AllStay (F.state files.old).held (F.state files.new).held }

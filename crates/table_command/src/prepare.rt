@@ -115,13 +115,13 @@ fn table_act<'a>(
 }
 
 /// `table`.
-#[tactic(auto, using(command_answers::proofs::Trying::tried_last))]
+#[tactic(auto, using(command_answers::proofs::Held::first_unread, command_answers::proofs::Trying::tried_last))]
 pub fn prepare_table<'a, F: Files>(
     alloc: Global,
-    tasks: &str,
+    tasks: &'a str,
     program: &'a str,
     files: &mut F,
-) -> Result<PreparedCall<'a>, PrepareError>
+) -> Result<PreparedCall<'a>, PrepareError<'a>>
     ensures prepared { Prepares F.tells (call.table tasks.now program.now) (F.state files.old)
         (F.state files.new) result }
     ensures files { AllStay (F.state files.old).held (F.state files.new).held }

@@ -1,21 +1,27 @@
 use Rattle.command_words.specs.Words.{call_of}
 use Rattle.command_answers.specs.Acts.{number_of}
-use Rattle.command_answers.specs.Files.{sources_of}
+use Rattle.command_answers.specs.Files.{listed, sources_of, target_of}
+use Rattle.command_answers.proofs.Caused.{reached_is_named}
 use Rattle.command.proofs.Tried.{performed_reads, performed_writes}
-use Rattle.command.proofs.Went.{performed}
+use Rattle.command.proofs.Went.{performed, performed_cause, read_failed}
 use Rattle.command.proofs.carry.carry.Goals as goal
 
 pub returns-in-Ok-clause-went : goal.returns-in-Ok-clause-went
 returns-in-Ok-clause-went g c =
     performed (call_of c.args.command.now) (g.F.Files.state c.args.files.now) (g.F.Files.state c.prepare.new.files) (g.F.Files.state c.perform.new.files) (g.O.Sink.state c.args.out.now) (g.O.Sink.state c.perform.new.out)
-    c.in-Ok.act (number_of c.perform.result) c.in-Ok.ensures.files c.in-Ok.ensures.write_counts g.F.Files.tells c.in-Ok.ensures.prepared c.perform.ensures
+    c.in-Ok.act (number_of c.perform.result) c.in-Ok.ensures.files c.in-Ok.ensures.write_counts g.F.Files.tells c.in-Ok.ensures.prepared c.perform.ensures.performed
 
 pub returns-in-Ok-clause-reads : goal.returns-in-Ok-clause-reads
 returns-in-Ok-clause-reads g c =
     performed_reads (sources_of (call_of c.args.command.now)) _ _ _ (number_of c.in-Ok.act.status) (number_of c.perform.result)
-    c.in-Ok.ensures.reads c.perform.ensures.unread c.perform.ensures.range c.in-Ok.ensures.prepared.answered.2
+    c.in-Ok.ensures.reads c.perform.ensures.performed.unread c.perform.ensures.performed.range c.in-Ok.ensures.prepared.answered.2
 
 pub returns-in-Ok-clause-writes : goal.returns-in-Ok-clause-writes
 returns-in-Ok-clause-writes g c =
     performed_writes (call_of c.args.command.now) c.in-Ok.act.store _ _ _ (number_of c.in-Ok.act.status) (number_of c.perform.result)
-    c.in-Ok.ensures.prepared.at c.in-Ok.ensures.prepared.stored c.in-Ok.ensures.writes c.perform.ensures.written c.perform.ensures.range
+    c.in-Ok.ensures.prepared.at c.in-Ok.ensures.prepared.stored c.in-Ok.ensures.writes c.perform.ensures.performed.written c.perform.ensures.performed.range
+
+pub returns-in-Ok-clause-cause : goal.returns-in-Ok-clause-cause
+returns-in-Ok-clause-cause g c =
+    performed_cause (call_of c.args.command.now) (g.F.Files.state c.args.files.now) (g.F.Files.state c.prepare.new.files) (g.F.Files.state c.perform.new.files) (g.O.Sink.state c.args.out.now) (g.O.Sink.state c.perform.new.out)
+    c.in-Ok.act.store c.perform.result c.in-Ok.ensures.prepared.at c.in-Ok.ensures.read_counts c.in-Ok.ensures.write_counts c.perform.ensures.cause

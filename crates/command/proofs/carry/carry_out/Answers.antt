@@ -1,7 +1,7 @@
 use Rattle.std.proofs.Common.{refl, subst}
 use Rattle.command_words.specs.Words.{IsRequest, call_of, load_of}
 use Rattle.command.proofs.Loads.{made_as_asked}
-use Rattle.command.proofs.Tried.{command_read, command_written, load_read, load_written}
+use Rattle.command.proofs.Tried.{command_ended, command_read, command_written, load_ended, load_read, load_written}
 use Rattle.command.proofs.carry.carry_out.Goals as goal
 
 pub returns-in-None-clause-went : goal.returns-in-None-clause-went
@@ -55,4 +55,21 @@ returns-in-None-clause-writes g c = record {
   command = λ call is. absurd (c.in-None.ensures.commands call is);
   load = λ load is. absurd (c.in-None.ensures.loads load is);
   other = λ no no_load. refl;
+}
+
+pub returns-in-Some-Command-clause-cause : goal.returns-in-Some-Command-clause-cause
+returns-in-Some-Command-clause-cause g c =
+    let asked = subst (IsRequest c.args.words.now) c.in-Some-Command.field-0-is c.in-Some-Command.ensures.some in
+    command_ended c.one_command.ensures c.no_command_is_a_load.ensures c.args.words.now (call_of c.in-Some-Command.command) _ _ _ asked.0 c.carry.ensures.cause
+
+pub returns-in-Some-Load-clause-cause : goal.returns-in-Some-Load-clause-cause
+returns-in-Some-Load-clause-cause g c =
+    let asked = subst (IsRequest c.args.words.now) c.in-Some-Load.field-0-is c.in-Some-Load.ensures.some in
+    load_ended c.one_load.ensures c.no_command_is_a_load.ensures c.args.words.now (load_of c.in-Some-Load.load) _ _ _ asked c.make.ensures.cause
+
+pub returns-in-None-clause-cause : goal.returns-in-None-clause-cause
+returns-in-None-clause-cause g c = record {
+  command = λ call is. absurd (c.in-None.ensures.commands call is);
+  load = λ load is. absurd (c.in-None.ensures.loads load is);
+  other = λ no no_load. c.usage.ensures.cause _ _;
 }

@@ -2,6 +2,7 @@ use Rattle.std.proofs.Common.{◌≡◌, ◌∙◌, Some, Err, ap, subst}
 use Rattle.std.specs.Bool.{OnTrue}
 use Rattle.command_answers.specs.Acts.{number_of}
 use Rattle.command_words.specs.Words.{load_of}
+use Rattle.command_answers.proofs.Caused.{cause_since}
 use Rattle.command.proofs.Ends.{joined, unwritten}
 use Rattle.command.proofs.making.make.Goals as goal
 

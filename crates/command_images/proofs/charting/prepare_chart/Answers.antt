@@ -11,7 +11,7 @@ pub returns-in-Ok-clause-prepared : goal.returns-in-Ok-clause-prepared
 returns-in-Ok-clause-prepared g c =
     chart_prepares g.F.Files.tells c.args.image.now c.args.script.now c.args.first c.args.end (g.F.Files.state c.args.files.now) (g.F.Files.state c.read.new.files) (g.F.Files.state c.chart_on.new.files)
     (IsContent longest c.in_ok-content.content) c.in-Ok.raw c.chart_on.result c.in_ok-content.ensures.content c.in-Ok.ensures.loads c.in_ok-content.ensures.files c.in_ok-content.ensures.read_counts
-    c.chart_on.ensures.due c.chart_on.ensures.quiet c.chart_on.ensures.unread
+    c.chart_on.ensures.due c.chart_on.ensures.quiet c.chart_on.ensures.failed
 
 pub returns-in-Ok-refuse_image-clause-prepared : goal.returns-in-Ok-refuse_image-clause-prepared
 returns-in-Ok-refuse_image-clause-prepared g c =

@@ -11,7 +11,7 @@ pub returns-in-Ok-clause-prepared : goal.returns-in-Ok-clause-prepared
 returns-in-Ok-clause-prepared g c =
     run_prepares g.F.Files.tells c.args.image.now c.args.script.now (g.F.Files.state c.args.files.now) (g.F.Files.state c.read.new.files) (g.F.Files.state c.run_on.new.files)
     (IsContent longest c.in_ok-content.content) c.in-Ok.raw c.run_on.result c.in_ok-content.ensures.content c.in-Ok.ensures.loads c.in_ok-content.ensures.files c.in_ok-content.ensures.read_counts
-    c.run_on.ensures.due c.run_on.ensures.done c.run_on.ensures.unread
+    c.run_on.ensures.due c.run_on.ensures.done c.run_on.ensures.failed
 
 pub returns-in-Ok-refuse_image-clause-prepared : goal.returns-in-Ok-refuse_image-clause-prepared
 returns-in-Ok-refuse_image-clause-prepared g c =

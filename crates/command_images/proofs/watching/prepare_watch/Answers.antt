@@ -11,7 +11,7 @@ pub returns-in-Ok-clause-prepared : goal.returns-in-Ok-clause-prepared
 returns-in-Ok-clause-prepared g c =
     watch_prepares g.F.Files.tells c.args.image.now c.args.script.now c.args.stop (g.F.Files.state c.args.files.now) (g.F.Files.state c.read.new.files) (g.F.Files.state c.watch_on.new.files)
     (IsContent longest c.in_ok-content.content) c.in-Ok.raw c.watch_on.result c.in_ok-content.ensures.content c.in-Ok.ensures.loads c.in_ok-content.ensures.files c.in_ok-content.ensures.read_counts
-    c.watch_on.ensures.due c.watch_on.ensures.quiet c.watch_on.ensures.unread
+    c.watch_on.ensures.due c.watch_on.ensures.quiet c.watch_on.ensures.failed
 
 pub returns-in-Ok-refuse_image-clause-prepared : goal.returns-in-Ok-refuse_image-clause-prepared
 returns-in-Ok-refuse_image-clause-prepared g c =

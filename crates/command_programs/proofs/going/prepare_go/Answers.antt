@@ -11,7 +11,7 @@ pub returns-in-Ok-clause-prepared : goal.returns-in-Ok-clause-prepared
 returns-in-Ok-clause-prepared g c =
     go_prepares g.F.Files.tells c.args.program.now c.args.image.now c.args.script.now c.args.over (g.F.Files.state c.args.files.now) (g.F.Files.state c.read.new.files) (g.F.Files.state c.go_on.new.files)
     (IsContent longest_text c.in_ok-content.content) c.in-Ok.built c.go_on.result c.in_ok-content.ensures.content c.in-Ok.ensures.compiles c.in_ok-content.ensures.files c.in_ok-content.ensures.read_counts
-    c.go_on.ensures.due c.go_on.ensures.done c.go_on.ensures.unread
+    c.go_on.ensures.due c.go_on.ensures.done c.go_on.ensures.failed
 
 pub returns-in-Ok-refuse-clause-prepared : goal.returns-in-Ok-refuse-clause-prepared
 returns-in-Ok-refuse-clause-prepared g c =

@@ -13,11 +13,11 @@ returns-in-Ok-clause-due g c =
     (g.F.Files.state c.args.files.now) (g.F.Files.state c.read.new.files) (g.F.Files.state c.log_on.new.files) (IsContent longest_text c.in_ok-content.content)
     c.in-Ok.lines.lines c.in-Ok.lines.end c.log_on.result c.in_ok-content.ensures.content c.in-Ok.ensures.script c.in_ok-content.ensures.files c.log_on.ensures.due
 
-pub returns-in-Ok-clause-unread : goal.returns-in-Ok-clause-unread
-returns-in-Ok-clause-unread g c =
-    λ unread. log_failed g.F.Files.tells (placed c.args.source.now.program) c.args.source.now.names c.requires.names.same c.args.script.now c.args.log.now
+pub returns-in-Ok-clause-failed : goal.returns-in-Ok-clause-failed
+returns-in-Ok-clause-failed g c =
+    log_failed g.F.Files.tells (placed c.args.source.now.program) c.args.source.now.names c.requires.names.same c.args.script.now c.args.log.now
     (g.F.Files.state c.args.files.now) (g.F.Files.state c.read.new.files) (g.F.Files.state c.log_on.new.files) (IsContent longest_text c.in_ok-content.content)
-    c.in-Ok.lines.lines c.in-Ok.lines.end c.in_ok-content.ensures.content c.in-Ok.ensures.script c.in_ok-content.ensures.read_counts (c.log_on.ensures.unread unread)
+    c.in-Ok.lines.lines c.in-Ok.lines.end c.log_on.result c.in_ok-content.ensures.content c.in-Ok.ensures.script c.in_ok-content.ensures.read_counts c.log_on.ensures.failed
 
 pub returns-in-Ok-refuse_script-clause-due : goal.returns-in-Ok-refuse_script-clause-due
 returns-in-Ok-refuse_script-clause-due g c =
