@@ -3,7 +3,8 @@
 ghost use Rattle.std.specs.Prelude.{◌≡◌, ◌≤◌, ◌<◌, ◌^◌, ◌++◌, ℕ, [], ◌∷◌, length, slice_get, unwrap_or, IfOk, OnOk};
 ghost use Rattle.event_log.specs.Line.{condition_name, device_name, monitor_name};
 ghost use Rattle.event_log.specs.Logs.{AreFew, AreWordNames};
-ghost use Rattle.event_log.specs.Finding.{AreNumbers, number_in};
+ghost use Rattle.image.specs.NameMaps.{number_in};
+ghost use Rattle.event_log.specs.Finding.{AreNumbers};
 
 use image::{ConditionName, ImageNames};
 use indexmap::IndexMap;
