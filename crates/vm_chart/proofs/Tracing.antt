@@ -22,7 +22,7 @@ use Rattle.vm_stretch.specs.RowLaws.{begun}
 use Rattle.vm_runner.specs.Alike.{StayAlike}
 use Rattle.vm_runner.specs.Standing.{events_between}
 use Rattle.vm_runner.proofs.Cut.{cut_at, no_events}
-use Rattle.vm_chart.specs.Follows.{Drawing, Each, IsDrawnTo, IsFresh, IsTimely, begins, events_before}
+use Rattle.vm_chart.specs.Follows.{Drawing, Each, IsDrawnTo, IsFresh, IsBeforeLastTick, begins, events_before}
 use Rattle.vm_chart.proofs.Alike.{same_letter}
 
 -- ---- one after the other
@@ -76,12 +76,12 @@ module _ (image : Image) (script : Script) where
   all_events = refl
 
   -- all that fall up to a tick are timely
-  pub timely_between : (t u : ℕ) → t ≤ u → u ≤ script.end_tick → All IsTimely (events image script) → All IsTimely (events_between image script t u)
+  pub timely_between : (t u : ℕ) → t ≤ u → u ≤ script.end_tick → All IsBeforeLastTick (events image script) → All IsBeforeLastTick (events_between image script t u)
   timely_between t u later within all =
-      let whole : All IsTimely (events_before image script u ++ events_between image script u script.end_tick) =
-      subst (λ (es : List Event). All IsTimely es) (all_events ∙ before_later u script.end_tick within) all in
-      let up : All IsTimely (events_before image script u) = all_front IsTimely (events_before image script u) (events_between image script u script.end_tick) whole in
-      all_back IsTimely (events_before image script t) (events_between image script t u) (subst (λ (es : List Event). All IsTimely es) (before_later t u later) up)
+      let whole : All IsBeforeLastTick (events_before image script u ++ events_between image script u script.end_tick) =
+      subst (λ (es : List Event). All IsBeforeLastTick es) (all_events ∙ before_later u script.end_tick within) all in
+      let up : All IsBeforeLastTick (events_before image script u) = all_front IsBeforeLastTick (events_before image script u) (events_between image script u script.end_tick) whole in
+      all_back IsBeforeLastTick (events_before image script t) (events_between image script t u) (subst (λ (es : List Event). All IsBeforeLastTick es) (before_later t u later) up)
 
 -- the events before and those of a list that were gone over, with the next of these
 pub counts_next : (k first : ℕ) (before es : List Event) (i : ℕ) (d : Event) (trace : Trace) → i < length es → Counts k first ((before ++ take i es) ++ get_or es i d ∷ []) trace → Counts k first (before ++ take (i + 1) es) trace
@@ -94,8 +94,8 @@ few_next before es i n few =
     let some : length (take i es) ≡ min i (length es) = length-take i es in
     omega (arith, both, some, few)
 
-pub timely_next : (es : List Event) (i : ℕ) (d : Event) → All IsTimely es → i < length es → IsTimely (get_or es i d)
-timely_next es i d all low = one_of IsTimely es i (get_or es i d) all (slice_get-get_or es i d low)
+pub timely_next : (es : List Event) (i : ℕ) (d : Event) → All IsBeforeLastTick es → i < length es → IsBeforeLastTick (get_or es i d)
+timely_next es i d all low = one_of IsBeforeLastTick es i (get_or es i d) all (slice_get-get_or es i d low)
 
 -- ---- one process
 
