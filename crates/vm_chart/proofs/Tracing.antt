@@ -1,27 +1,24 @@
 -- What is kept of each process, and of all.
-use Rattle.std.proofs.Common.{◌≡◌, ◌≤◌, ◌<◌, ◌+◌, ◌-◌, ◌*◌, ◌++◌, ◌⊎◌, inl, inr, ℕ, zero, suc, List, [], ◌∷◌, Some, get_or, length, take, append_assoc, map, arith, refl, ap, sym, subst, ◌∙◌}
+use Rattle.std.proofs.Common.{◌≡◌, ◌≤◌, ◌<◌, ◌+◌, ◌-◌, ◌++◌, inl, inr, ℕ, List, [], ◌∷◌, Some, get_or, length, take, append_assoc, map, arith, refl, ap, sym, subst, ◌∙◌}
 use Rattle.std.specs.Prelude.{All, min, slice_get, slice_set}
 use Rattle.std.specs.List.{range_with_len}
 use Rattle.std.proofs.lemmas.Bool.{cases_lt}
 use Rattle.std.proofs.lemmas.List.{length-append, length-take, take_more}
-use Rattle.std.proofs.lemmas.List.FromFn.{map-range_with_len_more}
 use Rattle.std.proofs.lemmas.Option.{slice_get-get_or, slice_get_within}
 use Rattle.base.proofs.Lists.{all_back, all_front, get_other, get_set, one_of, one_some}
 use Rattle.base.specs.declared.event.Event.{Event}
 use Rattle.machine_semantics.specs.Image.{Image, Script}
-use Rattle.machine_semantics.specs.Run.{at_start, events, events_from, state_at}
-use Rattle.run_chart.specs.declared.columns.Columns.{Columns}
+use Rattle.machine_semantics.specs.Run.{events, events_from, state_at}
 use Rattle.run_chart.specs.declared.letter.Letter.{Letter}
-use Rattle.run_chart.specs.Letters.{drawn, first_of, first_of_two, letter_at, letter_in}
-use Rattle.run_chart.specs.Spans.{first_tick, shown}
+use Rattle.run_chart.specs.Letters.{drawn, first_of, first_of_two, letter_at}
+use Rattle.run_chart.specs.Spans.{shown}
 use Rattle.chart_lines.specs.declared.trace.Trace.{Trace}
-use Rattle.chart_lines.specs.Columns.{end_of}
 use Rattle.chart_lines.specs.Traces.{Counts}
 use Rattle.chart_lines.proofs.Seeing.{seen_to}
 use Rattle.vm_stretch.specs.RowLaws.{begun}
 use Rattle.vm_runner.specs.Alike.{StayAlike}
 use Rattle.vm_runner.specs.Standing.{events_between}
-use Rattle.vm_runner.proofs.Cut.{cut_at, no_events}
+use Rattle.vm_runner.proofs.Cut.{cut_at}
 use Rattle.vm_chart.specs.Follows.{Drawing, Each, IsDrawnTo, IsFresh, IsBeforeLastTick, begins, events_before}
 use Rattle.vm_chart.proofs.Alike.{same_letter}
 

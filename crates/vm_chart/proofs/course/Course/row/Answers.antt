@@ -1,4 +1,4 @@
-use Rattle.std.proofs.Common.{◌≡◌, ◌≤◌, ◌<◌, ◌+◌, ◌++◌, List, arith, refl, ap, sym, subst, ◌∙◌}
+use Rattle.std.proofs.Common.{◌≡◌, ◌≤◌, List, arith, refl, sym, subst, ◌∙◌}
 use Rattle.std.specs.Prelude.{All}
 use Rattle.base.specs.declared.event.Event.{Event}
 use Rattle.vm_runner.specs.Standing.{events_between}
