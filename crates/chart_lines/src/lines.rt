@@ -4,7 +4,7 @@ ghost use Rattle.std.specs.Prelude.{◌≡◌, ◌<◌, ◌≤◌, ◌*◌, ◌+
 ghost use Rattle.std.specs.List.{flat_map};
 ghost use Rattle.image.specs.Raw.{image_of, named_of};
 ghost use Rattle.machine_semantics.specs.Image.{Script as Lines};
-ghost use Rattle.run_chart.specs.Chart.{by_rank, chart_in, filled, line, of_rank, process_of_run, declared_rank_of, scale, summary};
+ghost use Rattle.run_chart.specs.Chart.{by_rank, chart_in, declared_rank_of, filled, line, of_rank, process_of_run, scale, summary};
 ghost use Rattle.run_chart.specs.Spans.{first_tick};
 ghost use Rattle.chart_lines.specs.Columns.{AreFew};
 ghost use Rattle.chart_lines.specs.Lengths.{AreLengths};

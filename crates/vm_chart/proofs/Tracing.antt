@@ -19,7 +19,7 @@ use Rattle.vm_stretch.specs.RowLaws.{begun}
 use Rattle.vm_runner.specs.Alike.{StayAlike}
 use Rattle.vm_runner.specs.Standing.{events_between}
 use Rattle.vm_runner.proofs.Cut.{cut_at}
-use Rattle.vm_chart.specs.Follows.{Drawing, Each, IsDrawnTo, IsFresh, IsBeforeLastTick, begins, events_before}
+use Rattle.vm_chart.specs.Follows.{Drawing, Each, IsBeforeLastTick, IsDrawnTo, IsFresh, begins, events_before}
 use Rattle.vm_chart.proofs.Alike.{same_letter}
 
 -- ---- one after the other

@@ -4,7 +4,7 @@ ghost use Rattle.std.specs.Prelude.{◌≡◌, ◌≤◌, ◌<◌, ◌+◌, ◌-
 ghost use Rattle.base.specs.declared.event.Event.{Event as Fell};
 ghost use Rattle.chart_lines.specs.Columns.{end_of};
 ghost use Rattle.chart_lines.specs.Traces.{Counts};
-ghost use Rattle.vm_chart.specs.Follows.{AreColumns, Drawing, Each, IsDrawnTo, IsFresh, IsBeforeLastTick, Passing, begins, events_before};
+ghost use Rattle.vm_chart.specs.Follows.{AreColumns, Drawing, Each, IsBeforeLastTick, IsDrawnTo, IsFresh, Passing, begins, events_before};
 ghost use Rattle.vm_runner.specs.Standing.{events_between};
 ghost use Rattle.vm_state.specs.Board.{IsBoardOf, state_of};
 ghost use Rattle.vm_state.specs.Plan.{IsOf};

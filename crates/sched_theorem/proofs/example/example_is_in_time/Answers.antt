@@ -1,5 +1,5 @@
 use Rattle.std.proofs.Common.{rules, length}
-use Rattle.sched_theorem.specs.Example.{bound_of, place_of, example_rank_of, trace_of}
+use Rattle.sched_theorem.specs.Example.{bound_of, example_rank_of, place_of, trace_of}
 use Rattle.sched_theorem.specs.Placed.{AreRanks, IsInTimeAt}
 use Rattle.sched_theorem.proofs.example.example_is_in_time.Goals as goal
 
