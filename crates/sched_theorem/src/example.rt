@@ -173,7 +173,8 @@ pub fn example() -> Run
     ensures tasks { AreTasks result.tasks }
     ensures bounds { AreBounds result.tasks (bound_of result) }
     ensures ranks { AreRanks 2 (example_rank_of result) (place_of result) }
-    ensures run { IsPlaced result.tasks (example_rank_of result) 18 (trace_of result) (dispatch_of result) }
+    ensures run { IsPlaced result.tasks (example_rank_of result) 18 (trace_of result)
+        (dispatch_of result) }
     ensures shows { ShowsEach result }
     ensures reached { ReachesBounds result }
 {
