@@ -6,7 +6,7 @@ use Rattle.std.proofs.lemmas.Option.{slice_get-map}
 use Rattle.sched_response.specs.Counts.{count_below}
 use Rattle.machine_semantics.specs.Image.{Image, Monitor, Process}
 use Rattle.valid_image.specs.Tables.{stay_of_process}
-use Rattle.valid_image.specs.Times.{deadline_of, deadline_at, outranks, rank_of, is_some, enters, least_rank, ceiling_of, ticks_of, blocking_stay, longest_blocking, blocking_by, longest_block, needed_block}
+use Rattle.valid_image.specs.Times.{deadline_of, deadline_at, process_outranks, rank_of, is_some, enters, least_rank, ceiling_of, ticks_of, blocking_stay, longest_blocking, blocking_by, longest_block, needed_block}
 use Rattle.built_image.specs.Filled.{without_rank, without_ranks, without_bound, without_bounds}
 use Rattle.code_measures.specs.Whole.{HasRanks}
 use Rattle.built_image_law.specs.Filled.{Each, without_block, without_blocks}
@@ -25,15 +25,15 @@ module _ (m : Image) where
     kept None = refl
     kept (Some p) = refl
 
-  outranks_same : (k j : ℕ) → outranks (without_ranks m) j k ≡ outranks m j k
+  outranks_same : (k j : ℕ) → process_outranks (without_ranks m) j k ≡ process_outranks m j k
   outranks_same k j =
       ap (λ d. nat_lt d (deadline_at (without_ranks m) k) || (nat_eq d (deadline_at (without_ranks m) k) && nat_lt j k)) (deadline_same j)
       ∙ ap (λ d. nat_lt (deadline_at m j) d || (nat_eq (deadline_at m j) d && nat_lt j k)) (deadline_same k)
 
   rank_same : (k : ℕ) → rank_of (without_ranks m) k ≡ rank_of m k
   rank_same k =
-      ap (λ n. 1 + count_below (λ j. outranks (without_ranks m) j k) n) (length-map m.processes without_rank)
-      ∙ ap (λ c. 1 + c) (count_same (λ j. outranks (without_ranks m) j k) (λ j. outranks m j k) (outranks_same k) (length m.processes))
+      ap (λ n. 1 + count_below (λ j. process_outranks (without_ranks m) j k) n) (length-map m.processes without_rank)
+      ∙ ap (λ c. 1 + c) (count_same (λ j. process_outranks (without_ranks m) j k) (λ j. process_outranks m j k) (outranks_same k) (length m.processes))
 
   least_same : (j n : ℕ) → least_rank (without_ranks m) j n ≡ least_rank m j n
   least_same j zero = refl

@@ -34,7 +34,7 @@ use Rattle.built_image_law.proofs.Texts.{Emitted, emitted}
 use Rattle.built_valid_law.proofs.Counts.{Counted}
 use Rattle.code_names_law.proofs.Numbers.{name_is, name_same}
 use Rattle.code_names_law.specs.Numbered.{AreNumbered}
-use Rattle.code_size.specs.Rules.{routine_stack, texts_from}
+use Rattle.code_size.specs.Rules.{routine_stack, placed_texts_from}
 use Rattle.code_spec.specs.Compiled.{IsReleased}
 use Rattle.code_spec.specs.Layout.{routine_words}
 use Rattle.code_spec.specs.Numbering as numbering
@@ -224,7 +224,7 @@ module _ (text : List ℕ) (g' : Prog Place) (m : Image) (tree : IsTreeOf text g
 
   -- ---- routines
 
-  words_low : (t : numbering.Text) → IsPlainOf (texts_from 0 0 g'.decls) t → routine_words p t.routine ≤ 4096
+  words_low : (t : numbering.Text) → IsPlainOf (placed_texts_from 0 0 g'.decls) t → routine_words p t.routine ≤ 4096
   words_low t is =
       let words = routine_words p (plain_routine is.text.routine) in
       let height = routine_height p is.text.owner (calls_of p) (plain_routine is.text.routine) in

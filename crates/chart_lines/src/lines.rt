@@ -4,7 +4,7 @@ ghost use Rattle.std.specs.Prelude.{◌≡◌, ◌<◌, ◌≤◌, ◌*◌, ◌+
 ghost use Rattle.std.specs.List.{flat_map};
 ghost use Rattle.image.specs.Raw.{image_of, named_of};
 ghost use Rattle.machine_semantics.specs.Image.{Script as Lines};
-ghost use Rattle.run_chart.specs.Chart.{by_rank, chart_in, filled, line, of_rank, process_of_run, rank_of, scale, summary};
+ghost use Rattle.run_chart.specs.Chart.{by_rank, chart_in, declared_rank_of, filled, line, of_rank, process_of_run, scale, summary};
 ghost use Rattle.run_chart.specs.Spans.{first_tick};
 ghost use Rattle.chart_lines.specs.Columns.{AreFew};
 ghost use Rattle.chart_lines.specs.Lengths.{AreLengths};
@@ -150,7 +150,7 @@ fn put_if(
     requires number { number < length image.now.processes }
     ensures { OnOk result (text.new ≡ text.old ++
         flat_map (process_of_run (named_of image.now) script columns.now)
-        (cond (nat_eq (rank_of (image_of image.now) number) rank) (number ∷ []) [])) }
+        (cond (nat_eq (declared_rank_of (image_of image.now) number) rank) (number ∷ []) [])) }
 {
     if image.processes.as_slice()[number].rank as usize != rank {
         return Ok(());

@@ -10,7 +10,7 @@ use Rattle.code_cost_spec.specs.Levels.{calls_of, code_length}
 use Rattle.code_names_law.specs.Numbered.{AreNumbered}
 use Rattle.checked_law.specs.Ready.{CheckedProgramsAreReady}
 use Rattle.codegen_law.specs.Fitting.{FramesFit}
-use Rattle.code_size.specs.Rules.{routine_stack, texts_from}
+use Rattle.code_size.specs.Rules.{routine_stack, placed_texts_from}
 use Rattle.checked_law.specs.Runs.{CheckedCodeIsCode}
 use Rattle.checked_law.specs.Small.{KeepsSizes, ProgramsThatKeepSizesAreSmall, GeneratedCodeIsCode}
 use Rattle.checked_law.proofs.Texts.{IsPlainOf, plain_of_placed}
@@ -26,7 +26,7 @@ within : (words height : ℕ) → words + height ≤ 4096 → words ≤ 21474836
 within words height h = omega arith
 
 module _ (g : Prog Place) (keeps : KeepsSizes g) where
-  text_fits : (u : numbering.Text) → IsPlainOf (texts_from 0 0 g.decls) u → routine_words (plain g) u.routine ≤ 2147483647
+  text_fits : (u : numbering.Text) → IsPlainOf (placed_texts_from 0 0 g.decls) u → routine_words (plain g) u.routine ≤ 2147483647
   text_fits u p =
       let words = routine_words (plain g) (plain_routine p.text.routine) in
       let height = routine_height (plain g) p.text.owner (calls_of (plain g)) (plain_routine p.text.routine) in

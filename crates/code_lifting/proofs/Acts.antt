@@ -18,7 +18,7 @@ use Rattle.source_semantics.specs.Next.{Next, given}
 use Rattle.source_semantics.specs.Config.{Doing, idle, active, waiting, released_of, Job, Hold, Config, hold_vars, changed, occupied, job_doing, job_calls, inside, leave, vacate}
 use Rattle.source_semantics.specs.Ranks.{monitors_of, includes}
 use Rattle.source_semantics.specs.Starts.{Script, device_value}
-use Rattle.source_semantics.specs.Source.{effect, save_job, may_act, hold_free, is_empty, job_after_raise, lists, call_of}
+use Rattle.source_semantics.specs.Source.{effect, save_job, may_act, hold_free, is_empty, job_after_raise, lists_constant, call_of}
 use Rattle.machine_semantics.specs.Image.{Process}
 use Rattle.machine_semantics.specs.State.{Thread, Idle, Ready, Waiting, State}
 use Rattle.machine_semantics.specs.State as target
@@ -44,10 +44,10 @@ pub record AfterRaise (g : Program) (number : ℕ) (h : Option Handler) (j : Job
 pub after_raise_is : (g : Program) (number : ℕ) (h : Option Handler) (j : Job) → AfterRaise g number h j
 after_raise_is g number None j = record { doing = refl; vars = refl; calls = refl; handling = refl }
 after_raise_is g number (Some h) j = record {
-  doing = doing (lists g number h.numbers && not j.handling);
-  vars = vars (lists g number h.numbers && not j.handling);
-  calls = calls (lists g number h.numbers && not j.handling);
-  handling = handling (lists g number h.numbers && not j.handling);
+  doing = doing (lists_constant g number h.numbers && not j.handling);
+  vars = vars (lists_constant g number h.numbers && not j.handling);
+  calls = calls (lists_constant g number h.numbers && not j.handling);
+  handling = handling (lists_constant g number h.numbers && not j.handling);
 } where
   into : Doing → Job
   into d = record { vars = j.vars; doing = active (released_of d); calls = call_of h.body ∷ []; handling = true }

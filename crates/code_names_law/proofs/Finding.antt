@@ -7,7 +7,7 @@ use Rattle.static_declarations.specs.declared.sort.Sort.{Sort}
 use Rattle.static_declarations.specs.declared.sort.Sort.TheVariants as sort_is
 use Rattle.source_semantics.specs.Run.{Found, routine_named, entry_named}
 use Rattle.code_spec.specs.Numbering.{Called, calls_entry, expr_calls, exprs_calls, row_calls, ref_calls, stmt_calls, stmts_calls, answers_calls}
-use Rattle.wellformed.specs.Here.{Here, in_loop, sort_of}
+use Rattle.wellformed.specs.Here.{Here, in_loop, scalar_sort}
 use Rattle.wellformed.specs.Typed.{answer_sort, params_of, IsOf, IsRow, AreArguments, IsTarget}
 use Rattle.wellformed.specs.Statements.{Fits, AllFit, may_call}
 use Rattle.wellformed.specs.WellFormed.{AnswersFit}
@@ -46,7 +46,7 @@ called_all P (c ∷ cs) h = (h c (0, omega arith, refl), called_all P cs (λ d i
 function_found : (g : Program) (p : Process) (may : Bool) (f : Name) (s : Sort) → answer_sort (routine_named g p f) ≡ Some s → FindsRoutine g p may f
 function_found g p may f s e = by (routine_named g p f) refl e
   where
-    answers : (a : Option Answers) → option_map (λ x. sort_of x.kind) a ≡ Some s → IsSome a
+    answers : (a : Option Answers) → option_map (λ x. scalar_sort x.kind) a ≡ Some s → IsSome a
     answers None h = absurd (none-some s h)
     answers (Some a) h = refl
 
@@ -90,7 +90,7 @@ module _ (h : Here) where
     exprs_find no_exprs ps k = tt
     exprs_find (exprs e es) None k = absurd k
     exprs_find (exprs e es) (Some []) k = absurd k
-    exprs_find (exprs e es) (Some (p ∷ ps)) k = called_both P (expr_calls e) (exprs_calls es) (expr_finds e (sort_of p.kind) k.0) (exprs_find es (Some ps) k.1)
+    exprs_find (exprs e es) (Some (p ∷ ps)) k = called_both P (expr_calls e) (exprs_calls es) (expr_finds e (scalar_sort p.kind) k.0) (exprs_find es (Some ps) k.1)
 
     row_finds : (r : Operands) (t s : Sort) → IsRow h t s r → AllCalled P (row_calls r)
     row_finds no_operands t s k = tt
@@ -127,7 +127,7 @@ mutual
 
 answers_find : (h : Here) (g : Program) (a : Option Answers) → AnswersFit g h a → AllCalled (Finds h.program h.process (may_call h)) (answers_calls a)
 answers_find h g None k = tt
-answers_find h g (Some a) k = expr_finds h a.value (sort_of a.kind) k.1
+answers_find h g (Some a) k = expr_finds h a.value (scalar_sort a.kind) k.1
 
 pub text_finds : TextsCallWhatIsFound
 text_finds h body answers fit fits = record { body_finds = stmts_find body h fit; answers_find = answers_find h h.program answers fits }

@@ -13,7 +13,7 @@ use Rattle.code_simulation_spec.specs.Memory.{Setting}
 use Rattle.code_simulation_spec.specs.Proper.{IsValue, IsArray, IsSingle, IsFree}
 use Rattle.static_declarations.specs.declared.sort.Sort.{Sort}
 use Rattle.static_declarations.specs.declared.sort.Sort.TheVariants as sort_is
-use Rattle.wellformed.specs.Here.{Here, Meant, turn, own_variable, outer_variable, value, nothing, is_among, meant_constant, meant_outer, meant_own, var_named, meant, outer_vars, kind_sort, kind_element, word_sort, element_sort, is_assignable, sort_of, param_var, own_of, monitor_vars}
+use Rattle.wellformed.specs.Here.{Here, Meant, turn, own_variable, outer_variable, value, nothing, is_among, meant_constant, meant_outer, meant_own, var_named, meant, outer_vars, kind_sort, kind_element, word_sort, element_sort, is_assignable, scalar_sort, param_var, own_of, monitor_vars}
 
 -- where a text stands, by the rules
 abbrev pub here_of : Setting → Scope → List Name → List Var → Here
@@ -175,7 +175,7 @@ single_meant g nothing sp k b s h a w = absurd (false≢true a)
 
 -- what holds truths has no range
 
-truth_range : (g : Program) (t : Scalar) → Some (sort_of t) ≡ Some sort_is.Truth → range_of g t ≡ None
+truth_range : (g : Program) (t : Scalar) → Some (scalar_sort t) ≡ Some sort_is.Truth → range_of g t ≡ None
 truth_range g boolean h = refl
 truth_range g int h = absurd cc
 truth_range g (subrange low high) h = absurd cc

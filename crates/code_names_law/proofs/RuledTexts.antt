@@ -19,7 +19,7 @@ use Rattle.code_simulation_spec.specs.Memory.{Setting}
 use Rattle.code_simulation_spec.specs.Proper.{found_of, IsMine, Callee, Reaches, Entry, ProperExpr, ProperRow, ProperArgs, ProperIndex, ProperRef, CountsOn, IsOutside, MayAct, CallsEntry, Waiting, Proper, ProperAll}
 use Rattle.static_declarations.specs.declared.sort.Sort.{Sort}
 use Rattle.static_declarations.specs.declared.sort.Sort.TheVariants as sort_is
-use Rattle.wellformed.specs.Here.{meant, sort_of, conditions_here, monitor_conditions, is_monitor}
+use Rattle.wellformed.specs.Here.{meant, scalar_sort, conditions_here, monitor_conditions, is_monitor}
 use Rattle.wellformed.specs.Typed.{answer_sort, params_of, IsOf, IsRow, AreArguments, IsTarget}
 use Rattle.wellformed.specs.Statements.{AreTurns, may_call, Fits, AllFit}
 use Rattle.code_names_law.specs.Ruled.{all_in, runs_of}
@@ -78,7 +78,7 @@ module _ (e : Setting) (w : Whole e) (n : ℕ) where
         ap (λ y. Some y) (sym t.2),
       )
     where
-      answers_of : (an : Option Answers) → option_map (λ y. sort_of y.kind) an ≡ Some s → (a : Answers) × (an ≡ Some a)
+      answers_of : (an : Option Answers) → option_map (λ y. scalar_sort y.kind) an ≡ Some s → (a : Answers) × (an ≡ Some a)
       answers_of None h = absurd (none-some s h)
       answers_of (Some a) h = (a, refl)
 
@@ -106,7 +106,7 @@ module _ (e : Setting) (w : Whole e) (n : ℕ) where
       args_proper no_exprs [] h b a = tt
       args_proper (exprs i es) [] h b a = absurd h
       args_proper no_exprs (p ∷ ps) h b a = absurd h
-      args_proper (exprs i es) (p ∷ ps) h b a = (expr_proper i (sort_of p.kind) h.0 b.0 (agree_front e c (expr_calls i) (exprs_calls es) a), args_proper es ps h.1 b.1 (agree_back e c (expr_calls i) (exprs_calls es) a))
+      args_proper (exprs i es) (p ∷ ps) h b a = (expr_proper i (scalar_sort p.kind) h.0 b.0 (agree_front e c (expr_calls i) (exprs_calls es) a), args_proper es ps h.1 b.1 (agree_back e c (expr_calls i) (exprs_calls es) a))
 
     index_proper : (r : Ref) (s : Sort) → IsTarget (here_of e c turns vars) s r → RefBelow e.order.level n r → AgreeAll e c (ref_calls r) → ProperIndex e c n r
     index_proper (whole x) s h b a = tt
@@ -239,16 +239,16 @@ module _ (e : Setting) (w : Whole e) (n : ℕ) where
     answers_some : (x : Option Found) (t : Text) (s : Sort) → x ≡ Some (found_of t) → answer_sort x ≡ Some s → (a : Answers) × (t.routine.answers ≡ Some a)
     answers_some x t s is h = by_answers t.routine.answers (ap (λ y. answer_sort y) (sym is) ∙ h)
       where
-        by_answers : (an : Option Answers) → option_map (λ y. sort_of y.kind) an ≡ Some s → (a : Answers) × (an ≡ Some a)
+        by_answers : (an : Option Answers) → option_map (λ y. scalar_sort y.kind) an ≡ Some s → (a : Answers) × (an ≡ Some a)
         by_answers None h = absurd (none-some s h)
         by_answers (Some a) h = (a, refl)
 
     answers_none : (x : Option Found) (t : Text) → x ≡ Some (found_of t) → answer_sort x ≡ None → t.routine.answers ≡ None
     answers_none x t is h = by_answers t.routine.answers (ap (λ y. answer_sort y) (sym is) ∙ h)
       where
-        by_answers : (an : Option Answers) → option_map (λ y. sort_of y.kind) an ≡ None → an ≡ None
+        by_answers : (an : Option Answers) → option_map (λ y. scalar_sort y.kind) an ≡ None → an ≡ None
         by_answers None h = refl
-        by_answers (Some a) h = absurd (some_none (sort_of a.kind) h)
+        by_answers (Some a) h = absurd (some_none (scalar_sort a.kind) h)
           where
             some_none : (s : Sort) → Some s ≡ None → ⊥
             some_none s h = absurd cc

@@ -14,7 +14,7 @@ use Rattle.code_simulation_spec.specs.Memory.{Setting}
 use Rattle.code_simulation_spec.specs.Proper.{found_of, IsMine, ProperAnswers}
 use Rattle.static_declarations.specs.declared.sort.Sort.{Sort}
 use Rattle.static_declarations.specs.declared.sort.Sort.TheVariants as sort_is
-use Rattle.wellformed.specs.Here.{Here, in_loop, sort_of}
+use Rattle.wellformed.specs.Here.{Here, in_loop, scalar_sort}
 use Rattle.wellformed.specs.Typed.{answer_sort, params_of, IsOf, IsRow, AreArguments, IsTarget}
 use Rattle.wellformed.specs.Statements.{may_call, Fits, AllFit}
 use Rattle.wellformed.specs.WellFormed.{AnswersFit}
@@ -49,7 +49,7 @@ module _ (level : Name → ℕ) (n : ℕ) (h : Here) (few : (f : Name) (x : Foun
     exprs_below no_exprs ps k = tt
     exprs_below (exprs i es) None k = absurd k
     exprs_below (exprs i es) (Some []) k = absurd k
-    exprs_below (exprs i es) (Some (p ∷ ps)) k = (expr_below i (sort_of p.kind) k.0, exprs_below es (Some ps) k.1)
+    exprs_below (exprs i es) (Some (p ∷ ps)) k = (expr_below i (scalar_sort p.kind) k.0, exprs_below es (Some ps) k.1)
 
   ref_below : (r : Ref) (s : Sort) → IsTarget h s r → RefBelow level n r
   ref_below (whole x) s k = tt
@@ -206,11 +206,11 @@ monitor_same a b h = ap (λ o. number o) h
 
 pub answers_proper : (e : Setting) (w : Whole e) (n : ℕ) (c : Scope) (vars : List Var) → Place e c [] vars → (an : Option Answers) → AnswersFit e.program (here_of e c [] vars) an → AnswersBelow e.order.level n an → AgreeAll e c (answers_calls an) → ProperAnswers e c n an
 answers_proper e w n c vars place None h b a = tt
-answers_proper e w n c vars place (Some x) h b a = expr_proper e w n c [] vars place x.value (sort_of x.kind) h.1 b a
+answers_proper e w n c vars place (Some x) h b a = expr_proper e w n c [] vars place x.value (scalar_sort x.kind) h.1 b a
 
 pub answers_below : (level : Name → ℕ) (n : ℕ) (h : Here) (g : Program) → ((f : Name) (x : Found) → routine_named h.program h.process f ≡ Some x → level f < n) → (an : Option Answers) → AnswersFit g h an → AnswersBelow level n an
 answers_below level n h g few None k = tt
-answers_below level n h g few (Some a) k = expr_below level n h few a.value (sort_of a.kind) k.1
+answers_below level n h g few (Some a) k = expr_below level n h few a.value (scalar_sort a.kind) k.1
 
 -- what a routine that runs uses
 pub run_uses : (e : Setting) (f : Name) (x : Found) → Levels e.program e.text e.order.level → routine_named e.program e.text f ≡ Some x → runs_of e.program e.text f ≡ true → UsesIn e (uses_all e.program (reached e.program e.text (routine_count e.program)) x.routine.body)

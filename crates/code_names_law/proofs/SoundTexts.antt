@@ -15,7 +15,7 @@ use Rattle.code_simulation_spec.specs.Memory.{Setting}
 use Rattle.code_simulation_spec.specs.Proper.{found_of, IsFree as IsFreeAs}
 use Rattle.static_declarations.specs.declared.sort.Sort.{Sort}
 use Rattle.static_declarations.specs.declared.sort.Sort.TheVariants as sort_is
-use Rattle.wellformed.specs.Here.{meant, sort_of, own_of, in_process, conditions_here}
+use Rattle.wellformed.specs.Here.{meant, scalar_sort, own_of, in_process, conditions_here}
 use Rattle.wellformed.specs.Typed.{answer_sort, params_of, IsOf, IsRow, AreArguments, IsTarget}
 use Rattle.wellformed.specs.Statements.{Fits, AllFit}
 use Rattle.wellformed.specs.WellFormed.{AnswersFit, RoutineFits}
@@ -52,16 +52,16 @@ module _ (e : Setting) (at : slice_get (processes e.program) e.number ≡ Some e
   answers_some : (x : Option Found) (t : Text) (s : Sort) → x ≡ Some (found_of t) → answer_sort x ≡ Some s → (a : Answers) × (t.routine.answers ≡ Some a)
   answers_some x t s is h = by t.routine.answers (ap (λ y. answer_sort y) (sym is) ∙ h)
     where
-      by : (an : Option Answers) → option_map (λ y. sort_of y.kind) an ≡ Some s → (a : Answers) × (an ≡ Some a)
+      by : (an : Option Answers) → option_map (λ y. scalar_sort y.kind) an ≡ Some s → (a : Answers) × (an ≡ Some a)
       by None h = absurd (none-some s h)
       by (Some a) h = (a, refl)
 
   answers_none : (x : Option Found) (t : Text) → x ≡ Some (found_of t) → answer_sort x ≡ None → t.routine.answers ≡ None
   answers_none x t is h = by t.routine.answers (ap (λ y. answer_sort y) (sym is) ∙ h)
     where
-      by : (an : Option Answers) → option_map (λ y. sort_of y.kind) an ≡ None → an ≡ None
+      by : (an : Option Answers) → option_map (λ y. scalar_sort y.kind) an ≡ None → an ≡ None
       by None h = refl
-      by (Some a) h = absurd (some_none (sort_of a.kind) h)
+      by (Some a) h = absurd (some_none (scalar_sort a.kind) h)
 
   -- where a text stands
   pub record Standing (c : Scope) (turns : List Name) (vars : List Var) : Type 0 where
@@ -96,7 +96,7 @@ module _ (e : Setting) (at : slice_get (processes e.program) e.number ≡ Some e
       args_sound (exprs i es) [] h a = absurd h
       args_sound no_exprs (p ∷ ps) h a = absurd h
       args_sound (exprs i es) (p ∷ ps) h a =
-          (expr_sound i (sort_of p.kind) h.0 (called_front (Agree c.owner) (expr_calls i) (exprs_calls es) a), args_sound es ps h.1 (called_back (Agree c.owner) (expr_calls i) (exprs_calls es) a))
+          (expr_sound i (scalar_sort p.kind) h.0 (called_front (Agree c.owner) (expr_calls i) (exprs_calls es) a), args_sound es ps h.1 (called_back (Agree c.owner) (expr_calls i) (exprs_calls es) a))
 
     index_sound : (r : Ref) (s : Sort) → IsTarget (here_of e c turns vars) s r → AllCalled (Agree c.owner) (ref_calls r) → SoundIndex e.program may c r
     index_sound (whole x) s h a = tt
@@ -167,7 +167,7 @@ module _ (e : Setting) (at : slice_get (processes e.program) e.number ≡ Some e
 
   answers_sound : (c : Scope) (vars : List Var) → Standing c [] vars → (an : Option Answers) → AnswersFit e.program (here_of e c [] vars) an → AllCalled (Agree c.owner) (answers_calls an) → SoundAnswers e.program may c an
   answers_sound c vars p None h a = tt
-  answers_sound c vars p (Some x) h a = expr_sound c [] vars p x.value (sort_of x.kind) h.1 a
+  answers_sound c vars p (Some x) h a = expr_sound c [] vars p x.value (scalar_sort x.kind) h.1 a
 
   abbrev text_of : Owner → Routine → Text
   text_of o r = record { owner = o; routine = r }

@@ -6,7 +6,7 @@ use Rattle.source_semantics.specs.Names.{count_value, routine_count}
 use Rattle.source_semantics.specs.Store.{Vars, fresh}
 use Rattle.source_semantics.specs.Next.{next_from}
 use Rattle.source_semantics.specs.Config.{idle, active, Job}
-use Rattle.source_semantics.specs.Source.{call_of, job_after_raise, lists as lists_of}
+use Rattle.source_semantics.specs.Source.{call_of, job_after_raise, lists_constant as lists_of}
 use Rattle.machine_isa.specs.declared.instr.Instr.TheVariants as i
 use Rattle.machine_semantics.specs.Trees.{size, Nil}
 use Rattle.machine_semantics.specs.Image.{end_of, size_some}

@@ -21,7 +21,7 @@ use Rattle.code_cost.specs.declared.measure.RoutineMeasure.{RoutineMeasure}
 use Rattle.code_cost.specs.declared.program.ProcessMeasure.{ProcessMeasure}
 use Rattle.code_cost.specs.declared.program.Measures.{Measures}
 use Rattle.code_cost.specs.Sizes.{IsRowOf, AreDefined}
-use Rattle.code_size.specs.Rules.{Text, texts_from, routine_stack, CodeTooLong, RoutineTooLarge, ProcessTooLarge, SizeFails}
+use Rattle.code_size.specs.Rules.{PlacedText, placed_texts_from, routine_stack, CodeTooLong, RoutineTooLarge, ProcessTooLarge, SizeFails}
 use Rattle.code_size.specs.Numbers.{HaveNumbers}
 use Rattle.code_size.specs.Told.{length_told, code_broken, over_stack, row_over, size_over, plain_text, routine_over, process_over, stack_rules, parts_from}
 use Rattle.code_size.proofs.Parts.{as_long, plain_texts, plain_process_at, RoutineOver, ProcessOver, found, text_fails, process_fails}
@@ -77,9 +77,9 @@ some_over q w h = let t : nat_lt 4096 w ≡ true = grind (arith, nat_tests) in a
 
 module _ (g : Prog Place) (s : Measures) (have : HaveNumbers (plain g)) (are : AreDefined (plain g) s) where
   -- what the row of a text says
-  row_says : (t : Text) → Contains (texts_from 0 0 g.decls) t → (w : ℕ) × ((routine_over (plain g) s t ≡ over_stack t.routine.place w) × (held w ≡ held (routine_stack (plain g) t.owner (plain_routine t.routine))))
+  row_says : (t : PlacedText) → Contains (placed_texts_from 0 0 g.decls) t → (w : ℕ) × ((routine_over (plain g) s t ≡ over_stack t.routine.place w) × (held w ≡ held (routine_stack (plain g) t.owner (plain_routine t.routine))))
   row_says t c =
-      let listed = subst (λ ts. Contains ts (plain_text t)) (sym (plain_texts 0 0 g.decls)) (in_map plain_text (texts_from 0 0 g.decls) t c) in
+      let listed = subst (λ ts. Contains ts (plain_text t)) (sym (plain_texts 0 0 g.decls)) (in_map plain_text (placed_texts_from 0 0 g.decls) t c) in
       let stands = have (plain_text t) listed in
       let row = as_long s.routines (numbering.numbered (plain g)) (numbering.number_of (plain g) (plain_text t)) (plain_text t) are.rows stands in
       let is = are.routines (numbering.number_of (plain g) (plain_text t)) (plain_text t) row.0 stands row.1 in
@@ -98,7 +98,7 @@ module _ (g : Prog Place) (s : Measures) (have : HaveNumbers (plain g)) (are : A
   abbrev pub StackFails : ℕ → Place → Type 0
   StackFails n p = (n ≡ 47) × (RoutineTooLarge g p ⊎ ProcessTooLarge g p)
 
-  routine_is : (p : Place) → RoutineOver (plain g) s (texts_from 0 0 g.decls) p → RoutineTooLarge g p
+  routine_is : (p : Place) → RoutineOver (plain g) s (placed_texts_from 0 0 g.decls) p → RoutineTooLarge g p
   routine_is p r =
       let says = row_says r.text r.listed in
       let over = over_some r.text.routine.place p says.0 (sym says.1.0 ∙ r.fails) in
@@ -119,7 +119,7 @@ module _ (g : Prog Place) (s : Measures) (have : HaveNumbers (plain g)) (are : A
   to : (n : ℕ) (p : Place) → FailsAmong (stack_rules (plain g) s) (parts_from 0 0 g.decls) n p → StackFails n p
   to n p f = by (found (plain g) s p 0 0 g.decls n f)
     where
-      by : (47 ≡ n) × (RoutineOver (plain g) s (texts_from 0 0 g.decls) p ⊎ ProcessOver s 0 (processes g.decls) p) → StackFails n p
+      by : (47 ≡ n) × (RoutineOver (plain g) s (placed_texts_from 0 0 g.decls) p ⊎ ProcessOver s 0 (processes g.decls) p) → StackFails n p
       by (e, inl r) = (sym e, inl (routine_is p r))
       by (e, inr r) = (sym e, inr (process_is p r))
 

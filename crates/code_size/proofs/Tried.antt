@@ -13,7 +13,7 @@ use Rattle.code_cost_spec.specs.Names.{Names, Calls}
 use Rattle.code_cost_spec.specs.Heights.{stmts_height}
 use Rattle.code_cost_spec.specs.Lengths.{stmts_length}
 use Rattle.code_cost_spec.specs.Levels.{process_names, calls_at, calls_of, stack_of_process, code_length}
-use Rattle.code_size.specs.Rules.{Text, texts_from, routine_stack, RoutineTooLarge, ProcessTooLarge, SizeFails}
+use Rattle.code_size.specs.Rules.{PlacedText, placed_texts_from, routine_stack, RoutineTooLarge, ProcessTooLarge, SizeFails}
 use Rattle.code_size.specs.Example.{at, array_routine, array_process, with_array, puts, puts_process, with_puts, RulesOfSizeAreTried}
 
 -- ---- lists of one
@@ -35,7 +35,7 @@ alone x y (suc k) e = absurd (none e)
 -- ---- where no rule fails
 
 none : (g : Prog Place) → ¬ (65535 < code_length (plain g))
-    → ((t : Text) → Contains (texts_from 0 0 g.decls) t → ¬ (4096 < routine_stack (plain g) t.owner (plain_routine t.routine)))
+    → ((t : PlacedText) → Contains (placed_texts_from 0 0 g.decls) t → ¬ (4096 < routine_stack (plain g) t.owner (plain_routine t.routine)))
     → ((k : ℕ) (p : Process Place) → slice_get (processes g.decls) k ≡ Some p → ¬ (4096 < stack_of_process (plain g) k (plain_process p)))
     → IsFirstOf (SizeFails g) None
 none g code texts procs n p (inl f) = code f.1.over
@@ -61,7 +61,7 @@ not_before m p n c number line col (inr (inl h)) = let e = h.1 in omega arith
 not_before m p n c number line col (inr (inr h)) = let e = h.1 in omega arith
 
 -- only f and p stand there
-array_text : (last : ℕ) (P : Text → Type 0) → P (record { owner = by_program; routine = array_routine last }) → (t : Text) → Contains (texts_from 0 0 (with_array last).decls) t → P t
+array_text : (last : ℕ) (P : PlacedText → Type 0) → P (record { owner = by_program; routine = array_routine last }) → (t : PlacedText) → Contains (placed_texts_from 0 0 (with_array last).decls) t → P t
 array_text last P h t c = subst P (only (record { owner = by_program; routine = array_routine last }) t c) h
 
 array_one : (last : ℕ) (P : ℕ → Process Place → Type 0) → P 0 array_process → (k : ℕ) (p : Process Place) → slice_get (processes (with_array last).decls) k ≡ Some p → P k p
@@ -149,7 +149,7 @@ puts_stack n =
     let h = puts_height g (by_process 0) (calls_of g) n 62 in
     omega arith
 
-puts_text : (n : ℕ) (t : Text) → Contains (texts_from 0 0 (with_puts n).decls) t → ⊥
+puts_text : (n : ℕ) (t : PlacedText) → Contains (placed_texts_from 0 0 (with_puts n).decls) t → ⊥
 puts_text n t c = none_in t c
 
 puts_one : (n k : ℕ) (p : Process Place) → slice_get (processes (with_puts n).decls) k ≡ Some p → ¬ (4096 < stack_of_process (plain (with_puts n)) k (plain_process p))

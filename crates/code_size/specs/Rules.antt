@@ -9,22 +9,22 @@ use Rattle.code_cost_spec.specs.Heights.{routine_height}
 use Rattle.code_cost_spec.specs.Levels.{calls_of, stack_of_process, code_length}
 
 -- a routine or an entry where it stands, with whose it is
-pub record Text : Type 0 where
+pub record PlacedText : Type 0 where
   pub owner : Owner
   pub routine : Routine Place
 
-abbrev pub texts_of : Owner → List (Routine Place) → List Text
-texts_of o rs = map (λ r. record { owner = o; routine = r }) rs
+abbrev pub placed_texts_of : Owner → List (Routine Place) → List PlacedText
+placed_texts_of o rs = map (λ r. record { owner = o; routine = r }) rs
 
 -- routines and entries in the order of the text; the processes and monitors from these numbers on
-abbrev pub texts_from : ℕ → ℕ → List (Decl Place) → List Text
-texts_from k m [] = []
-texts_from k m (routine r ∷ ds) = record { owner = by_program; routine = r } ∷ texts_from k m ds
-texts_from k m (monitor d ∷ ds) = texts_of (by_monitor m) d.entries ++ texts_from k (suc m) ds
-texts_from k m (process p ∷ ds) = texts_of (by_process k) p.routines ++ texts_from (suc k) m ds
-texts_from k m (constant n p c ∷ ds) = texts_from k m ds
-texts_from k m (device n p is_out ∷ ds) = texts_from k m ds
-texts_from k m (event n p ∷ ds) = texts_from k m ds
+abbrev pub placed_texts_from : ℕ → ℕ → List (Decl Place) → List PlacedText
+placed_texts_from k m [] = []
+placed_texts_from k m (routine r ∷ ds) = record { owner = by_program; routine = r } ∷ placed_texts_from k m ds
+placed_texts_from k m (monitor d ∷ ds) = placed_texts_of (by_monitor m) d.entries ++ placed_texts_from k (suc m) ds
+placed_texts_from k m (process p ∷ ds) = placed_texts_of (by_process k) p.routines ++ placed_texts_from (suc k) m ds
+placed_texts_from k m (constant n p c ∷ ds) = placed_texts_from k m ds
+placed_texts_from k m (device n p is_out ∷ ds) = placed_texts_from k m ds
+placed_texts_from k m (event n p ∷ ds) = placed_texts_from k m ds
 
 -- the words that a routine takes by itself: its locals, its operands, and what the routines that it
 -- calls take
@@ -38,8 +38,8 @@ pub record CodeTooLong (g : Prog Place) (place : Place) : Type 0 where
 
 -- a routine or an entry takes more than 4,096 words by itself; the place is that of its name
 pub record RoutineTooLarge (g : Prog Place) (place : Place) : Type 0 where
-  pub text : Text
-  pub listed : Contains (texts_from 0 0 g.decls) text
+  pub text : PlacedText
+  pub listed : Contains (placed_texts_from 0 0 g.decls) text
   pub is : text.routine.place ≡ place
   pub over : 4096 < routine_stack (plain g) text.owner (plain_routine text.routine)
 

@@ -10,7 +10,7 @@ use Rattle.code_spec.specs.Numbering as numbering
 use Rattle.code_cost.specs.declared.measure.RoutineMeasure.{RoutineMeasure}
 use Rattle.code_cost.specs.declared.program.ProcessMeasure.{ProcessMeasure}
 use Rattle.code_cost.specs.declared.program.Measures.{Measures}
-use Rattle.code_size.specs.Rules.{Text}
+use Rattle.code_size.specs.Rules.{PlacedText}
 
 -- ---- instructions
 
@@ -36,11 +36,11 @@ abbrev pub size_over : Place → Option ProcessMeasure → Option Place
 size_over place None = None
 size_over place (Some size) = over_stack place size.stack
 
-abbrev pub plain_text : Text → numbering.Text
+abbrev pub plain_text : PlacedText → numbering.Text
 plain_text t = record { owner = t.owner; routine = plain_routine t.routine }
 
 -- the place of a routine or an entry, where its row says that it takes too many words by itself
-abbrev pub routine_over : plain_of.Program → Measures → Text → Option Place
+abbrev pub routine_over : plain_of.Program → Measures → PlacedText → Option Place
 routine_over g m t = row_over t.routine.place (slice_get m.routines (numbering.number_of g (plain_text t)))
 
 -- the place of process k, where its size says that its stack is too large
@@ -49,7 +49,7 @@ process_over m k p = size_over p.place (slice_get m.processes k)
 
 -- what has a stack: a routine or an entry, or a process with its number
 pub data Part : Type 0 where
-  routine_part : Text → Part
+  routine_part : PlacedText → Part
   process_part : ℕ → Process Place → Part
 
 abbrev pub part_over : plain_of.Program → Measures → Part → Option Place

@@ -11,7 +11,7 @@ use Rattle.code_spec.specs.Emits.{condition_of}
 use Rattle.code_cost_spec.specs.Names.{Names, inside}
 use Rattle.code_cost_spec.specs.Lengths.{stmt_length, stmts_length, handler_length}
 use Rattle.code_cost_spec.specs.Levels.{process_names, processes_length}
-use Rattle.wellformed.specs.WellFormed.{ConstantsFit, kind_words, vars_words}
+use Rattle.wellformed.specs.WellFormed.{ConstantsFit, kind_size, vars_words}
 use Rattle.codegen_spec.specs.Told.{value_told}
 use Rattle.codegen_law.specs.MadeRightFits.{Fit}
 use Rattle.codegen_law.proofs.Words.{fit_low, word_fits}
@@ -73,15 +73,15 @@ conditions_fit g few (by_monitor m) x = let low : condition_number g m x ≤ 0 +
 
 -- ---- words
 
-kind_same : (g : Program) (k : Kind) → size_of (shape_of g k) ≡ kind_words g k
+kind_same : (g : Program) (k : Kind) → size_of (shape_of g k) ≡ kind_size g k
 kind_same g (scalar s) = refl
 kind_same g (array low high s) = refl
 
 pub words_same : (g : Program) (vs : List Var) → words_of g vs ≡ vars_words g vs
 words_same g [] = refl
 words_same g (v ∷ vs) =
-    let more : vars_words g (v ∷ vs) ≡ kind_words g v.kind + vars_words g vs = sum_by-cons (λ y. kind_words g y.kind) v vs in
-    let one : size_of (shape_of g v.kind) ≡ kind_words g v.kind = kind_same g v.kind in
+    let more : vars_words g (v ∷ vs) ≡ kind_size g v.kind + vars_words g vs = sum_by-cons (λ y. kind_size g y.kind) v vs in
+    let one : size_of (shape_of g v.kind) ≡ kind_size g v.kind = kind_same g v.kind in
     let rest : words_of g vs ≡ vars_words g vs = words_same g vs in
     omega arith
 

@@ -10,7 +10,7 @@ use Rattle.code_spec.specs.Layout.{Owner, Scope, spot_of, loops, loops_in}
 use Rattle.code_spec.specs.Numbering.{Text, routine_in, entry_in, number_of}
 use Rattle.code_spec.specs.Code.{constant_named}
 use Rattle.code_spec.specs.Emits.{condition_of, monitor_of, turns_of}
-use Rattle.wellformed.specs.Here.{Here, sort_of}
+use Rattle.wellformed.specs.Here.{Here, scalar_sort}
 use Rattle.wellformed.specs.Typed.{params_of, IsOf, IsRow, AreArguments, IsTarget}
 use Rattle.wellformed.specs.Statements.{AreTurns, is_looped, Fits, AllFit}
 use Rattle.wellformed.specs.WellFormed.{ParamFits, AnswersFit}
@@ -71,7 +71,7 @@ module _ (g : Program) (facts : Facts g) (p : Process) (home : Home) (is_functio
       args_fit (exprs e es) (v ∷ vs) None h k = absurd h
       args_fit (exprs e es) (v ∷ vs) (Some []) h k = absurd h
       args_fit (exprs e es) (v ∷ vs) (Some (q ∷ qs)) h k =
-          (expr_fits e (sort_of q.kind) h.0, scalar_fits g v.kind (first_of_all (ParamFits g) v vs k), args_fit es vs (Some qs) h.1 (rest_of_all (ParamFits g) v vs k))
+          (expr_fits e (scalar_sort q.kind) h.0, scalar_fits g v.kind (first_of_all (ParamFits g) v vs k), args_fit es vs (Some qs) h.1 (rest_of_all (ParamFits g) v vs k))
 
     ref_fits : (r : Ref) (s : Sort) → IsTarget (here turns) s r → RefFits g c r
     ref_fits (whole x) s h = spots x
@@ -85,7 +85,7 @@ module _ (g : Program) (facts : Facts g) (p : Process) (home : Home) (is_functio
 
     pub answers_fit : (a : Option Answers) → AnswersFit g (here turns) a → AnswersAreOperands g c a
     answers_fit None h = tt
-    answers_fit (Some a) h = (expr_fits a.value (sort_of a.kind) h.1, scalar_fits g a.kind h.0)
+    answers_fit (Some a) h = (expr_fits a.value (scalar_sort a.kind) h.1, scalar_fits g a.kind h.0)
 
   inside : (c : Scope) (x : Name) (w : ℕ) → w ≤ 2147483647 → TextStands g c → TextStands g (within c x w)
   inside c x w low ok = record { spots = within_fits g c x w low ok.spots; monitor = ok.monitor }

@@ -9,7 +9,7 @@ use Rattle.source_semantics.specs.Names.{processes, deadline_of}
 use Rattle.source_semantics.specs.Ranks.{deadlines, higher, rank}
 use Rattle.machine_isa.specs.declared.instr.Instr.{Instr}
 use Rattle.machine_semantics.specs.Image as image
-use Rattle.valid_image.specs.Times.{deadline_at, outranks, rank_of, deadline_of as deadline_there}
+use Rattle.valid_image.specs.Times.{deadline_at, process_outranks, rank_of, deadline_of as deadline_there}
 use Rattle.code_spec.specs.Compiled.{EmitsProcesses, IsCodeOf}
 use Rattle.codegen_ranks.proofs.Whole.{as_many_processes}
 use Rattle.codegen_ranks.specs.Ranks.{RanksAreOfTheMeaning}
@@ -56,12 +56,12 @@ module _ (g : Program) (m : image.Image) (is : IsCodeOf g m) where
   rank_same k =
       let many : length m.processes ≡ length (processes g) = as_many_processes g m.code 0 is.between (length m.code) (processes g) m.processes is.process_code in
       let long : length (deadlines g) ≡ length (processes g) = length-map (processes g) (λ (p : Process). deadline_of g p.activation) in
-      let counts : higher k (unwrap_or (slice_get (deadlines g) k) 0) 0 (deadlines g) ≡ count_below (λ i. outranks m i k) (length (deadlines g)) =
-      higher_counts k (unwrap_or (slice_get (deadlines g) k) 0) 0 (deadlines g) (λ i. outranks m i k) (λ i f at. same i f at) in
-      let all : count_below (λ i. outranks m i k) (length m.processes) ≡ count_below (λ i. outranks m i k) (length (deadlines g)) = ap (λ n. count_below (λ i. outranks m i k) n) (many ∙ sym long) in
+      let counts : higher k (unwrap_or (slice_get (deadlines g) k) 0) 0 (deadlines g) ≡ count_below (λ i. process_outranks m i k) (length (deadlines g)) =
+      higher_counts k (unwrap_or (slice_get (deadlines g) k) 0) 0 (deadlines g) (λ i. process_outranks m i k) (λ i f at. same i f at) in
+      let all : count_below (λ i. process_outranks m i k) (length m.processes) ≡ count_below (λ i. process_outranks m i k) (length (deadlines g)) = ap (λ n. count_below (λ i. process_outranks m i k) n) (many ∙ sym long) in
       omega (arith, counts, all)
     where
-      same : (i f : ℕ) → slice_get (deadlines g) i ≡ Some f → above f (0 + i) (unwrap_or (slice_get (deadlines g) k) 0) k ≡ outranks m i k
+      same : (i f : ℕ) → slice_get (deadlines g) i ≡ Some f → above f (0 + i) (unwrap_or (slice_get (deadlines g) k) 0) k ≡ process_outranks m i k
       same i f at =
           let z : 0 + i ≡ i = omega arith in
           let here : f ≡ deadline_at m i = sym (deadline_same i ∙ ap (λ o. unwrap_or o 0) at) in

@@ -7,7 +7,7 @@ use Rattle.base.proofs.Lists.{some_at}
 use Rattle.syntax_tree.specs.Plain.{Process, Program}
 use Rattle.source_semantics.specs.Names.{processes}
 use Rattle.code_spec.specs.Numbering.{Text, numbered}
-use Rattle.codegen_texts.specs.Texts.{RoutineText, ProcessText, routine_text, routine_texts, process_text, process_texts, texts_from}
+use Rattle.codegen_texts.specs.Texts.{RoutineText, ProcessText, routine_text, routine_texts, process_text, process_texts, process_texts_from}
 use Rattle.codegen_texts.proofs.Lists.{told_at, told_length}
 
 -- ---- routines
@@ -31,7 +31,7 @@ module _ {A : Type 0} (told : A → RoutineText) (xs : List A) (g : Program) (n 
 
 -- ---- processes
 
-from_there : (g : Program) (k n : ℕ) (ps : List Process) (p : Process) → slice_get ps n ≡ Some p → slice_get (texts_from g k ps) n ≡ Some (process_text g (k + n) p)
+from_there : (g : Program) (k n : ℕ) (ps : List Process) (p : Process) → slice_get ps n ≡ Some p → slice_get (process_texts_from g k ps) n ≡ Some (process_text g (k + n) p)
 from_there g k n [] p at = cc
 from_there g k zero (q ∷ ps) p at = ap (option_map (process_text g k)) at ∙ ap (λ m. Some (process_text g m p)) (sym (add-zero k))
 from_there g k (suc n) (q ∷ ps) p at =
@@ -43,7 +43,7 @@ process_there g n p at =
     let same : 0 + n ≡ n = omega arith in
     from_there g 0 n (processes g) p at ∙ ap (λ m. Some (process_text g m p)) same
 
-from_length : (g : Program) (k : ℕ) (ps : List Process) → length (texts_from g k ps) ≡ length ps
+from_length : (g : Program) (k : ℕ) (ps : List Process) → length (process_texts_from g k ps) ≡ length ps
 from_length g k [] = refl
 from_length g k (p ∷ ps) = ap (λ n. suc n) (from_length g (suc k) ps)
 

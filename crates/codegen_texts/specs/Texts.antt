@@ -37,13 +37,13 @@ abbrev pub process_text : Program → ℕ → Process → ProcessText
 process_text g k p = record { process = p; program = g; scope = process_scope g k p }
 
 -- processes from number k on
-abbrev pub texts_from : Program → ℕ → List Process → List ProcessText
-texts_from g k [] = []
-texts_from g k (p ∷ ps) = process_text g k p ∷ texts_from g (suc k) ps
+abbrev pub process_texts_from : Program → ℕ → List Process → List ProcessText
+process_texts_from g k [] = []
+process_texts_from g k (p ∷ ps) = process_text g k p ∷ process_texts_from g (suc k) ps
 
 -- in the order of the text
 abbrev pub process_texts : Program → List ProcessText
-process_texts g = texts_from g 0 (processes g)
+process_texts g = process_texts_from g 0 (processes g)
 
 -- ---- the texts of the code
 

@@ -144,12 +144,19 @@ no_cut : (tells : Bool) (call : Call) (b n : Outside) (status : ℕ) → status 
 no_cut true call b n status other = λ seven. absurd (other seven)
 no_cut false call b n status other = tt
 
-pub unread : (tells : Bool) (call : Call) (b n : FilesState) (o : SinkState) → AllStay b.held n.held → ReadsFailed tells call b n → Went tells call (outside b o) (outside n o) 6
-unread tells call b n o stay failed = record {
+-- a read that failed
+read_failed : (tells : Bool) (call : Call) (b n : FilesState) (o : SinkState) (name : List ℕ) → Failed b n name → IsReached tells call b.held name → ReadFailed tells call (outside b o) (outside n o)
+read_failed tells call b n o name failed (inl is) = inl (subst (Failed b n) is failed)
+read_failed tells call b n o name failed (inr (inl (is, reached))) = inr (inl (subst (λ (f : Option (List ℕ)). IsSomeAnd f (Failed b n)) (sym is) failed, reached))
+read_failed tells call b n o name failed (inr (inr (is, reached))) = inr (inr (subst (λ (f : Option (List ℕ)). IsSomeAnd f (Failed b n)) (sym is) failed, reached))
+
+pub unread : (tells : Bool) (call : Call) (b n : FilesState) (o : SinkState) (name : List ℕ) → AllStay b.held n.held → Failed b n name → IsReached tells call b.held name
+    → Went tells call (outside b o) (outside n o) 6
+unread tells call b n o name stay failed reached = record {
   range = omega arith;
   is_command = λ one. absurd cc;
   whole = no_whole tells call (outside b o) (outside n o) 6 (λ answer. answer.0 refl);
-  unread = λ six. failed;
+  unread = λ six. read_failed tells call b n o name failed reached;
   unwritten = λ seven. absurd cc;
   cut = no_cut tells call (outside b o) (outside n o) 6 (λ seven. absurd cc);
   nothing = λ both. refl;
@@ -175,9 +182,3 @@ performed_cause call b m n o o' s answer at reads writes cause =
   where
     none_named : (name : List ℕ) → Contains {List ℕ} [] name → ⊥
     none_named name (k, low, is) = omega (arith, low)
-
--- a read that failed
-pub read_failed : (tells : Bool) (call : Call) (b n : FilesState) (o o' : SinkState) (name : List ℕ) → Failed b n name → IsReached tells call b.held name → ReadFailed tells call (outside b o) (outside n o')
-read_failed tells call b n o o' name failed (inl is) = inl (subst (Failed b n) is failed)
-read_failed tells call b n o o' name failed (inr (inl (is, reached))) = inr (inl (subst (λ (f : Option (List ℕ)). IsSomeAnd f (Failed b n)) (sym is) failed, reached))
-read_failed tells call b n o o' name failed (inr (inr (is, reached))) = inr (inr (subst (λ (f : Option (List ℕ)). IsSomeAnd f (Failed b n)) (sym is) failed, reached))

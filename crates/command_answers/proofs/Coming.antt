@@ -1,5 +1,5 @@
 -- What acts come to.
-use Rattle.std.proofs.Common.{◌≡◌, ◌<◌, ℕ, List, ap, ◌∙◌}
+use Rattle.std.proofs.Common.{◌≡◌, ℕ, List, ap, ◌∙◌}
 use Rattle.std.proofs.lemmas.List.{append-nil}
 use Rattle.command_due.specs.CommandsDue.{told}
 use Rattle.command_answers.specs.declared.status.Status.{Status}

@@ -17,7 +17,8 @@ use Rattle.script.specs.Scripts.{IsScript}
 use Rattle.built_image.specs.Built.{IsBuilt}
 use Rattle.sched_program.specs.Tasks as of_text
 use Rattle.command_due.specs.Source.{IsWritten, report_of}
-use Rattle.command_due.specs.Script.{said, run_of}
+use Rattle.script_meaning.specs.Script.{said}
+use Rattle.command_due.specs.Script.{run_of}
 use Rattle.command_due.specs.CommandsDue.{stored, log}
 
 -- a run is in time and size: each activation ends within its declared bound, where that is not past

@@ -1,22 +1,13 @@
--- What a script is to the machine and to the meaning of programs, and the line of its fault.
-use Rattle.std.specs.Prelude.{◌++◌, ℕ, List, [], codes, decimal, map, nat_eq, if◌then◌else◌}
-use Rattle.source_semantics.specs.Starts as source
+-- What a script is to the machine, and the line of its fault.
+use Rattle.std.specs.Prelude.{◌++◌, ℕ, List, [], codes, decimal, nat_eq, if◌then◌else◌}
 use Rattle.machine_semantics.specs.Image.{Script}
 use Rattle.code_lifting.specs.Compiled.{script_of}
 use Rattle.script.specs.declared.script.ScriptLine.{ScriptLine}
-use Rattle.script.specs.declared.script.ScriptLine.TheVariants.{Set, Occur}
+use Rattle.script_meaning.specs.Script.{said}
 use Rattle.script.specs.declared.fault.ScriptFault.{ScriptFault}
 use Rattle.script.specs.declared.fault.ScriptFault.TheVariants.{Bad, Memory}
 
-abbrev pub line_said : ScriptLine → source.Line
-line_said (Set tick dev value) = source.sets tick dev value
-line_said (Occur tick event) = source.occurs tick event
-
--- the lines and the end, as the meaning of programs has them
-abbrev pub said : List ScriptLine → ℕ → source.Script
-said lines end = record { lines = map line_said lines; end_tick = end }
-
--- as the machine has them
+-- the lines and the end, as the machine has them
 abbrev pub run_of : List ScriptLine → ℕ → Script
 run_of lines end = script_of (said lines end)
 

@@ -8,12 +8,12 @@ use Rattle.image.specs.Raw.{image_of}
 use Rattle.image.specs.declared.raw.RawImage.{RawImage}
 use Rattle.machine_semantics.specs.Run.{events}
 use Rattle.script.specs.declared.script.Script.{Script}
-use Rattle.vm_chart.specs.Follows.{IsTimely}
+use Rattle.vm_chart.specs.Follows.{IsBeforeLastTick}
 use Rattle.vm_law.proofs.Ticking.{valid_runs_have_lines}
 use Rattle.vm_releases.specs.Begin.{script_of}
 
-pub runs_are_timely : (raw : RawImage) (script : Script) → RunsRaw raw script → All IsTimely (events (image_of raw) (script_of script))
+pub runs_are_timely : (raw : RawImage) (script : Script) → RunsRaw raw script → All IsBeforeLastTick (events (image_of raw) (script_of script))
 runs_are_timely raw script can =
     let lines : All (AreIn raw.names) (events (image_of raw) (script_of script)) =
     valid_runs_have_lines raw.names (image_of raw) (script_of script) can.limits can.valid can.names can.script.end in
-    all_of IsTimely (events (image_of raw) (script_of script)) (λ k e at. (one_of (AreIn raw.names) (events (image_of raw) (script_of script)) k e lines at).tick)
+    all_of IsBeforeLastTick (events (image_of raw) (script_of script)) (λ k e at. (one_of (AreIn raw.names) (events (image_of raw) (script_of script)) k e lines at).tick)

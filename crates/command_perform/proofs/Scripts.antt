@@ -1,6 +1,7 @@
 -- The script of what is due is the script of the machine.
 use Rattle.std.proofs.Common.{◌≡◌, List, [], ◌∷◌, map, refl, ap, ◌∙◌}
-use Rattle.command_due.specs.Script.{line_said, run_of}
+use Rattle.script_meaning.specs.Script.{line_said}
+use Rattle.command_due.specs.Script.{run_of}
 use Rattle.code_lifting.specs.Compiled as lifted
 use Rattle.machine_semantics.specs.Image.{Line, Script}
 use Rattle.script.specs.declared.script.ScriptLine.{ScriptLine}

@@ -24,7 +24,8 @@ use Rattle.built_image.specs.Named.{names_of}
 use Rattle.built_valid_law.specs.Made.{BuiltImagesAreMade}
 use Rattle.built_image_law.specs.Limits.{BuiltImagesAreInLimits}
 use Rattle.built_image_law.specs.Suits.{Suits, ScriptsForTheNamesSuit}
-use Rattle.command_due.specs.Script.{said, run_of}
+use Rattle.script_meaning.specs.Script.{said}
+use Rattle.command_due.specs.Script.{run_of}
 use Rattle.command_due.specs.Runs.{IsKept, IsFaithful, BuiltImagesAreFaithful}
 use Rattle.compiler_correct.specs.Made.{MadeImagesAreFaithful}
 

@@ -18,7 +18,7 @@ use Rattle.edf_semantics.proofs.Keeping.{every_run_is_safe, run_keeps_words}
 use Rattle.edf_timing.specs.InTime.{IsJudgedFeasible, MeetsDeadlines}
 use Rattle.edf_timing.proofs.Meeting.{every_run_meets_deadlines}
 use Rattle.edf_admission.specs.Admitted.{IsAdmitted}
-use Rattle.edf_admission.specs.Runs.{EveryAdmittedShapeMeetsDeadlines, IsSafe}
+use Rattle.edf_admission.specs.Runs.{EveryAdmittedShapeMeetsDeadlines, IsEdfSafe}
 use Rattle.edf_admission.proofs.Premises.{are_demands, fits, is_waitless}
 
 judged_once : (ts : List DemandTask) (reach count : ℕ) → IsReach ts reach → IsJudged ts reach (verdict.Feasible count) → IsJudgedFeasible ts count
@@ -34,7 +34,7 @@ module _ (shape : NamedImage) (is : IsShape shape) (admitted : IsAdmitted shape.
   still : IsWaitless (where_in shape.image no_part) (parts_in shape.image)
   still = is_waitless shape.image none is.limits admitted.over admitted.waitless
 
-  pub is_safe : (script : Script) → IsSafe shape.image script
+  pub is_safe : (script : Script) → IsEdfSafe shape.image script
   is_safe script = record {
     never_stuck = λ t. (every_run_is_safe (where_in shape.image no_part) (parts_in shape.image) script t fit still).0;
     stacks = λ t k p thread at there. (every_run_is_safe (where_in shape.image no_part) (parts_in shape.image) script t fit still).1 k p thread at there;

@@ -78,7 +78,7 @@ module _ (m : Image) (none : HasNoFaultBefore m) (limits : HasLimits m) (over : 
 
   -- ---- the numbering of processes by ranks
 
-  rank_is : (k : ℕ) (p : Process) → slice_get m.processes k ≡ Some p → timed.rank_of m k ≡ p.rank - 1
+  rank_is : (k : ℕ) (p : Process) → slice_get m.processes k ≡ Some p → timed.rank_from_zero m k ≡ p.rank - 1
   rank_is k p at = ap (λ (o : Option Process). rank_of_some o - 1) at
 
   found_at : (level k : ℕ) (p : Process) → slice_get m.processes k ≡ Some p → p.rank ≡ suc level → process_at m level ≡ k
@@ -98,7 +98,7 @@ module _ (m : Image) (none : HasNoFaultBefore m) (limits : HasLimits m) (over : 
       record { k = had.0; p = had.1.p; at = had.1.at; is = is; place = found_at level had.0 had.1.p had.1.at is }
 
   module _ (ts : List DemandTask) (asked : AreDemands m ts) (are : AreTasks ts) where
-    are_ranks : AreRanks (length ts) (timed.rank_of m) (process_at m)
+    are_ranks : AreRanks (length ts) (timed.rank_from_zero m) (process_at m)
     are_ranks = record {
       rank_below = λ k low.
           (let p = some_at m.processes k (omega (arith, low, asked.many)) in
@@ -107,11 +107,11 @@ module _ (m : Image) (none : HasNoFaultBefore m) (limits : HasLimits m) (over : 
       place_below = λ level low.
           (let a = at_level level (omega (arith, low, asked.many)) in omega (arith, a.place, slice_get_within m.processes a.k a.p a.at, asked.many));
       there = λ level low.
-          (let a = at_level level (omega (arith, low, asked.many)) in ap (λ (k : ℕ). timed.rank_of m k) a.place ∙ (rank_is a.k a.p a.at ∙ omega (arith, a.is)));
+          (let a = at_level level (omega (arith, low, asked.many)) in ap (λ (k : ℕ). timed.rank_from_zero m k) a.place ∙ (rank_is a.k a.p a.at ∙ omega (arith, a.is)));
       back = λ k low.
           (let p = some_at m.processes k (omega (arith, low, asked.many)) in
           let r = ranked m none.ranks k p.0 p.1 in
-          found_at (timed.rank_of m k) k p.0 p.1 (omega (arith, rank_is k p.0 p.1, r.0)));
+          found_at (timed.rank_from_zero m k) k p.0 p.1 (omega (arith, rank_is k p.0 p.1, r.0)));
     }
 
     -- ---- blocks

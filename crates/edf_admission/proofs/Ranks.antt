@@ -10,7 +10,7 @@ use Rattle.sched_table.proofs.Onto.{onto}
 use Rattle.machine_semantics.specs.Image.{Image, Process}
 use Rattle.valid_image.specs.Fault.{or_else}
 use Rattle.valid_image.specs.Sizes.{other}
-use Rattle.valid_image.specs.Times.{deadline_of, deadline_at, outranks, rank_of, ranks_fault, ceilings_fault, blocks_fault, rank_fault}
+use Rattle.valid_image.specs.Times.{deadline_of, deadline_at, process_outranks, rank_of, ranks_fault, ceilings_fault, blocks_fault, rank_fault}
 use Rattle.valid_image_law.proofs.Firsts.{neither, none_of_all}
 use Rattle.valid_image_law.proofs.Rows.{is_due}
 use Rattle.valid_image_law.proofs.Ranking.{ranked, one_each}
@@ -53,10 +53,10 @@ module _ (m : Image) (none : rank_fault m ≡ None) where
       let passes = neither (ranks_fault m) (or_else (ceilings_fault m) (blocks_fault m)) none in
       is_due p.rank (rank_of m k) (none_of_all (λ k p. other p.rank (rank_of m k)) m.processes passes.0 k p at)
 
-  rank_less : (j k : ℕ) → j < length m.processes → outranks m j k ≡ true → rank_of m j < rank_of m k
+  rank_less : (j k : ℕ) → j < length m.processes → process_outranks m j k ≡ true → rank_of m j < rank_of m k
   rank_less j k below higher =
       let due = λ (i : ℕ). deadline_at m i in
-      let more = count_lt (λ i. outranks m i j) (λ i. outranks m i k) (length m.processes) j (λ i low before. before_along (due i) (due j) (due k) i j k before higher) below (not_before_itself (due j) j) higher in
+      let more = count_lt (λ i. process_outranks m i j) (λ i. process_outranks m i k) (length m.processes) j (λ i low before. before_along (due i) (due j) (due k) i j k before higher) below (not_before_itself (due j) j) higher in
       omega (arith, more)
 
   pub in_order : (j k : ℕ) (p q : Process) → slice_get m.processes j ≡ Some p → slice_get m.processes k ≡ Some q → p.rank ≤ q.rank → p.deadline ≤ q.deadline

@@ -13,7 +13,7 @@ use Rattle.edf_admission.specs.Admitted.{IsAdmitted}
 -- a run is safe: no tick is stuck, before each tick every process is within its declared stack and
 -- has the words that it declares, the processes that are inside monitors are apart, and each of
 -- them is ready
-pub record IsSafe (image : Image) (script : Script) : Type 0 where
+pub record IsEdfSafe (image : Image) (script : Script) : Type 0 where
   pub never_stuck : (t : ℕ) → (tick image script t (state_at image script t)).stuck ≡ false
   pub stacks : (t k : ℕ) (p : Process) (thread : Thread) → slice_get image.processes k ≡ Some p → slice_get (state_at image script t).state.threads k ≡ Some thread → StackFits p thread
   pub words : (t : ℕ) → WordsFit image (state_at image script t).state
@@ -24,4 +24,4 @@ pub record IsSafe (image : Image) (script : Script) : Type 0 where
 -- over each that respects its frames and ends by tick 1,000,000,000.
 abbrev pub EveryAdmittedShapeMeetsDeadlines : Type 0
 EveryAdmittedShapeMeetsDeadlines = (shape : NamedImage) → IsShape shape → IsAdmitted shape.image
-    → ((script : Script) → IsSafe shape.image script) × ((script : Script) → RespectsFrames shape.image script → script.end_tick ≤ 1000000000 → MeetsDeadlines shape.image script)
+    → ((script : Script) → IsEdfSafe shape.image script) × ((script : Script) → RespectsFrames shape.image script → script.end_tick ≤ 1000000000 → MeetsDeadlines shape.image script)

@@ -3,7 +3,7 @@
 ghost use Rattle.std.specs.Prelude.{◌≡◌, ◌≤◌};
 ghost use Rattle.edf_admission.specs.Admitted.{IsAdmitted};
 ghost use Rattle.edf_admission.specs.Answers.{Admits};
-ghost use Rattle.edf_admission.specs.Runs.{IsSafe};
+ghost use Rattle.edf_admission.specs.Runs.{IsEdfSafe};
 ghost use Rattle.edf_timing.specs.InTime.{MeetsDeadlines};
 ghost use Rattle.machine_semantics.specs.Image.{Script};
 ghost use Rattle.image_loaded.specs.Shape.{IsShape};
@@ -85,7 +85,7 @@ impl EdfImage {
     /// released before it has ended, and each activation ends by its deadline. The call does
     /// nothing.
     pub fn runs_meet_deadlines(&self)
-        ensures safe { (script : Script) → IsSafe self.now.image script }
+        ensures safe { (script : Script) → IsEdfSafe self.now.image script }
         ensures in_time { (script : Script) → RespectsFrames self.now.image script →
             script.end_tick ≤ 1000000000 → MeetsDeadlines self.now.image script }
     {

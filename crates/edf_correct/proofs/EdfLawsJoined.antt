@@ -14,7 +14,7 @@ use Rattle.built_image_law.specs.Suits.{NamesHaveFrames, Suits, ScriptsForTheNam
 use Rattle.built_image.specs.Named.{names_of}
 use Rattle.vm_law.specs.ScriptSuits.{ScriptsSuit}
 use Rattle.script.specs.Scripts.{IsScript}
-use Rattle.command_due.specs.Script.{said}
+use Rattle.script_meaning.specs.Script.{said}
 use Rattle.edf_semantics.proofs.Keeping.{every_run_is_safe, run_keeps_words}
 use Rattle.edf_timing.specs.InTime.{MeetsDeadlines}
 use Rattle.edf_feasible.specs.Premises.{MeetsPremises, WaitlessImagesMeetPremises}

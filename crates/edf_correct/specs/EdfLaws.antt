@@ -21,7 +21,7 @@ use Rattle.image.specs.Named.{NamedImage}
 use Rattle.script.specs.declared.script.ScriptLine.{ScriptLine}
 use Rattle.script.specs.Scripts.{IsScript}
 use Rattle.command_due.specs.Source.{IsWritten}
-use Rattle.command_due.specs.Script.{said}
+use Rattle.script_meaning.specs.Script.{said}
 use Rattle.edf_feasible.specs.Waits.{HasNoWait}
 
 -- The law: the events of each run, without overrun, of the image of a program whose code is right

@@ -17,7 +17,8 @@ use Rattle.script.specs.Scripts.{IsScript}
 use Rattle.vm_law.specs.ScriptSuits.{ScriptsSuit, script_with}
 use Rattle.vm_law.specs.Suits.{Suits}
 use Rattle.vm_releases.specs.Begin.{lines_of}
-use Rattle.command_due.specs.Script.{line_said, run_of}
+use Rattle.script_meaning.specs.Script.{line_said}
+use Rattle.command_due.specs.Script.{run_of}
 use Rattle.edf_semantics.specs.Run.{events}
 use Rattle.edf_feasible.specs.Deadlines.{EdfDeadlinesAreMet}
 use Rattle.edf_feasible.specs.Premises.{MeetsPremises, WaitlessImagesMeetPremises}

@@ -77,16 +77,16 @@ module _ (g : Program) (m : Image) (ready : IsReady g) (code : IsCodeOf g m) (de
   -- ---- the tasks
 
   module _ (ts : List DemandTask) (asked : AreDemands m ts) (are : AreTasks ts) where
-    rank_is : (k : ℕ) (p : Process) → slice_get m.processes k ≡ Some p → timed.rank_of m k ≡ p.rank - 1
+    rank_is : (k : ℕ) (p : Process) → slice_get m.processes k ≡ Some p → timed.rank_from_zero m k ≡ p.rank - 1
     rank_is k p at = ap (λ (o : Option Process). rank_of_some o - 1) at
 
-    ranks_below : (k : ℕ) → k < length ts → timed.rank_of m k < length ts
+    ranks_below : (k : ℕ) → k < length ts → timed.rank_from_zero m k < length ts
     ranks_below k low =
         let p = some_at m.processes k (omega (arith, low, asked.many)) in
         let r = ranked m ranks k p.0 p.1 in
         omega (arith, rank_is k p.0 p.1, r.0, r.1, asked.many)
 
-    ranks_differ : (j k : ℕ) → j < length ts → k < length ts → timed.rank_of m j ≡ timed.rank_of m k → j ≡ k
+    ranks_differ : (j k : ℕ) → j < length ts → k < length ts → timed.rank_from_zero m j ≡ timed.rank_from_zero m k → j ≡ k
     ranks_differ j k low_j low_k same =
         let p = some_at m.processes j (omega (arith, low_j, asked.many)) in
         let q = some_at m.processes k (omega (arith, low_k, asked.many)) in
@@ -116,15 +116,15 @@ module _ (g : Program) (m : Image) (ready : IsReady g) (code : IsCodeOf g m) (de
           omega (arith, covers, is, stays_are m k i q h at_k)
     ]
 
-    are_demands : AreDemandsOf (where_in m no_part) (parts_in m) ts (place_in (timed.rank_of m) (length ts))
+    are_demands : AreDemandsOf (where_in m no_part) (parts_in m) ts (place_in (timed.rank_from_zero m) (length ts))
     are_demands = record {
       tasks = are;
       many = asked.many;
       task = λ k p at. record { frame = asked.frame k p at; deadline = asked.deadline k p at; cost = asked.cost k p at };
-      ranks = are_ranks (length ts) (timed.rank_of m) ranks_below ranks_differ;
+      ranks = are_ranks (length ts) (timed.rank_from_zero m) ranks_below ranks_differ;
       covered = λ k p at. (covered m shaped costs k p at).run;
       blocks = block_covers;
     }
 
     pub premises : MeetsPremises m ts
-    premises = record { e = where_in m no_part; ps = parts_in m; of = refl; fits = fits; waitless = waitless; place = place_in (timed.rank_of m) (length ts); demands = are_demands }
+    premises = record { e = where_in m no_part; ps = parts_in m; of = refl; fits = fits; waitless = waitless; place = place_in (timed.rank_from_zero m) (length ts); demands = are_demands }

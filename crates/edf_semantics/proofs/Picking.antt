@@ -6,7 +6,7 @@ use Rattle.base.proofs.Lists.{some_at}
 use Rattle.machine_semantics.specs.Image.{Image, Process}
 use Rattle.machine_semantics.specs.State.{Job, Thread, Ready, State}
 use Rattle.machine_semantics.specs.Tick.{Candidate, owned_of, outcome, run_thread, run_picked}
-use Rattle.machine_safety_spec.specs.Walk.{Where, Cost}
+use Rattle.machine_safety_spec.specs.Walk.{Where, WalkCost}
 use Rattle.machine_safety_spec.specs.Safe.{Parts, ImageFits, TickFits}
 use Rattle.machine_safety_spec.specs.Whole.{ThreadFits, ceiling_of, StateFits}
 use Rattle.machine_safety.proofs.Picked.{ChosenOf}
@@ -29,7 +29,7 @@ run_keeps e ps image_fits t s fits (Some c) ch =
     let process : slice_get e.image.processes c.place ≡ Some ch.p = ap (λ (x : ℕ). slice_get e.image.processes x) (sym at) ∙ ch.process in
     let ready : slice_get s.threads c.place ≡ Some (Ready ch.job) = ap (λ (x : ℕ). slice_get s.threads x) (sym at) ∙ ch.ready in
     let f : ThreadFits e ch.p (ps c.place) (Ready ch.job) (owned_of (slice_get s.owned c.place)) s.shared = fits.threads c.place ch.p (Ready ch.job) process ready in
-    let o : (l : Cost) × TickFits e ch.p (ps c.place) ch.job (owned_of (slice_get s.owned c.place)) s.shared l (outcome e.image s ch.job (owned_of (slice_get s.owned c.place)) ch.job.dispatch_ticks) =
+    let o : (l : WalkCost) × TickFits e ch.p (ps c.place) ch.job (owned_of (slice_get s.owned c.place)) s.shared l (outcome e.image s ch.job (owned_of (slice_get s.owned c.place)) ch.job.dispatch_ticks) =
     outcome_fits e ps image_fits s c ch c.place refl process fits f.0 f.1 ch.job.dispatch_ticks refl in
     subst (λ (x : Option Process). ((run_thread e.image t c.place s x (slice_get s.threads c.place)).stuck ≡ false) × StateFits e ps (run_thread e.image t c.place s x (slice_get s.threads c.place)).state) (sym process)
     (subst (λ (x : Option Thread). ((run_thread e.image t c.place s (Some ch.p) x).stuck ≡ false) × StateFits e ps (run_thread e.image t c.place s (Some ch.p) x).state) (sym ready)

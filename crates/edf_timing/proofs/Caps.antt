@@ -15,7 +15,7 @@ use Rattle.sched_theorem.proofs.Totals.{total_term}
 use Rattle.sched_demand.specs.declared.tasks.DemandTask.{DemandTask}
 use Rattle.sched_demand.specs.Demand.{task_at, AreTasks, due_by, demand_at, IsReach, IsPoint, IsFeasible}
 use Rattle.sched_demand.proofs.Demanding.{sum_is, is_task, sorted, level_of, level_block, due_some}
-use Rattle.edf_timing.specs.InTime.{IsTaskOf, rank_of, AreDemandsOf}
+use Rattle.edf_timing.specs.InTime.{IsTaskOf, rank_from_zero, AreDemandsOf}
 
 -- at least one release in some ticks
 starts_once : (r frame : ℕ) → 1 ≤ r → 0 < frame → 1 ≤ div_ceil r frame
@@ -72,7 +72,7 @@ pub record IsUncapped (e : Where) (ps : ℕ → Parts) (ts : List DemandTask) (p
   pub tasks : AreTasks ts
   pub many : length ts ≡ length e.image.processes
   pub task : (k : ℕ) (p : Process) → slice_get e.image.processes k ≡ Some p → IsTaskOf p (task_at ts (p.rank - 1))
-  pub ranks : AreRanks (length ts) (rank_of e.image) place
+  pub ranks : AreRanks (length ts) (rank_from_zero e.image) place
   pub covered : (k : ℕ) (p : Process) → slice_get e.image.processes k ≡ Some p → activation e.image.over (worst_of (ps k)) ≤ p.run
   pub blocks : (j k m : ℕ) (p q : Process) (monitor : Monitor) (h : Bool)
       → slice_get e.image.processes j ≡ Some p → slice_get e.image.processes k ≡ Some q → slice_get e.image.monitors m ≡ Some monitor

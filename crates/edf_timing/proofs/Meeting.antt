@@ -38,7 +38,7 @@ use Rattle.edf_semantics.specs.Safe.{act as seen, inside_of, stay_of, acts, insi
 use Rattle.edf_semantics.proofs.Choosing.{act_active}
 use Rattle.edf_semantics.proofs.Marking.{begin_at, has_mark, inside_one, IsNotWaiting, Opening}
 use Rattle.edf_semantics.proofs.Keeping.{Kept, kept, About, After, about, after, fits_during, mark_during, choice, picked, chosen_is, rests_same, marks_rest}
-use Rattle.edf_timing.specs.InTime.{IsTaskOf, rank_of, told_at, MeetsDeadlines, EveryRunMeetsDeadlines}
+use Rattle.edf_timing.specs.InTime.{IsTaskOf, rank_from_zero, told_at, MeetsDeadlines, EveryRunMeetsDeadlines}
 use Rattle.edf_timing.proofs.Logging.{EndsSoon, log_ends}
 use Rattle.edf_timing.proofs.Caps.{IsUncapped, uncapped}
 use Rattle.sched_demand.proofs.Reached.{reached}
@@ -189,20 +189,20 @@ module _ (e : Where) (ps : ℕ → Parts) (image_fits : ImageFits e ps) (waitles
   rank_is : (k : ℕ) (f : Found k) → rank_at e.image k ≡ f.0.rank
   rank_is k f = ap (λ (o : Option Process). rank_of_some o) f.1
 
-  own_task : (k : ℕ) (f : Found k) → IsTaskOf f.0 (task_at ts (rank_of e.image k))
+  own_task : (k : ℕ) (f : Found k) → IsTaskOf f.0 (task_at ts (rank_from_zero e.image k))
   own_task k f = subst (λ (r : ℕ). IsTaskOf f.0 (task_at ts (r - 1))) (sym (rank_is k f)) (feasible.task k f.0 f.1)
 
   due_is : (k : ℕ) (f : Found k) (t : ℕ) → is_some_due script t (slice_get e.image.processes k) ≡ is_due script t f.0
   due_is k f t = ap (λ (o : Option Process). is_some_due script t o) f.1
 
-  opens_at : (k : ℕ) (l : Found k ⊎ (length e.image.processes ≤ k)) (t : ℕ) → k < length e.image.processes → Starts t (is_some_due script t (slice_get e.image.processes k)) (task_at ts (rank_of e.image k)).cost
+  opens_at : (k : ℕ) (l : Found k ⊎ (length e.image.processes ≤ k)) (t : ℕ) → k < length e.image.processes → Starts t (is_some_due script t (slice_get e.image.processes k)) (task_at ts (rank_from_zero e.image k)).cost
       (view (slice_get (state_at e.image script t).state.threads k) (slice_get (state_at e.image script t).marks k) (left_of k l t)) (view (slice_get (middle t).threads k) (slice_get (marks_at t) k) (mid_of k l t))
   opens_at k (inr above) t below = absurd (omega arith)
   opens_at k (inl f) t below =
       let x = x_at k f t in
-      let cost : f.0.run ≡ (task_at ts (rank_of e.image k)).cost = sym (own_task k f).cost in
+      let cost : f.0.run ≡ (task_at ts (rank_from_zero e.image k)).cost = sym (own_task k f).cost in
       let s = starts_sight e.image f.0 t (is_due script t f.0) x.old x.mid x.m (counts k f t).left (mids k f t (counts k f t)).count.left f.0.run (slice_get (state_at e.image script t).state.threads k) (slice_get (middle t).threads k) (slice_get (state_at e.image script t).marks k) (slice_get (marks_at t) k) x.at_old x.at_mid x.at_m (mark_during e ps image_fits waitless script t (state_at e.image script t) (kept_at t) k f.0 x) (sight k f t) in
-      subst (λ (b : Bool). Starts t b (task_at ts (rank_of e.image k)).cost (view (slice_get (state_at e.image script t).state.threads k) (slice_get (state_at e.image script t).marks k) (counts k f t).left) (view (slice_get (middle t).threads k) (slice_get (marks_at t) k) (mids k f t (counts k f t)).count.left)) (sym (due_is k f t))
+      subst (λ (b : Bool). Starts t b (task_at ts (rank_from_zero e.image k)).cost (view (slice_get (state_at e.image script t).state.threads k) (slice_get (state_at e.image script t).marks k) (counts k f t).left) (view (slice_get (middle t).threads k) (slice_get (marks_at t) k) (mids k f t (counts k f t)).count.left)) (sym (due_is k f t))
       (subst (λ (n : ℕ). Starts t (is_due script t f.0) n (view (slice_get (state_at e.image script t).state.threads k) (slice_get (state_at e.image script t).marks k) (counts k f t).left) (view (slice_get (middle t).threads k) (slice_get (marks_at t) k) (mids k f t (counts k f t)).count.left)) cost s)
 
   runs_at : (k : ℕ) (l : Found k ⊎ (length e.image.processes ≤ k)) (t : ℕ) → k < length e.image.processes → picks t ≡ Some k → Runs (view (slice_get (middle t).threads k) (slice_get (marks_at t) k) (mid_of k l t)) (view (slice_get (state_at e.image script (suc t)).state.threads k) (slice_get (state_at e.image script (suc t)).marks k) (left_of k l (suc t)))
@@ -277,14 +277,14 @@ module _ (e : Where) (ps : ℕ → Parts) (image_fits : ImageFits e ps) (waitles
       omega arith
 
   short_at : (level k : ℕ) (l : Found k ⊎ (length e.image.processes ≤ k)) (t : ℕ) (s : Stay) → level < length ts → k < length e.image.processes → stay_view e.image (inside_of (slice_get (state_at e.image script t).state.threads k)) (stay_left k l t) ≡ Some s
-      → (task_at ts level).deadline < (task_at ts (rank_of e.image k)).deadline → s.ceiling ≤ level → s.left ≤ (task_at ts level).block
+      → (task_at ts level).deadline < (task_at ts (rank_from_zero e.image k)).deadline → s.ceiling ≤ level → s.left ≤ (task_at ts level).block
   short_at level k (inr above) t s low below is later high = absurd (omega arith)
   short_at level k (inl f) t s low below is later high =
       let j = stay_inside e.image (slice_get (state_at e.image script t).state.threads k) (counts k f t).stay s is in
       let i = (counts k f t).inside j.0 j.1 j.2 j.3 in
       let there = feasible.ranks.place_below level low in
       let g : Found (place level) = process_at e.image.processes (place level) (omega (arith, there, feasible.many)) in
-      let level_is : rank_of e.image (place level) ≡ level = feasible.ranks.there level low in
+      let level_is : rank_from_zero e.image (place level) ≡ level = feasible.ranks.there level low in
       let own : IsTaskOf g.0 (task_at ts level) = subst (λ (n : ℕ). IsTaskOf g.0 (task_at ts n)) level_is (own_task (place level) g) in
       let other = own_task k f in
       let ranked = waitless.ranked (place level) g.0 g.1 in
@@ -301,7 +301,7 @@ module _ (e : Where) (ps : ℕ → Parts) (image_fits : ImageFits e ps) (waitles
 
   -- ---- the choice
 
-  same_sight : (t : ℕ) → IsSameSight (length e.image.processes) (rank_at e.image) (deadline_at e.image) (rank_of e.image) (law.deadline_at ts (rank_of e.image)) (insides e.image (middle t).threads) (λ k. stay_view e.image (inside_of (slice_get (state_at e.image script t).state.threads k)) (stay_left k (lookup k) t)) (acts (middle t).threads (marks_at t)) (λ k. view (slice_get (middle t).threads k) (slice_get (marks_at t) k) (mid_of k (lookup k) t))
+  same_sight : (t : ℕ) → IsSameSight (length e.image.processes) (rank_at e.image) (deadline_at e.image) (rank_from_zero e.image) (law.deadline_at ts (rank_from_zero e.image)) (insides e.image (middle t).threads) (λ k. stay_view e.image (inside_of (slice_get (state_at e.image script t).state.threads k)) (stay_left k (lookup k) t)) (acts (middle t).threads (marks_at t)) (λ k. view (slice_get (middle t).threads k) (slice_get (marks_at t) k) (mid_of k (lookup k) t))
   same_sight t = record {
     here = λ q below active. by_here q (lookup q) below active;
     there = λ q below active. act_some (slice_get (middle t).threads q) (slice_get (marks_at t) q) (mid_of q (lookup q) t) active;
@@ -340,8 +340,8 @@ module _ (e : Where) (ps : ℕ → Parts) (image_fits : ImageFits e ps) (waitles
           back None none = absurd cc
           back (Some m) some = (record { ceiling = ceiling_of e.image m - 1; left = (counts q f t).stay }, refl, ap (λ (o : Option Stay). ceiling_in o - 1) some)
 
-  chooses_at : (t : ℕ) → Chooses (length e.image.processes) (rank_of e.image) (law.deadline_at ts (rank_of e.image)) (λ k. stay_view e.image (inside_of (slice_get (state_at e.image script t).state.threads k)) (stay_left k (lookup k) t)) (λ k. view (slice_get (middle t).threads k) (slice_get (marks_at t) k) (mid_of k (lookup k) t)) (picks t)
-  chooses_at t = chooses_sight (length e.image.processes) (rank_at e.image) (deadline_at e.image) (rank_of e.image) (law.deadline_at ts (rank_of e.image)) (insides e.image (middle t).threads) (λ k. stay_view e.image (inside_of (slice_get (state_at e.image script t).state.threads k)) (stay_left k (lookup k) t)) (acts (middle t).threads (marks_at t)) (λ k. view (slice_get (middle t).threads k) (slice_get (marks_at t) k) (mid_of k (lookup k) t)) (same_sight t) (picks t) (choice e ps image_fits waitless script t (state_at e.image script t) (kept_at t))
+  chooses_at : (t : ℕ) → Chooses (length e.image.processes) (rank_from_zero e.image) (law.deadline_at ts (rank_from_zero e.image)) (λ k. stay_view e.image (inside_of (slice_get (state_at e.image script t).state.threads k)) (stay_left k (lookup k) t)) (λ k. view (slice_get (middle t).threads k) (slice_get (marks_at t) k) (mid_of k (lookup k) t)) (picks t)
+  chooses_at t = chooses_sight (length e.image.processes) (rank_at e.image) (deadline_at e.image) (rank_from_zero e.image) (law.deadline_at ts (rank_from_zero e.image)) (insides e.image (middle t).threads) (λ k. stay_view e.image (inside_of (slice_get (state_at e.image script t).state.threads k)) (stay_left k (lookup k) t)) (acts (middle t).threads (marks_at t)) (λ k. view (slice_get (middle t).threads k) (slice_get (marks_at t) k) (mid_of k (lookup k) t)) (same_sight t) (picks t) (choice e ps image_fits waitless script t (state_at e.image script t) (kept_at t))
 
   -- ---- the run
 
@@ -357,17 +357,17 @@ module _ (e : Where) (ps : ℕ → Parts) (image_fits : ImageFits e ps) (waitles
       let f : Found k = process_at e.image.processes k below in
       ap (λ (o : Option Thread). stay_view e.image (inside_of o) n) (idle_there e.image.processes k f.0 f.1)
 
-  spaced_at : RespectsFrames e.image script → (k : ℕ) → k < length e.image.processes → Spaced (task_at ts (rank_of e.image k)).frame script.end_tick (λ t. is_some_due script t (slice_get e.image.processes k))
+  spaced_at : RespectsFrames e.image script → (k : ℕ) → k < length e.image.processes → Spaced (task_at ts (rank_from_zero e.image k)).frame script.end_tick (λ t. is_some_due script t (slice_get e.image.processes k))
   spaced_at respects k below t u less within is_t is_u =
       let f : Found k = process_at e.image.processes k below in
-      let frame : (task_at ts (rank_of e.image k)).frame ≡ f.0.frame = (own_task k f).frame in
+      let frame : (task_at ts (rank_from_zero e.image k)).frame ≡ f.0.frame = (own_task k f).frame in
       let h = releases_apart e.image script k t u f.0 respects f.1 (sym (due_is k f t) ∙ is_t) (sym (due_is k f u) ∙ is_u) less in
       omega arith
 
   number_is : (j k : ℕ) → Some j ≡ Some k → j ≡ k
   number_is j k is = cc
 
-  is_earliest : RespectsFrames e.image script → law.IsEarliest ts (rank_of e.image) script.end_tick the_run
+  is_earliest : RespectsFrames e.image script → law.IsEarliest ts (rank_from_zero e.image) script.end_tick the_run
   is_earliest respects = record {
     idle_first = λ k low. idle_left k (lookup k) (below k low);
     free_first = λ k low. free_first k (stay_left k (lookup k) 0) (below k low);
@@ -377,7 +377,7 @@ module _ (e : Where) (ps : ℕ → Parts) (image_fits : ImageFits e ps) (waitles
       others = λ k low differ. others_at k (lookup k) t (below k low) differ;
     };
     spaced = λ k low. spaced_at respects k (below k low);
-    chooses = λ t within. subst (λ (n : ℕ). Chooses n (rank_of e.image) (law.deadline_at ts (rank_of e.image)) (λ k. stay_view e.image (inside_of (slice_get (state_at e.image script t).state.threads k)) (stay_left k (lookup k) t)) (λ k. view (slice_get (middle t).threads k) (slice_get (marks_at t) k) (mid_of k (lookup k) t)) (picks t)) (sym feasible.many) (chooses_at t);
+    chooses = λ t within. subst (λ (n : ℕ). Chooses n (rank_from_zero e.image) (law.deadline_at ts (rank_from_zero e.image)) (λ k. stay_view e.image (inside_of (slice_get (state_at e.image script t).state.threads k)) (stay_left k (lookup k) t)) (λ k. view (slice_get (middle t).threads k) (slice_get (marks_at t) k) (mid_of k (lookup k) t)) (picks t)) (sym feasible.many) (chooses_at t);
     keeps = λ t within. record {
       takes = λ k low is. takes_at k (lookup k) t (below k low) is;
       others = λ k low differ. kept_stay k (lookup k) t (below k low) differ;
@@ -430,7 +430,7 @@ module _ (e : Where) (ps : ℕ → Parts) (image_fits : ImageFits e ps) (waitles
 
   pub machine_meets : RespectsFrames e.image script → script.end_tick ≤ 1000000000 → MeetsDeadlines e.image script
   machine_meets respects short =
-      let m : law.MeetsDeadlines ts (rank_of e.image) script.end_tick the_run = meets ts (rank_of e.image) place script.end_tick reach the_run feasible.tasks feasible.ranks (is_earliest respects) short feasible.reaches feasible.feasible in
+      let m : law.MeetsDeadlines ts (rank_from_zero e.image) script.end_tick the_run = meets ts (rank_from_zero e.image) place script.end_tick reach the_run feasible.tasks feasible.ranks (is_earliest respects) short feasible.reaches feasible.feasible in
       let finds : (k t : ℕ) (p : Process) → slice_get e.image.processes k ≡ Some p → is_due script t p ≡ true → t < script.end_tick → slice_get (state_at e.image script t).state.threads k ≡ Some Idle = λ k t p process due within. (
       let below : k < length e.image.processes = slice_get_within e.image.processes k p process in
       let low : k < length ts = omega (arith, feasible.many) in
@@ -438,7 +438,7 @@ module _ (e : Where) (ps : ℕ → Parts) (image_fits : ImageFits e ps) (waitles
       let soon : (k t : ℕ) (p : Process) → slice_get e.image.processes k ≡ Some p → is_due script t p ≡ true → t + p.deadline ≤ script.end_tick → EndsSoon e.image script k p.deadline t = λ k t p process due within. (
       let below : k < length e.image.processes = slice_get_within e.image.processes k p process in
       let low : k < length ts = omega (arith, feasible.many) in
-      let deadline : law.deadline_at ts (rank_of e.image) k ≡ p.deadline = (own_task k (p, process)).deadline in
+      let deadline : law.deadline_at ts (rank_from_zero e.image) k ≡ p.deadline = (own_task k (p, process)).deadline in
       let ended = m.ends t k low (omega arith) (due_is k (p, process) t ∙ due) in
       let idle = idle_of k (lookup k) (suc ended.tick) below ended.idle in
       (ended.tick, ended.since, omega (arith, ended.soon), end_told k (p, process) ended.tick (mid_of k (lookup k) ended.tick) ended.active idle)) in
@@ -448,18 +448,18 @@ module _ (e : Where) (ps : ℕ → Parts) (image_fits : ImageFits e ps) (waitles
         no_overrun = λ t within. overrun_is t ∙ starts_in_time e.image script t (state_at e.image script t).state
             (once e.image script t respects (λ k p process.
             let own = own_task k (p, process) in
-            let low : rank_of e.image k < length ts = feasible.ranks.rank_below k (let b = slice_get_within e.image.processes k p process in omega (arith, feasible.many)) in
-            let is = is_task ts (rank_of e.image k) feasible.tasks low in
+            let low : rank_from_zero e.image k < length ts = feasible.ranks.rank_below k (let b = slice_get_within e.image.processes k p process in omega (arith, feasible.many)) in
+            let is = is_task ts (rank_from_zero e.image k) feasible.tasks low in
             let frame = own.frame in
             omega (arith, is.frame_low)))
             (λ k p process due. finds k t p process due within);
         ends = λ k t p process due within.
             let below : k < length e.image.processes = slice_get_within e.image.processes k p process in
             let low : k < length ts = omega (arith, feasible.many) in
-            let deadline : law.deadline_at ts (rank_of e.image) k ≡ p.deadline = (own_task k (p, process)).deadline in
-            let rank_low : rank_of e.image k < length ts = feasible.ranks.rank_below k low in
-            let is = is_task ts (rank_of e.image k) feasible.tasks rank_low in
-            let some : 10 ≤ law.deadline_at ts (rank_of e.image) k = is.deadline_low in
+            let deadline : law.deadline_at ts (rank_from_zero e.image) k ≡ p.deadline = (own_task k (p, process)).deadline in
+            let rank_low : rank_from_zero e.image k < length ts = feasible.ranks.rank_below k low in
+            let is = is_task ts (rank_from_zero e.image k) feasible.tasks rank_low in
+            let some : 10 ≤ law.deadline_at ts (rank_from_zero e.image) k = is.deadline_low in
             let ended = m.ends t k low (omega arith) (due_is k (p, process) t ∙ due) in
             let idle = idle_of k (lookup k) (suc ended.tick) below ended.idle in
             let told = end_told k (p, process) ended.tick (mid_of k (lookup k) ended.tick) ended.active idle in

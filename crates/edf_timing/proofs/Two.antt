@@ -14,7 +14,7 @@ use Rattle.sched_demand.specs.declared.tasks.DemandTask.{DemandTask}
 use Rattle.sched_demand.specs.Demand.{task_at, IsTask, AreTasks, asked, demand_at, IsReach, IsFeasible, IsJudged}
 use Rattle.edf_semantics.specs.Safe.{IsWaitless}
 use Rattle.edf_semantics.specs.Example.{two}
-use Rattle.edf_timing.specs.InTime.{IsTaskOf, rank_of, AreDemandsOf, IsJudgedFeasible}
+use Rattle.edf_timing.specs.InTime.{IsTaskOf, rank_from_zero, AreDemandsOf, IsJudgedFeasible}
 use Rattle.base.specs.Capped.{cap}
 use Rattle.sched_demand.specs.declared.judging.Judgement.TheVariants as judgement
 use Rattle.sched_demand.proofs.Rising.{one_reach}
@@ -182,10 +182,10 @@ demands = record {
   many = refl;
   task = both (λ k p. IsTaskOf p (task_at two_tasks (p.rank - 1))) (record { frame = refl; deadline = refl; cost = refl }) (record { frame = refl; deadline = refl; cost = refl });
   ranks = record {
-    rank_below = two_of (λ p. rank_of two p < 2) (omega arith) (omega arith);
+    rank_below = two_of (λ p. rank_from_zero two p < 2) (omega arith) (omega arith);
     place_below = λ j below. below;
-    there = two_of (λ j. rank_of two j ≡ j) refl refl;
-    back = two_of (λ j. rank_of two j ≡ j) refl refl;
+    there = two_of (λ j. rank_from_zero two j ≡ j) refl refl;
+    back = two_of (λ j. rank_from_zero two j ≡ j) refl refl;
   };
   covered = both (λ k p. cap (activation 0 (worst_of (two_parts k))) ≤ p.run) (omega arith) (omega arith);
   blocks = λ j k m p q monitor h at_j at_k there. absurd cc;

@@ -25,8 +25,8 @@ pub record IsTaskOf (p : Process) (t : DemandTask) : Type 0 where
   pub cost : t.cost ≡ p.run
 
 -- the rank of a process, from 0
-abbrev pub rank_of : Image → ℕ → ℕ
-rank_of image k = rank_at image k - 1
+abbrev pub rank_from_zero : Image → ℕ → ℕ
+rank_from_zero image k = rank_at image k - 1
 
 -- The premise: the tasks are those of the image in the order of ranks. Its declared costs cover what
 -- an activation takes, and the blocks of the tasks the stays, where numbers above the limit count as
@@ -35,7 +35,7 @@ pub record AreDemandsOf (e : Where) (ps : ℕ → Parts) (ts : List DemandTask) 
   pub tasks : AreTasks ts
   pub many : length ts ≡ length e.image.processes
   pub task : (k : ℕ) (p : Process) → slice_get e.image.processes k ≡ Some p → IsTaskOf p (task_at ts (p.rank - 1))
-  pub ranks : AreRanks (length ts) (rank_of e.image) place
+  pub ranks : AreRanks (length ts) (rank_from_zero e.image) place
   pub covered : (k : ℕ) (p : Process) → slice_get e.image.processes k ≡ Some p → cap (activation e.image.over (worst_of (ps k))) ≤ p.run
   -- the block of the task of a process covers each stay of one with a later deadline, in a monitor
   -- whose ceiling is the rank or a higher one
@@ -49,7 +49,7 @@ told_at image script t = (tick image script t (state_at image script t)).events
 
 -- the release of process k at the tick is told, and within so many ticks, of which the first is
 -- that of the release, the end
-pub record ReleasedAndEnds (image : Image) (script : Script) (k release bound : ℕ) : Type 0 where
+pub record ReleasedAndEndsByDeadline (image : Image) (script : Script) (k release bound : ℕ) : Type 0 where
   pub begins : Contains (told_at image script release) (record { tick = release; proc = k; act = act.Release })
   pub tick : ℕ
   pub since : release ≤ tick
@@ -64,7 +64,7 @@ pub record MeetsDeadlines (image : Image) (script : Script) : Type 0 where
   pub no_overrun : (t : ℕ) → t < script.end_tick → (tick image script t (state_at image script t)).overrun ≡ false
   -- each activation whose release is due begins, and ends by its deadline, where that is not past
   -- the end
-  pub ends : (k t : ℕ) (p : Process) → slice_get image.processes k ≡ Some p → is_due script t p ≡ true → t + p.deadline ≤ script.end_tick → ReleasedAndEnds image script k t p.deadline
+  pub ends : (k t : ℕ) (p : Process) → slice_get image.processes k ≡ Some p → is_due script t p ≡ true → t + p.deadline ≤ script.end_tick → ReleasedAndEndsByDeadline image script k t p.deadline
   -- and so it is in the log: each release is followed by an end of the process within its deadline,
   -- where that is not past the end
   pub log : (k : ℕ) (p : Process) → slice_get image.processes k ≡ Some p → EndsWithin k p.deadline script.end_tick (events image script)

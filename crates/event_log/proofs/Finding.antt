@@ -7,7 +7,8 @@ use Rattle.std.specs.Borrow.{Bor}
 use Rattle.std.specs.Map.{lookup}
 use Rattle.std.specs.Cmp.Lexicographic.{pointwise}
 use Rattle.std.proofs.lemmas.Slice.Eq.{bytes_eq-Decides}
-use Rattle.event_log.specs.Finding.{number_in, IsNumber, AreNumbers}
+use Rattle.image.specs.NameMaps.{number_in}
+use Rattle.event_log.specs.Finding.{IsNumber, AreNumbers}
 use Rattle.event_log.proofs.Names.{below_more}
 
 kept : (o : Option ℕ) (count : ℕ) (name : ℕ → List ℕ) (q : List ℕ) → name count ≢ q → IsNumber o count name q → IsNumber o (count + 1) name q

@@ -10,7 +10,7 @@ use Rattle.text_fields.proofs.Cuts.{cut_lacks}
 use Rattle.text_fields.proofs.Numerals.{decimal_lacks}
 use Rattle.image.specs.declared.names.ImageNames.{ImageNames}
 use Rattle.event_log.specs.Line.{act_text, line_of, condition_name, device_name, process_name, truth_text, woken_name}
-use Rattle.event_log.specs.Logs.{AreWords, IsTold, Tells}
+use Rattle.event_log.specs.Logs.{AreWordNames, IsTold, Tells}
 use Rattle.event_log.specs.Parts.{act_words, spelled, ActIsTold}
 use Rattle.event_log.proofs.Names.{same_cut, word_at}
 
@@ -89,19 +89,19 @@ pub untold_process : (names : ImageNames) (line before after : List ℕ) → IsC
 untold_process names line before after cut l e t =
     let r = tick_parts names line before after cut e t in cut_lacks 32 after (process_name names e.proc) (act_words names e.act) l r.1
 
-pub process_parts : (names : ImageNames) (line before after process rest : List ℕ) → AreWords names → IsCutAt 32 line before after → IsCutAt 32 after process rest → (e : Event) → Tells names line e → (process ≡ process_name names e.proc) × (rest ≡ act_words names e.act)
+pub process_parts : (names : ImageNames) (line before after process rest : List ℕ) → AreWordNames names → IsCutAt 32 line before after → IsCutAt 32 after process rest → (e : Event) → Tells names line e → (process ≡ process_name names e.proc) × (rest ≡ act_words names e.act)
 process_parts names line before after process rest words cut more e t =
     let told = t.told in
     let r = tick_parts names line before after cut e t in
     let word = word_at names.processes e.proc told.process words.processes in
     same_cut 32 after process rest (process_name names e.proc) (act_words names e.act) more word.no_space r.1
 
-pub untold_name : (names : ImageNames) (line before after process rest : List ℕ) → AreWords names → IsCutAt 32 line before after → IsCutAt 32 after process rest → ((k : ℕ) → k < length names.processes → process_name names k ≢ process) → (e : Event) → ¬ Tells names line e
+pub untold_name : (names : ImageNames) (line before after process rest : List ℕ) → AreWordNames names → IsCutAt 32 line before after → IsCutAt 32 after process rest → ((k : ℕ) → k < length names.processes → process_name names k ≢ process) → (e : Event) → ¬ Tells names line e
 untold_name names line before after process rest words cut more none e t =
     let told = t.told in
     let r = process_parts names line before after process rest words cut more e t in none e.proc told.process (sym r.0)
 
-pub untold_act : (names : ImageNames) (line before after process rest : List ℕ) → AreWords names → IsCutAt 32 line before after → IsCutAt 32 after process rest → ((a : Act) → ActIsTold names a → rest ≢ act_words names a) → (e : Event) → ¬ Tells names line e
+pub untold_act : (names : ImageNames) (line before after process rest : List ℕ) → AreWordNames names → IsCutAt 32 line before after → IsCutAt 32 after process rest → ((a : Act) → ActIsTold names a → rest ≢ act_words names a) → (e : Event) → ¬ Tells names line e
 untold_act names line before after process rest words cut more none e t =
     let told = t.told in
     let r = process_parts names line before after process rest words cut more e t in none e.act (told.act, told.fits) r.1

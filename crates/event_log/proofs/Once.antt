@@ -15,7 +15,7 @@ use Rattle.image.specs.declared.names.ImageNames.{ImageNames}
 use Rattle.event_log.specs.InRange.{WokenIsIn}
 use Rattle.event_log.specs.Line.{line_of, log_of, condition_name, device_name, monitor_name, process_name, truth_text, woken_name}
 use Rattle.event_log.specs.Logs.{IsTold}
-use Rattle.event_log.specs.LogReading.{AreSound}
+use Rattle.event_log.specs.LogReading.{AreUnambiguous}
 use Rattle.event_log.specs.Parts.{act_words, args_text, spelled, spoken, verb_of, verb_text, ActIsTold, ByVerb}
 use Rattle.event_log.proofs.Names.{device_word, same_last, word_at}
 use Rattle.event_log.proofs.Acts.{by_verb, verb_lacks, verb_once}
@@ -41,20 +41,20 @@ truth_once false false e = refl
 no_dash : (xs : List (List ℕ)) (k : ℕ) → k < length xs → All (λ name. name ≢ codes "-") xs → unwrap_or (slice_get xs k) [] ≢ codes "-"
 no_dash xs k below none = subst (λ n. n ≢ codes "-") (sym (unwrap_or-slice_get xs k [])) (none k [] below)
 
-woken_once : (names : ImageNames) (w v : Option ℕ) → AreSound names → WokenIsIn names w → WokenIsIn names v → woken_name names w ≡ woken_name names v → w ≡ v
+woken_once : (names : ImageNames) (w v : Option ℕ) → AreUnambiguous names → WokenIsIn names w → WokenIsIn names v → woken_name names w ≡ woken_name names v → w ≡ v
 woken_once names None None sound i j e = refl
 woken_once names None (Some k) sound i j e = absurd (no_dash names.processes k j sound.no_dash (sym e))
 woken_once names (Some k) None sound i j e = absurd (no_dash names.processes k i sound.no_dash e)
 woken_once names (Some k) (Some m) sound i j e = ap (λ n. Some n) (sound.processes k m i j e)
 
 -- a condition and what stands behind it
-asked_once : (names : ImageNames) (c d : ℕ) (last other : List ℕ) → AreSound names → c < length names.conditions → d < length names.conditions → Some (condition_name names c ++ 32 ∷ last) ≡ Some (condition_name names d ++ 32 ∷ other) → (c ≡ d) × (last ≡ other)
+asked_once : (names : ImageNames) (c d : ℕ) (last other : List ℕ) → AreUnambiguous names → c < length names.conditions → d < length names.conditions → Some (condition_name names c ++ 32 ∷ last) ≡ Some (condition_name names d ++ 32 ∷ other) → (c ≡ d) × (last ≡ other)
 asked_once names c d last other sound i j e =
     let whole = same_Some (condition_name names c ++ 32 ∷ last) (condition_name names d ++ 32 ∷ other) e in
     let r = same_last names (condition_name names c ++ 32 ∷ last) c d last other sound.words i j refl whole in
     (sound.conditions c d i j r.0, r.1)
 
-transfer_once : (names : ImageNames) (d f : ℕ) (value word : ℤ) → AreSound names → d < length names.devices → f < length names.devices → Is32 value → Is32 word → Some (device_name names d ++ 32 ∷ signed_decimal value) ≡ Some (device_name names f ++ 32 ∷ signed_decimal word) → (d ≡ f) × (value ≡ word)
+transfer_once : (names : ImageNames) (d f : ℕ) (value word : ℤ) → AreUnambiguous names → d < length names.devices → f < length names.devices → Is32 value → Is32 word → Some (device_name names d ++ 32 ∷ signed_decimal value) ≡ Some (device_name names f ++ 32 ∷ signed_decimal word) → (d ≡ f) × (value ≡ word)
 transfer_once names d f value word sound i j small low e =
     let whole = same_Some (device_name names d ++ 32 ∷ signed_decimal value) (device_name names f ++ 32 ∷ signed_decimal word) e in
     let words = sound.words in
@@ -66,7 +66,7 @@ transfer_once names d f value word sound i j small low e =
 abbrev Once : ImageNames → Act → Act → Type 0
 Once names a b = ActIsTold names b → args_text names a ≡ args_text names b → a ≡ b
 
-once : (names : ImageNames) (a : Act) → AreSound names → ActIsTold names a → ByVerb (Once names a) (verb_of a)
+once : (names : ImageNames) (a : Act) → AreUnambiguous names → ActIsTold names a → ByVerb (Once names a) (verb_of a)
 once names act.Release sound told = λ other e. refl
 once names (act.TimeOut c number) sound told = λ d n other e.
     let r = asked_once names c d (decimal number) (decimal n) sound told.0 other.0 e in
@@ -99,12 +99,12 @@ spoken_once v w None (Some y) l m e = absurd (cut_lacks 32 v w y l e)
 spoken_once v w (Some x) None l m e = absurd (cut_lacks 32 w v x m (sym e))
 spoken_once v w (Some x) (Some y) l m e = let r = cut_once 32 v x w y l m e in (r.0, ap (λ t. Some t) r.1)
 
-act_once : (names : ImageNames) (a b : Act) → AreSound names → ActIsTold names a → ActIsTold names b → act_words names a ≡ act_words names b → a ≡ b
+act_once : (names : ImageNames) (a b : Act) → AreUnambiguous names → ActIsTold names a → ActIsTold names b → act_words names a ≡ act_words names b → a ≡ b
 act_once names a b sound told other e =
     let r = spoken_once (verb_text (verb_of a)) (verb_text (verb_of b)) (args_text names a) (args_text names b) (verb_lacks (verb_of a)) (verb_lacks (verb_of b)) e in
     by_verb (Once names a) b (subst (ByVerb (Once names a)) (verb_once (verb_of a) (verb_of b) r.0) (once names a sound told)) other r.1
 
-spelled_once : (names : ImageNames) (e f : Event) → AreSound names → IsTold names e → IsTold names f → spelled names e ≡ spelled names f → e ≡ f
+spelled_once : (names : ImageNames) (e f : Event) → AreUnambiguous names → IsTold names e → IsTold names f → spelled names e ≡ spelled names f → e ≡ f
 spelled_once names e f sound told other same =
     let small = told.tick in let low = other.tick in
     let words = sound.words in
@@ -117,11 +117,11 @@ spelled_once names e f sound told other same =
     let acts : e.act ≡ f.act = act_once names e.act f.act sound (told.act, told.fits) (other.act, other.fits) s.1 in
     ap (λ t. record e { tick = t }) ticks ∙ ap (λ p. record e { tick = f.tick; proc = p }) processes ∙ ap (λ a. record f { act = a }) acts
 
-pub line_once : (names : ImageNames) (e f : Event) → AreSound names → IsTold names e → IsTold names f → line_of names e ≡ line_of names f → e ≡ f
+pub line_once : (names : ImageNames) (e f : Event) → AreUnambiguous names → IsTold names e → IsTold names f → line_of names e ≡ line_of names f → e ≡ f
 line_once names e f sound told other same =
     spelled_once names e f sound told other (cancel 10 (spelled names e) (spelled names f) (sym (line_spelled names e) ∙ same ∙ line_spelled names f))
 
-pub log_once : (names : ImageNames) (es fs : List Event) → AreSound names → All (IsTold names) es → All (IsTold names) fs → log_of names es ≡ log_of names fs → es ≡ fs
+pub log_once : (names : ImageNames) (es fs : List Event) → AreUnambiguous names → All (IsTold names) es → All (IsTold names) fs → log_of names es ≡ log_of names fs → es ≡ fs
 unfolding log_of
 log_once names [] [] sound told other e = refl
 log_once names [] (f ∷ fs) sound told other e = absurd (cut_lacks 10 [] (spelled names f) (log_of names fs) tt (e ∙ line_then names f (log_of names fs)))

@@ -15,7 +15,7 @@ use Rattle.text_fields.proofs.Numerals.{decimal_lacks, signed_lacks}
 use Rattle.image.specs.declared.names.ImageNames.{ImageNames}
 use Rattle.event_log.specs.InRange.{WokenIsIn}
 use Rattle.event_log.specs.Line.{line_of, log_of, condition_name, device_name, monitor_name, process_name, truth_text, woken_name}
-use Rattle.event_log.specs.Logs.{AreWords, IsTold, Tells, IsFaultyLine, IsLog, longest_text}
+use Rattle.event_log.specs.Logs.{AreWordNames, IsTold, Tells, IsFaultyLine, IsLog, longest_text}
 use Rattle.event_log.specs.Parts.{act_words, args_text, spelled, spoken, verb_of, verb_text, ActIsTold}
 use Rattle.event_log.proofs.Names.{same_cut, word_at, device_word, condition_pair}
 use Rattle.event_log.proofs.Acts.{verb_feed}
@@ -27,22 +27,22 @@ not_feed within = omega arith
 number_feed : (n : ℕ) → n < 2 ^ 16 → Lacks 10 (decimal n)
 number_feed n small = decimal_lacks 10 n not_feed (omega arith)
 
-condition_feed : (names : ImageNames) (c : ℕ) → AreWords names → c < length names.conditions → Lacks 10 (condition_name names c)
+condition_feed : (names : ImageNames) (c : ℕ) → AreWordNames names → c < length names.conditions → Lacks 10 (condition_name names c)
 condition_feed names c words below =
     let pair = condition_pair names c words below in
     let first = pair.first in let second = pair.second in
     subst (Lacks 10) (sym pair.text) (lacks_both 10 pair.monitor (32 ∷ pair.own) first.no_line_feed ((λ e. omega arith), second.no_line_feed))
 
-process_feed : (names : ImageNames) (k : ℕ) → AreWords names → k < length names.processes → Lacks 10 (process_name names k)
+process_feed : (names : ImageNames) (k : ℕ) → AreWordNames names → k < length names.processes → Lacks 10 (process_name names k)
 process_feed names k words below = let word = word_at names.processes k below words.processes in word.no_line_feed
 
-monitor_feed : (names : ImageNames) (m : ℕ) → AreWords names → m < length names.monitors → Lacks 10 (monitor_name names m)
+monitor_feed : (names : ImageNames) (m : ℕ) → AreWordNames names → m < length names.monitors → Lacks 10 (monitor_name names m)
 monitor_feed names m words below = let word = word_at names.monitors m below words.monitors in word.no_line_feed
 
-device_feed : (names : ImageNames) (d : ℕ) → AreWords names → d < length names.devices → Lacks 10 (device_name names d)
+device_feed : (names : ImageNames) (d : ℕ) → AreWordNames names → d < length names.devices → Lacks 10 (device_name names d)
 device_feed names d words below = let word = device_word names.devices d below words.devices in word.no_line_feed
 
-woken_feed : (names : ImageNames) (woken : Option ℕ) → AreWords names → WokenIsIn names woken → Lacks 10 (woken_name names woken)
+woken_feed : (names : ImageNames) (woken : Option ℕ) → AreWordNames names → WokenIsIn names woken → Lacks 10 (woken_name names woken)
 woken_feed names None words within = ((λ e. omega arith), tt)
 woken_feed names (Some k) words within = process_feed names k words within
 
@@ -57,7 +57,7 @@ abbrev IsFeedless : Option (List ℕ) → Type 0
 IsFeedless None = Unit {0}
 IsFeedless (Some text) = Lacks 10 text
 
-args_feed : (names : ImageNames) (a : Act) → AreWords names → ActIsTold names a → IsFeedless (args_text names a)
+args_feed : (names : ImageNames) (a : Act) → AreWordNames names → ActIsTold names a → IsFeedless (args_text names a)
 args_feed names act.Release words told = tt
 args_feed names (act.TimeOut c number) words told = both_feed (condition_name names c) (decimal number) (condition_feed names c words told.0) (number_feed number told.1)
 args_feed names (act.Get d value) words told = both_feed (device_name names d) (signed_decimal value) (device_feed names d words told.0) (signed_lacks 10 value not_feed (λ e. omega arith) told.1)
@@ -77,7 +77,7 @@ spoken_feed word None l m = l
 spoken_feed word (Some rest) l m = both_feed word rest l m
 
 -- the words of an event have no LF
-pub spelled_feed : (names : ImageNames) (e : Event) → AreWords names → IsTold names e → Lacks 10 (spelled names e)
+pub spelled_feed : (names : ImageNames) (e : Event) → AreWordNames names → IsTold names e → Lacks 10 (spelled names e)
 spelled_feed names e words told =
     let small = told.tick in
     both_feed (decimal e.tick) (process_name names e.proc ++ 32 ∷ act_words names e.act) (decimal_lacks 10 e.tick not_feed (omega arith))
@@ -90,7 +90,7 @@ line_then names e rest = ap (λ t. t ++ rest) (line_spelled names e) ∙ append_
 pub unlined_lacks : (names : ImageNames) (rest : List ℕ) → Lacks 10 rest → (e : Event) (after : List ℕ) → IsTold names e → rest ≢ line_of names e ++ after
 unlined_lacks names rest l e after told same = cut_lacks 10 rest (spelled names e) after l (same ∙ line_then names e after)
 
-pub unlined : (names : ImageNames) (rest line more : List ℕ) → AreWords names → IsCutAt 10 rest line more → ((e : Event) → ¬ Tells names line e) → (e : Event) (after : List ℕ) → IsTold names e → rest ≢ line_of names e ++ after
+pub unlined : (names : ImageNames) (rest line more : List ℕ) → AreWordNames names → IsCutAt 10 rest line more → ((e : Event) → ¬ Tells names line e) → (e : Event) (after : List ℕ) → IsTold names e → rest ≢ line_of names e ++ after
 unlined names rest line more words cut none e after told same =
     let r = same_cut 10 rest line more (spelled names e) after cut (spelled_feed names e words told) (same ∙ line_then names e after) in
     none e (tells names line e told r.0)
@@ -131,7 +131,7 @@ faulty names text es rest line short told whole is some none = record {
   none = none;
 }
 
-pub faulty_names : (names : ImageNames) (text : List ℕ) → length text ≤ longest_text → 0 < length text → ¬ AreWords names → IsFaultyLine names text 1
+pub faulty_names : (names : ImageNames) (text : List ℕ) → length text ≤ longest_text → 0 < length text → ¬ AreWordNames names → IsFaultyLine names text 1
 faulty_names names text short some other =
     faulty names text [] text 1 short (λ k d below. absurd (omega arith)) (read_none names text) refl some (λ e after told same. other told.words)
 

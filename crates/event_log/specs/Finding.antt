@@ -1,14 +1,9 @@
 -- Numbers of names in maps.
-use Rattle.std.specs.Prelude.{◌≡◌, ◌≢◌, ◌<◌, ℕ, List, length, Option, Some, None, nat_eq}
+use Rattle.std.specs.Prelude.{◌≡◌, ◌≢◌, ◌<◌, ℕ, List, length, Option, Some, None}
 use Rattle.std.specs.Borrow.{Bor}
-use Rattle.std.specs.Map.{lookup}
-use Rattle.std.specs.Cmp.Lexicographic.{pointwise}
+use Rattle.image.specs.NameMaps.{number_in}
 use Rattle.event_log.specs.declared.find.NameIndex.{NameIndex}
 use Rattle.event_log.specs.Line.{condition_name, device_name, monitor_name, process_name}
-
--- the number of a name in a map
-abbrev pub number_in : List (Bor (List ℕ) × ℕ) → List ℕ → Option ℕ
-number_in entries name = lookup (λ key. pointwise nat_eq name key.now) entries
 
 -- below the count it is the number of something of this name, or there is none
 abbrev pub IsNumber : Option ℕ → ℕ → (ℕ → List ℕ) → List ℕ → Type 0

@@ -11,7 +11,7 @@ use Rattle.event_log.specs.declared.fault.LogFault.{LogFault}
 use Rattle.event_log.specs.declared.fault.LogFault.TheVariants.{Line, Long, Memory}
 
 -- each name is a word, and each condition stands in a monitor
-pub record AreWords (names : ImageNames) : Type 0 where
+pub record AreWordNames (names : ImageNames) : Type 0 where
   pub processes : All IsWord names.processes
   pub monitors : All IsWord names.monitors
   pub conditions : All (λ condition. IsWord condition.name) names.conditions
@@ -36,7 +36,7 @@ ActFits other = Unit {0}
 
 -- an event below tick 1,000,000,000 whose numbers are in range of names that are words
 pub record IsTold (names : ImageNames) (event : Event) : Type 0 where
-  pub words : AreWords names
+  pub words : AreWordNames names
   pub tick : event.tick < 1000000000
   pub process : event.proc < length names.processes
   pub act : ActIsIn names event.act

@@ -8,7 +8,7 @@ ghost use Rattle.image.specs.declared.names.ImageNames.{ImageNames as ImageNames
 ghost use Rattle.event_log.specs.InRange.{WokenIsIn};
 ghost use Rattle.event_log.specs.Line.{condition_name, device_name, truth_text, woken_name};
 ghost use Rattle.event_log.specs.Finding.{AreFound};
-ghost use Rattle.event_log.specs.Logs.{AreWords};
+ghost use Rattle.event_log.specs.Logs.{AreWordNames};
 ghost use Rattle.event_log.specs.Parts.{ActIsTold, IsSaid, IsUnsaid, act_words};
 
 use crate::find::{NameIndex, find_condition, find_device, find_monitor, find_process};
@@ -105,7 +105,7 @@ fn read_woken(names: &NameIndex<'_, '_>, word: &[u8]) -> Option<Woken>
 
 /// The device and the value that the bytes spell.
 fn read_transfer(names: &NameIndex<'_, '_>, bytes: &[u8]) -> Option<Transfer>
-    requires words { AreWords names.now.names.now }
+    requires words { AreWordNames names.now.names.now }
     requires found { AreFound names.now }
     ensures within { IfSome result (λ t. t.dev < length names.now.names.now.devices) }
     ensures found { IfSome result (λ t.
@@ -128,7 +128,7 @@ fn read_transfer(names: &NameIndex<'_, '_>, bytes: &[u8]) -> Option<Transfer>
 
 /// The condition that the bytes name, behind its monitor.
 fn read_condition(names: &NameIndex<'_, '_>, bytes: &[u8]) -> Option<u16>
-    requires words { AreWords names.now.names.now }
+    requires words { AreWordNames names.now.names.now }
     requires found { AreFound names.now }
     ensures within { IfSome result (λ c. c < length names.now.names.now.conditions) }
     ensures found { IfSome result (λ c. bytes.now ≡ condition_name names.now.names.now c) }
@@ -148,7 +148,7 @@ fn front_of<'a>(bytes: &'a [u8], first: &[u8], second: &[u8], rest: &[u8]) -> &'
 
 /// The condition that the bytes begin with, and what stands behind it and a space.
 fn read_asked<'a>(names: &NameIndex<'_, '_>, bytes: &'a [u8]) -> Option<Asked<'a>>
-    requires words { AreWords names.now.names.now }
+    requires words { AreWordNames names.now.names.now }
     requires found { AreFound names.now }
     ensures within { IfSome result (λ asked. asked.cond < length names.now.names.now.conditions) }
     ensures found { IfSome result (λ asked.
@@ -177,7 +177,7 @@ fn read_asked<'a>(names: &NameIndex<'_, '_>, bytes: &'a [u8]) -> Option<Asked<'a
 
 /// The condition and the number that the bytes spell.
 fn read_counted(names: &NameIndex<'_, '_>, bytes: &[u8]) -> Option<Counted>
-    requires words { AreWords names.now.names.now }
+    requires words { AreWordNames names.now.names.now }
     requires found { AreFound names.now }
     ensures within { IfSome result (λ it. it.cond < length names.now.names.now.conditions) }
     ensures found { IfSome result (λ it.
@@ -200,7 +200,7 @@ fn read_counted(names: &NameIndex<'_, '_>, bytes: &[u8]) -> Option<Counted>
 
 /// The condition and the process, if any, that the bytes spell.
 fn read_signal(names: &NameIndex<'_, '_>, bytes: &[u8]) -> Option<Signal>
-    requires words { AreWords names.now.names.now }
+    requires words { AreWordNames names.now.names.now }
     requires found { AreFound names.now }
     ensures within { IfSome result (λ it. it.cond < length names.now.names.now.conditions) }
     ensures woken { IfSome result (λ it. WokenIsIn names.now.names.now it.woken) }
@@ -228,7 +228,7 @@ fn read_signal(names: &NameIndex<'_, '_>, bytes: &[u8]) -> Option<Signal>
 
 /// The condition and the truth that the bytes spell.
 fn read_empty(names: &NameIndex<'_, '_>, bytes: &[u8]) -> Option<Empty>
-    requires words { AreWords names.now.names.now }
+    requires words { AreWordNames names.now.names.now }
     requires found { AreFound names.now }
     ensures within { IfSome result (λ it. it.cond < length names.now.names.now.conditions) }
     ensures found { IfSome result (λ it.
@@ -263,7 +263,7 @@ fn read_bare(verb: Verb) -> Option<Act>
 
 /// The act with this verb and these bytes behind it.
 fn read_args(names: &NameIndex<'_, '_>, verb: Verb, bytes: &[u8]) -> Option<Act>
-    requires words { AreWords names.now.names.now }
+    requires words { AreWordNames names.now.names.now }
     requires found { AreFound names.now }
     ensures found { IfSome result (λ a. IsSaid names.now.names.now verb (Some bytes.now) a) }
     ensures none { IfNone result (IsUnsaid names.now.names.now verb (Some bytes.now)) }
@@ -319,7 +319,7 @@ fn read_args(names: &NameIndex<'_, '_>, verb: Verb, bytes: &[u8]) -> Option<Act>
 
 /// The act that the bytes behind a process tell.
 pub fn read_act(names: &NameIndex<'_, '_>, bytes: &[u8]) -> Option<Act>
-    requires words { AreWords names.now.names.now }
+    requires words { AreWordNames names.now.names.now }
     requires found { AreFound names.now }
     ensures told { IfSome result (λ a. ActIsTold names.now.names.now a) }
     ensures found { IfSome result (λ a. bytes.now ≡ act_words names.now.names.now a) }

@@ -3,7 +3,7 @@
 ghost use Rattle.std.specs.Prelude.{IfSome, IfNone};
 ghost use Rattle.base.specs.declared.event.Event.{Event as Event_spec};
 ghost use Rattle.event_log.specs.Finding.{AreFound};
-ghost use Rattle.event_log.specs.Logs.{AreWords, Tells};
+ghost use Rattle.event_log.specs.Logs.{AreWordNames, Tells};
 
 use crate::act::read_act;
 use crate::find::{NameIndex, find_near};
@@ -16,7 +16,7 @@ const LAST_TICK: u64 = 999_999_999;
 /// The event that a line tells, which is given without its LF; None where it tells none. The
 /// process of the number is tried first.
 pub fn read_line(line: &[u8], names: &NameIndex<'_, '_>, near: u16) -> Option<Event>
-    requires words { AreWords names.now.names.now }
+    requires words { AreWordNames names.now.names.now }
     requires found { AreFound names.now }
     ensures found { IfSome result (λ event. Tells names.now.names.now line.now event) }
     ensures none { IfNone result ((event : Event_spec) →

@@ -2,8 +2,9 @@
 
 ghost use Rattle.std.specs.Prelude.{◌≡◌, ◌≤◌, ◌<◌, ◌^◌, ◌++◌, ℕ, [], ◌∷◌, length, slice_get, unwrap_or, IfOk, OnOk};
 ghost use Rattle.event_log.specs.Line.{condition_name, device_name, monitor_name};
-ghost use Rattle.event_log.specs.Logs.{AreFew, AreWords};
-ghost use Rattle.event_log.specs.Finding.{AreNumbers, number_in};
+ghost use Rattle.event_log.specs.Logs.{AreFew, AreWordNames};
+ghost use Rattle.image.specs.NameMaps.{number_in};
+ghost use Rattle.event_log.specs.Finding.{AreNumbers};
 
 use image::{ConditionName, ImageNames};
 use indexmap::IndexMap;
@@ -71,7 +72,7 @@ fn qualified_name(alloc: Global, monitor: &[u8], name: &[u8]) -> Result<Name, Al
 
 /// The names of the conditions behind those of their monitors.
 pub fn qualified_names(alloc: Global, names: &ImageNames) -> Result<List<Name>, AllocError>
-    requires words { AreWords names.now }
+    requires words { AreWordNames names.now }
     ensures len { IfOk result (λ texts. length texts ≡ length names.now.conditions) }
     ensures each { IfOk result (λ texts. (k : ℕ) → k < length names.now.conditions →
         unwrap_or (slice_get texts k) [] ≡ condition_name names.now k) }

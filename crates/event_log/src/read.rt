@@ -3,7 +3,7 @@
 ghost use Rattle.std.specs.Prelude.{◌≡◌, ◌<◌, ◌≤◌, ◌⊎◌, IfOk, IfErr, length};
 ghost use Rattle.event_log.specs.declared.fault.LogFault.TheVariants.{Long, Memory};
 ghost use Rattle.event_log.specs.Finding.{AreFound};
-ghost use Rattle.event_log.specs.Logs.{AreFew, AreWords, IsFault, IsLog, longest_text};
+ghost use Rattle.event_log.specs.Logs.{AreFew, AreWordNames, IsFault, IsLog, longest_text};
 
 use crate::fault::LogFault;
 use crate::find::NameIndex;
@@ -26,7 +26,7 @@ fn read_lines(
     names: &NameIndex<'_, '_>,
 ) -> Result<List<Event>, LogFault>
     requires short { length text.now ≤ longest_text }
-    requires words { AreWords names.now.names.now }
+    requires words { AreWordNames names.now.names.now }
     requires found { AreFound names.now }
     ensures log { IfOk result (λ events. IsLog names.now.names.now text.now events) }
     ensures fault { IfErr result (λ fault.

@@ -2,7 +2,7 @@
 
 ghost use Rattle.std.specs.Prelude.{◌≡◌, ◌<◌, true, false, length, All};
 ghost use Rattle.text_fields.specs.Fields.{IsWord};
-ghost use Rattle.event_log.specs.Logs.{AreWords};
+ghost use Rattle.event_log.specs.Logs.{AreWordNames};
 
 use image::{ConditionName, DeviceName, ImageNames};
 use syntax_tree::Name;
@@ -73,8 +73,8 @@ fn are_devices(list: &[DeviceName]) -> bool
 
 /// Whether each name is a word, without spaces and LF, and each condition stands in a monitor.
 pub fn are_words(names: &ImageNames) -> bool
-    ensures yes { result ≡ true → AreWords names.now }
-    ensures no { result ≡ false → ¬ AreWords names.now }
+    ensures yes { result ≡ true → AreWordNames names.now }
+    ensures no { result ≡ false → ¬ AreWordNames names.now }
 {
     if !are_names(names.processes.as_slice()) {
         return false;

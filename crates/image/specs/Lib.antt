@@ -2,4 +2,5 @@ pub mod Named
 pub mod Raw
 pub mod Bytes
 pub mod InRange
+pub mod NameMaps
 pub mod Example

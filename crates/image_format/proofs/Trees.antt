@@ -32,7 +32,7 @@ seg_write numbers sub Wait = 6 ∷ []
 seg_write numbers sub Exit = 7 ∷ []
 
 -- the numbers of segments are read as they are written
-pub record AreSound (numbers : SegNumbers) : Type 0 where
+pub record AreSoundNumbers (numbers : SegNumbers) : Type 0 where
   pub lines : IsSound numbers.lines
   pub turns : IsSound numbers.turns
   pub monitors : IsSound numbers.monitors
@@ -40,7 +40,7 @@ pub record AreSound (numbers : SegNumbers) : Type 0 where
   pub as_turns : (n : ℕ) → numbers.turns.write n ≡ written.u32 n
   pub as_lines : (n : ℕ) → numbers.lines.write n ≡ written.u32 n
 
-module _ (numbers : SegNumbers) (are_sound : AreSound numbers) (sub : Format Segs) (sound : IsSound sub) where
+module _ (numbers : SegNumbers) (are_sound : AreSoundNumbers numbers) (sub : Format Segs) (sound : IsSound sub) where
   abbrev one : Format Seg
   one = record { write = seg_write numbers sub; is = seg_is numbers sub; read = seg_read numbers sub }
 
@@ -276,13 +276,13 @@ tree_write_is numbers zero tree = refl
 tree_write_is numbers (suc depth) tree = refl
 
 -- a tree is read as it is written where its numbers are
-pub tree_sound_of : (numbers : SegNumbers) → AreSound numbers → (depth : ℕ) → IsSound (tree_format numbers depth)
+pub tree_sound_of : (numbers : SegNumbers) → AreSoundNumbers numbers → (depth : ℕ) → IsSound (tree_format numbers depth)
 unfolding tree_format
 tree_sound_of numbers are_sound zero = too_deep_sound
 tree_sound_of numbers are_sound (suc depth) = row_sound numbers are_sound (tree_format numbers depth) (tree_sound_of numbers are_sound depth) (tree_write_is numbers depth)
 
 -- so are those within limits
-limits_sound : (l : Limits) → AreSound (within_limits l)
+limits_sound : (l : Limits) → AreSoundNumbers (within_limits l)
 limits_sound l = record {
   lines = checked_sound u32 (within l.least_line l.most_line) u32_sound;
   turns = checked_sound u32 (within l.least_turns l.most_turns) u32_sound;

@@ -31,9 +31,9 @@ module _ (key count : ℕ) (g : Prog Place) (same : plain g ≡ load key count) 
   no_routine : (place : Place) → ¬ RoutineTooLarge g place
   no_routine place large =
       let t = plain_text large.text in
-      let all : map plain_text (rules.texts_from 0 0 g.decls) ≡ texts_from 0 0 (load key count).decls =
+      let all : map plain_text (rules.placed_texts_from 0 0 g.decls) ≡ texts_from 0 0 (load key count).decls =
       texts_are 0 0 g.decls ∙ ap (λ (h : plain_of.Program). texts_from 0 0 h.decls) same in
-      let there = subst (λ (ts : List Text). Contains ts t) all (in_map plain_text (rules.texts_from 0 0 g.decls) large.text large.listed) in
+      let there = subst (λ (ts : List Text). Contains ts t) all (in_map plain_text (rules.placed_texts_from 0 0 g.decls) large.text large.listed) in
       let low = All-contains (IsLow (load key count)) (texts_from 0 0 (load key count).decls) t (all_low key count) there in
       omega (arith, large.over, ap (λ h. routine_stack h t.owner t.routine) same, low)
 

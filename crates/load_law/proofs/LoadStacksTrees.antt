@@ -25,21 +25,21 @@ processes_are (process p ∷ ds) = ap (λ (ps : List plain_of.Process). plain_pr
 
 -- ---- routines
 
-texts_of_are : (o : Owner) (rs : List (Routine Place)) → map plain_text (rules.texts_of o rs) ≡ texts_of o (map plain_routine rs)
+texts_of_are : (o : Owner) (rs : List (Routine Place)) → map plain_text (rules.placed_texts_of o rs) ≡ texts_of o (map plain_routine rs)
 texts_of_are o [] = refl
 texts_of_are o (r ∷ rs) = ap (λ (ts : List Text). record { owner = o; routine = plain_routine r } ∷ ts) (texts_of_are o rs)
 
-both_are : (o : Owner) (rs : List (Routine Place)) (ts : List rules.Text) (us : List Text) → map plain_text ts ≡ us
-    → map plain_text (rules.texts_of o rs ++ ts) ≡ texts_of o (map plain_routine rs) ++ us
+both_are : (o : Owner) (rs : List (Routine Place)) (ts : List rules.PlacedText) (us : List Text) → map plain_text ts ≡ us
+    → map plain_text (rules.placed_texts_of o rs ++ ts) ≡ texts_of o (map plain_routine rs) ++ us
 both_are o rs ts us others =
     let own = texts_of_are o rs in
-    map-append plain_text (rules.texts_of o rs) ts ∙ (λ i. own i ++ others i)
+    map-append plain_text (rules.placed_texts_of o rs) ts ∙ (λ i. own i ++ others i)
 
-pub texts_are : (k m : ℕ) (ds : List (Decl Place)) → map plain_text (rules.texts_from k m ds) ≡ texts_from k m (map plain_decl ds)
+pub texts_are : (k m : ℕ) (ds : List (Decl Place)) → map plain_text (rules.placed_texts_from k m ds) ≡ texts_from k m (map plain_decl ds)
 texts_are k m [] = refl
 texts_are k m (constant n p c ∷ ds) = texts_are k m ds
 texts_are k m (device n p o ∷ ds) = texts_are k m ds
 texts_are k m (event n p ∷ ds) = texts_are k m ds
 texts_are k m (routine r ∷ ds) = ap (λ (ts : List Text). record { owner = by_program; routine = plain_routine r } ∷ ts) (texts_are k m ds)
-texts_are k m (monitor d ∷ ds) = both_are (by_monitor m) d.entries (rules.texts_from k (suc m) ds) (texts_from k (suc m) (map plain_decl ds)) (texts_are k (suc m) ds)
-texts_are k m (process p ∷ ds) = both_are (by_process k) p.routines (rules.texts_from (suc k) m ds) (texts_from (suc k) m (map plain_decl ds)) (texts_are (suc k) m ds)
+texts_are k m (monitor d ∷ ds) = both_are (by_monitor m) d.entries (rules.placed_texts_from k (suc m) ds) (texts_from k (suc m) (map plain_decl ds)) (texts_are k (suc m) ds)
+texts_are k m (process p ∷ ds) = both_are (by_process k) p.routines (rules.placed_texts_from (suc k) m ds) (texts_from (suc k) m (map plain_decl ds)) (texts_are (suc k) m ds)

@@ -4,7 +4,7 @@ use Rattle.std.proofs.lemmas.Bool.{cases_lt}
 use Rattle.base.proofs.Numbers.{not_before_itself, before_along, one_before}
 use Rattle.sched_response.proofs.Counting.{count_lt, count_less}
 use Rattle.machine_semantics.specs.Image.{Image}
-use Rattle.valid_image.specs.Times.{deadline_at, outranks, rank_of}
+use Rattle.valid_image.specs.Times.{deadline_at, process_outranks, rank_of}
 
 module _ (image : Image) where
   abbrev due : ℕ → ℕ
@@ -13,13 +13,13 @@ module _ (image : Image) where
   abbrev many : ℕ
   many = length image.processes
 
-  rank_less : (j k : ℕ) → j < many → outranks image j k ≡ true → rank_of image j < rank_of image k
+  rank_less : (j k : ℕ) → j < many → process_outranks image j k ≡ true → rank_of image j < rank_of image k
   rank_less j k below higher =
-      let more = count_lt (λ i. outranks image i j) (λ i. outranks image i k) many j (λ i low before. before_along (due i) (due j) (due k) i j k before higher) below (not_before_itself (due j) j) higher in
+      let more = count_lt (λ i. process_outranks image i j) (λ i. process_outranks image i k) many j (λ i low before. before_along (due i) (due j) (due k) i j k before higher) below (not_before_itself (due j) j) higher in
       omega (arith, more)
 
   pub rank_high : (k : ℕ) → k < many → rank_of image k ≤ many
-  rank_high k below = let less = count_less (λ i. outranks image i k) many k below (not_before_itself (due k) k) in omega (arith, less)
+  rank_high k below = let less = count_less (λ i. process_outranks image i k) many k below (not_before_itself (due k) k) in omega (arith, less)
 
   apart : (i l : ℕ) → i < many → l < many → i < l → rank_of image i ≡ rank_of image l → ⊥
   apart i l low_i low_l less same = elim (one_before (due i) (due l) i l less) [

@@ -12,7 +12,7 @@ use Rattle.static_rule.specs.Parts.{FailsAmong}
 use Rattle.static_declarations.specs.Values.{value}
 use Rattle.static_numbers.specs.Types.{decls_bounds, members_bounds, routines_bounds, kind_bounds}
 use Rattle.static_numbers.specs.Processes.{all_handled}
-use Rattle.static_numbers.specs.Counts.{process_places, monitor_places, conditions, member_conditions, routine_places, one_too_many, at_none, words, members_words, kind_words, too_many_words}
+use Rattle.static_numbers.specs.Counts.{process_places, monitor_places, conditions, member_conditions, routine_places, one_too_many, at_none, words, members_words, placed_kind_size, too_many_words}
 use Rattle.static_numbers.specs.Rules.{LimitFails, bounds_rules, process_rules, event_rules, handler_rules, count_rules}
 use Rattle.load.specs.Program.{load_program}
 use Rattle.load_text_law.proofs.Shapes.{HasShape, has_shape, AreLoad}
@@ -91,7 +91,7 @@ module _ (key count : ℕ) (some : 1 ≤ count) (few : count ≤ 64) (g : Prog P
   its_words =
       let rest = words (value g) own in
       ap (words (value g)) s.is ∙ ap (λ (ms : List (Member Place)). members_words (value g) ms + rest) members.is
-      ∙ ap (λ (k : Kind Place). (kind_words (value g) k + 0) + rest) members.whole ∙ ap (λ n. (1 + 0) + n) (ps.one_word_each key count (value g) s.list s.are)
+      ∙ ap (λ (k : Kind Place). (placed_kind_size (value g) k + 0) + rest) members.whole ∙ ap (λ n. (1 + 0) + n) (ps.one_word_each key count (value g) s.list s.are)
 
   few_words : too_many_words (value g) g ≡ None
   few_words =

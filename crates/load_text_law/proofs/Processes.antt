@@ -11,7 +11,7 @@ use Rattle.static_rule.specs.Parts.{FailsAmong}
 use Rattle.static_declarations.specs.Values.{Worth, value, constant_place, is_within, out_of}
 use Rattle.static_numbers.specs.Types.{decls_bounds, vars_bounds, routines_bounds, kind_bounds}
 use Rattle.static_numbers.specs.Processes.{frame_of, deadline_of, bad_limit, bad_start, Handled, handled, handler_numbers, all_handled}
-use Rattle.static_numbers.specs.Counts.{words, vars_words, kind_words}
+use Rattle.static_numbers.specs.Counts.{words, vars_words, placed_kind_size}
 use Rattle.static_numbers.specs.Rules.{process_rules, handler_rules}
 use Rattle.load.specs.declared.program.DrawnProcess.{DrawnProcess}
 use Rattle.load.specs.Draws.{below, draw}
@@ -154,5 +154,5 @@ module _ (key count : ℕ) where
   one_word_each worth (p ∷ ps) (one_more _ _ same are) =
       let it = one_int p.vars (codes "x") (ap (λ x. x.vars) same) in
       let own : vars_words worth p.vars ≡ 1 + 0 =
-      ap (λ (vs : List (Var Place)). vars_words worth vs) it.is ∙ ap (λ (k : Kind Place). kind_words worth k + 0) it.whole in
+      ap (λ (vs : List (Var Place)). vars_words worth vs) it.is ∙ ap (λ (k : Kind Place). placed_kind_size worth k + 0) it.whole in
       omega (arith, own, one_word_each worth ps are)

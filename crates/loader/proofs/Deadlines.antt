@@ -16,7 +16,7 @@ use Rattle.loader_code.proofs.Sweeping.{pieces_long}
 use Rattle.loader_code.proofs.Tables.{stay_row, stay_rows}
 use Rattle.std.proofs.Math.ListN.{length-append}
 use Rattle.base.proofs.Lists.{map_get, one_more}
-use Rattle.valid_image.specs.Times.{deadline_of, deadline_at, outranks, ticks_of, blocking_stay, blocking_by, longest_blocking, enters, is_some}
+use Rattle.valid_image.specs.Times.{deadline_of, deadline_at, process_outranks, ticks_of, blocking_stay, blocking_by, longest_blocking, enters, is_some}
 use Rattle.loader.specs.Stays.{AreStays, AreStaysOfRoutines, AreFirstStays, stay_in, blocking_at, blocking_of}
 
 process_is : (image : RawImage) (k : ℕ) (p : RawProcess) → k < length image.processes → p ≡ get_or image.processes k p → slice_get (image_of image).processes k ≡ Some (process_of p)
@@ -26,7 +26,7 @@ deadline_is : (image : RawImage) (k : ℕ) (p : RawProcess) → k < length image
 deadline_is image k p low is = ap (λ o. deadline_of o) (process_is image k p low is)
 
 pub outranks_is : (image : RawImage) (j k : ℕ) (p q : RawProcess) → j < length image.processes → k < length image.processes → p ≡ get_or image.processes j p → q ≡ get_or image.processes k q
-    → outranks (image_of image) j k ≡ (nat_lt p.deadline q.deadline || (nat_eq p.deadline q.deadline && nat_lt j k))
+    → process_outranks (image_of image) j k ≡ (nat_lt p.deadline q.deadline || (nat_eq p.deadline q.deadline && nat_lt j k))
 outranks_is image j k p q low_j low_k is_p is_q =
     ap (λ d. nat_lt d (deadline_at (image_of image) k) || (nat_eq d (deadline_at (image_of image) k) && nat_lt j k)) (deadline_is image j p low_j is_p)
     ∙ ap (λ d. nat_lt p.deadline d || (nat_eq p.deadline d && nat_lt j k)) (deadline_is image k q low_k is_q)

@@ -1,12 +1,12 @@
 -- Helpers to show that given code is of its tree.
 use Rattle.std.proofs.Common.{◌≡◌, ◌≤◌, ℕ, arith, refl, sym}
 use Rattle.machine_semantics.specs.Image.{Process}
-use Rattle.machine_safety_spec.specs.Walk.{Cost, Covers}
+use Rattle.machine_safety_spec.specs.Walk.{WalkCost, Covers}
 use Rattle.machine_safety_spec.specs.Safe.{IsOwn}
 use Rattle.machine_safety.specs.Example.{own_part}
 
 -- a cost covers itself
-pub exact : {c : Cost} → Covers c c.run c.susp c.waits c.leave
+pub exact : {c : WalkCost} → Covers c c.run c.susp c.waits c.leave
 exact = record { run = omega arith; susp = omega arith; waits = omega arith; leave = omega arith }
 
 -- a part of a process without locals or words

@@ -10,7 +10,7 @@ use Rattle.machine_semantics.specs.Effect.{Own, Outcome, Goes, Does, Signals, Br
 use Rattle.machine_semantics.specs.Starts.{raised, queue_of, starts}
 use Rattle.machine_semantics.specs.Tick.{Candidate, least, pick, first, settle, outcome, owned_of, run_thread, run_picked, tick}
 use Rattle.machine_safety_spec.specs.Part.{Part}
-use Rattle.machine_safety_spec.specs.Walk.{Where, Cost, Reaches, within}
+use Rattle.machine_safety_spec.specs.Walk.{Where, WalkCost, Reaches, within}
 use Rattle.machine_safety_spec.specs.Safe.{Parts, ImageFits, Ticks, TickFits, part_of}
 use Rattle.machine_safety_spec.specs.Whole.{ThreadFits, StateFits}
 use Rattle.machine_safety_spec.specs.Stays.{StaysIn, StayBegins, EntersFree}
@@ -33,7 +33,7 @@ module _ (e : Where) (ps : ℕ → Parts) (image_fits : ImageFits e ps) where
   outside_still k m n u job at outside new now inside =
       absurd (let same : job ≡ new = (let both : Some (Ready job) ≡ Some (Ready new) = sym at ∙ now in cc) in let none : None ≡ Some m = sym outside ∙ ap (λ (x : Job). x.inside) same ∙ inside in cc)
 
-  settle_enters : (t : ℕ) (s : State) (k m : ℕ) (p : Process) (job : Job) (left : Cost) (out : Outcome) → slice_get e.image.processes k ≡ Some p → slice_get s.threads k ≡ Some (Ready job)
+  settle_enters : (t : ℕ) (s : State) (k m : ℕ) (p : Process) (job : Job) (left : WalkCost) (out : Outcome) → slice_get e.image.processes k ≡ Some p → slice_get s.threads k ≡ Some (Ready job)
       → TickFits e p (ps k) job (owned_of (slice_get s.owned k)) s.shared left out → job.dispatch_ticks ≡ 0 → job.inside ≡ None
       → Entered k m (part_of (ps k) job.handling) (settle e.image t k p job s out).state
   unfolding Entered

@@ -11,7 +11,7 @@ use Rattle.machine_isa.specs.Ticks.{ticks}
 use Rattle.machine_isa.specs.Operands.{takes, gives}
 use Rattle.machine_safety_spec.specs.Part.{Kind, Plain, Counts, kinds, plains, IsSized}
 use Rattle.machine_safety_spec.specs.SafeTerms.{GoesOn, After, IsIn}
-use Rattle.machine_safety_spec.specs.Walk.{Where, Cost, Covers, At, IsLine, Walk, Walks}
+use Rattle.machine_safety_spec.specs.Walk.{Where, WalkCost, Covers, At, IsLine, Walk, Walks}
 use Rattle.machine_safety_spec.specs.Path.{Step, Segment, Skip, Again, Leaves, under, held, then_rest, Follows, Frame, Moved, next_own}
 use Rattle.machine_safety.proofs.Plain.{plain_is_safe, one_goes}
 use Rattle.machine_safety.proofs.Lists.{plains_add, length-plains, under_then, held_then}
@@ -30,15 +30,15 @@ goes_map P Q Stuck f g = absurd g
 abbrev pub IsInside : Where → List Step → Own → Type 0
 IsInside e path o = (e.part.monitor ≡ None) ⊎ (o.job.inside ≡ held path)
 
-pub framed : (e : Where) (path : List Step) (out : Option ℕ) (at h : ℕ) (c : Cost) (p : Own) → Follows e out path at h c → p.job.place ≡ at
+pub framed : (e : Where) (path : List Step) (out : Option ℕ) (at h : ℕ) (c : WalkCost) (p : Own) → Follows e out path at h c → p.job.place ≡ at
     → kinds p.job.operands ≡ plains h (under path) → length (plains h (under path)) ≤ e.part.depth → IsIn e.part p → Frame e path out h c p
 framed e path out at h c p f is ops room words = record { follows = subst (λ (a : ℕ). Follows e out path a h c) (sym is) f; operands = ops; room = room; words = words }
 
 -- a greater cost covers too
-more_covers : (c d : Cost) (r s w l : ℕ) → Covers c r s w l → Covers d c.run c.susp c.waits c.leave → Covers d r s w l
+more_covers : (c d : WalkCost) (r s w l : ℕ) → Covers c r s w l → Covers d c.run c.susp c.waits c.leave → Covers d r s w l
 more_covers c d r s w l b more = record { run = omega (arith, b, more); susp = omega (arith, b, more); waits = omega (arith, b, more); leave = omega (arith, b, more) }
 
-pub follows_at_more : (e : Where) (out : Option ℕ) (path : List Step) (at h : ℕ) (c d : Cost) → Follows e out path at h c → Covers d c.run c.susp c.waits c.leave → Follows e out path at h d
+pub follows_at_more : (e : Where) (out : Option ℕ) (path : List Step) (at h : ℕ) (c d : WalkCost) → Follows e out path at h c → Covers d c.run c.susp c.waits c.leave → Follows e out path at h d
 follows_at_more e out [] at h c d f more = record { no_loop = f.no_loop; ends = f.ends; height = f.height; covers = more_covers c d _ _ _ _ f.covers more }
 follows_at_more e out (Segment seg ∷ rest) at h c d f more = record { next = f.next; k = f.k; first = f.first; later = f.later; walk = f.walk; more = f.more; covers = more_covers c d _ _ _ _ f.covers more }
 follows_at_more e out (Skip to ∷ rest) at h c d f more = record { jumps = f.jumps; later = f.later; more = f.more; covers = more_covers c d _ _ _ _ f.covers more }
@@ -47,14 +47,14 @@ follows_at_more e out (Again turns start body height ∷ rest) at h c d f more =
 follows_at_more e out (Leaves m ∷ rest) at h c d f more = record { no_loop = f.no_loop; leaves = f.leaves; entry = f.entry; outside = f.outside; later = f.later; more = f.more; covers = more_covers c d _ _ _ _ f.covers more }
 
 -- segments and what follows them
-pub follows_then : (e : Where) (out : Option ℕ) (segs : Segs) (rest : List Step) (at next h k : ℕ) (first later c : Cost)
+pub follows_then : (e : Where) (out : Option ℕ) (segs : Segs) (rest : List Step) (at next h k : ℕ) (first later c : WalkCost)
     → Walks e out (held rest) (length (under rest)) segs at next h k first → Follows e out rest next k later
     → Covers c (first.run + later.run) (first.susp + later.susp) (first.waits + later.waits) (first.leave + later.leave) → Follows e out (then_rest segs rest) at h c
 follows_then e out Nil rest at next h k first later c walks follows covers =
     subst (λ (a : ℕ). Follows e out rest a h c) walks.0 (subst (λ (g : ℕ). Follows e out rest next g c) walks.1
     (follows_at_more e out rest next k later c follows (record { run = omega (arith, covers); susp = omega (arith, covers); waits = omega (arith, covers); leave = omega (arith, covers) })))
 follows_then e out (Cons head more) rest at next h k first later c walks follows covers =
-    let c' : Cost = record { run = walks.later.run + later.run; susp = walks.later.susp + later.susp; waits = walks.later.waits + later.waits; leave = walks.later.leave + later.leave } in
+    let c' : WalkCost = record { run = walks.later.run + later.run; susp = walks.later.susp + later.susp; waits = walks.later.waits + later.waits; leave = walks.later.leave + later.leave } in
     record {
       next = walks.mid;
       k = walks.between;
@@ -67,7 +67,7 @@ follows_then e out (Cons head more) rest at next h k first later c walks follows
     }
 
 -- steps take at least the last instruction
-pub at_least_end : (e : Where) (path : List Step) (out : Option ℕ) (at h : ℕ) (c : Cost) → Follows e out path at h c → 4 ≤ c.run
+pub at_least_end : (e : Where) (path : List Step) (out : Option ℕ) (at h : ℕ) (c : WalkCost) → Follows e out path at h c → 4 ≤ c.run
 at_least_end e [] out at h c f = f.covers.run
 at_least_end e (Segment seg ∷ rest) out at h c f = omega (arith, f.covers, at_least_end e rest out f.next f.k f.later f.more)
 at_least_end e (Skip to ∷ rest) out at h c f = omega (arith, f.covers, at_least_end e rest out to h f.later f.more)
@@ -75,13 +75,13 @@ at_least_end e (Again turns start body height ∷ rest) out at h c f = omega (ar
 at_least_end e (Leaves m ∷ rest) out at h c f = omega (arith, f.covers, at_least_end e rest out (at + 1) h f.later f.more)
 
 -- what one instruction within a frame comes to; a raise leaves time for an END
-abbrev pub Moves : Where → State → List Step → Cost → Own → Type 0
+abbrev pub Moves : Where → State → List Step → WalkCost → Own → Type 0
 Moves e s path c o = (instr : Instr) × At e o.job.place instr × (4 + ticks instr ≤ c.run) × (ticks instr ≤ c.leave) × GoesOn (Moved e path c (ticks instr) o) (effect e.image s instr (next_own o))
 
 -- ---- a Line
 
 -- an instruction that leaves the operands, and a frame that goes on at the next place
-after_plain : (e : Where) (path new : List Step) (out : Option ℕ) (h : ℕ) (c d : Cost) (n : ℕ) (o p : Own) → IsIn e.part o → After (next_own o) (plains h (under new)) p
+after_plain : (e : Where) (path new : List Step) (out : Option ℕ) (h : ℕ) (c d : WalkCost) (n : ℕ) (o p : Own) → IsIn e.part o → After (next_own o) (plains h (under new)) p
     → Follows e out new (o.job.place + 1) h d → length (plains h (under new)) ≤ e.part.depth → held new ≡ held path → Covers c (d.run + n) d.susp d.waits (d.leave + n) → Moved e path c n o p
 after_plain e path new out h c d n o p words a follows room same less = record {
   new_path = new;
@@ -115,7 +115,7 @@ unfolding rest_of_line
 held_rest zero rest = refl
 held_rest (suc n) rest = refl
 
-follows_line : (e : Where) (out : Option ℕ) (n : ℕ) (rest : List Step) (at next h k : ℕ) (first later : Cost)
+follows_line : (e : Where) (out : Option ℕ) (n : ℕ) (rest : List Step) (at next h k : ℕ) (first later : WalkCost)
     → held rest ≡ e.part.monitor → IsLine e (length (under rest)) n at next h k first → Follows e out rest next k later
     → Follows e out (rest_of_line n rest) at h (record { run = first.run + later.run; susp = first.susp + later.susp; waits = first.waits + later.waits; leave = first.leave + later.leave })
 unfolding rest_of_line
@@ -126,7 +126,7 @@ follows_line e out zero rest at next h k first later inside line follows =
 follows_line e out (suc n) rest at next h k first later inside line follows =
     record { next = next; k = k; first = first; later = later; walk = (inside, line); more = follows; covers = record { run = omega arith; susp = omega arith; waits = omega arith; leave = omega arith } }
 
-pub at_line : (e : Where) (s : State) (n : ℕ) (rest : List Step) (out : Option ℕ) (h : ℕ) (c : Cost) (o : Own)
+pub at_line : (e : Where) (s : State) (n : ℕ) (rest : List Step) (out : Option ℕ) (h : ℕ) (c : WalkCost) (o : Own)
     → IsSized e.image s o.shared → IsInside e (Segment (Line (suc n)) ∷ rest) o → Frame e (Segment (Line (suc n)) ∷ rest) out h c o
     → Moves e s (Segment (Line (suc n)) ∷ rest) c o
 at_line e s n rest out h c o sized inside f =
@@ -135,7 +135,7 @@ at_line e s n rest out h c o sized inside f =
     let entered : (e.part.monitor ≡ None) ⊎ (o.job.inside ≡ e.part.monitor) = elim inside [ inl none ↦ inl none | inr is ↦ inr (is ∙ f.follows.walk.0) ] in
     let ops : kinds o.job.operands ≡ plains (takes line.instr) (plains line.kept (under rest)) =
     f.operands ∙ (ap (λ g. plains g (under rest)) line.taken ∙ plains_add (takes line.instr) line.kept (under rest)) in
-    let left : Cost = record { run = line.later.run + f.follows.later.run; susp = line.later.susp + f.follows.later.susp; waits = line.later.waits + f.follows.later.waits; leave = line.later.leave + f.follows.later.leave } in
+    let left : WalkCost = record { run = line.later.run + f.follows.later.run; susp = line.later.susp + f.follows.later.susp; waits = line.later.waits + f.follows.later.waits; leave = line.later.leave + f.follows.later.leave } in
     let new : List Step = rest_of_line n rest in
     let h' : ℕ = gives line.instr + line.kept in (
       line.instr,
@@ -158,7 +158,7 @@ at_line e s n rest out h c o sized inside f =
 abbrev pub stand : Own → ℕ → List Operand → Own
 stand o at operands = record o { job = record (o.job) { place = at; done = 0; operands = operands } }
 
-moved_to : (e : Where) (path new : List Step) (out : Option ℕ) (at h : ℕ) (c d : Cost) (n : ℕ) (o : Own) (os : List Operand) → IsIn e.part o
+moved_to : (e : Where) (path new : List Step) (out : Option ℕ) (at h : ℕ) (c d : WalkCost) (n : ℕ) (o : Own) (os : List Operand) → IsIn e.part o
     → Follows e out new at h d → kinds os ≡ plains h (under new) → length (plains h (under new)) ≤ e.part.depth → held new ≡ held path → Covers c (d.run + n) d.susp d.waits (d.leave + n)
     → Moved e path c n o (stand o at os)
 moved_to e path new out at h c d n o os words follows ops room same less = record {
@@ -182,7 +182,7 @@ either : (P : Own → Type 0) (b : Bool) (x y : Outcome) → GoesOn P x → Goes
 either P true x y p q = p
 either P false x y p q = q
 
-pub at_fork : (e : Where) (s : State) (first second : Segs) (rest : List Step) (out : Option ℕ) (h : ℕ) (c : Cost) (o : Own)
+pub at_fork : (e : Where) (s : State) (first second : Segs) (rest : List Step) (out : Option ℕ) (h : ℕ) (c : WalkCost) (o : Own)
     → Frame e (Segment (Fork first second) ∷ rest) out h c o → Moves e s (Segment (Fork first second) ∷ rest) c o
 at_fork e s first second rest out h c o f =
     let path : List Step = Segment (Fork first second) ∷ rest in
@@ -194,9 +194,9 @@ at_fork e s first second rest out h c o f =
     let new2 : List Step = then_rest second rest in
     let u1 : under new1 ≡ under rest = under_then first skipped in
     let u2 : under new2 ≡ under rest = under_then second rest in
-    let skip_cost : Cost = record { run = 1 + f.follows.later.run; susp = f.follows.later.susp; waits = f.follows.later.waits; leave = 1 + f.follows.later.leave } in
-    let d1 : Cost = record { run = w.first_cost.run + skip_cost.run; susp = w.first_cost.susp + skip_cost.susp; waits = w.first_cost.waits + skip_cost.waits; leave = w.first_cost.leave + skip_cost.leave } in
-    let d2 : Cost = record { run = w.second_cost.run + f.follows.later.run; susp = w.second_cost.susp + f.follows.later.susp; waits = w.second_cost.waits + f.follows.later.waits; leave = w.second_cost.leave + f.follows.later.leave } in
+    let skip_cost : WalkCost = record { run = 1 + f.follows.later.run; susp = f.follows.later.susp; waits = f.follows.later.waits; leave = 1 + f.follows.later.leave } in
+    let d1 : WalkCost = record { run = w.first_cost.run + skip_cost.run; susp = w.first_cost.susp + skip_cost.susp; waits = w.first_cost.waits + skip_cost.waits; leave = w.first_cost.leave + skip_cost.leave } in
+    let d2 : WalkCost = record { run = w.second_cost.run + f.follows.later.run; susp = w.second_cost.susp + f.follows.later.susp; waits = w.second_cost.waits + f.follows.later.waits; leave = w.second_cost.leave + f.follows.later.leave } in
     let f1 : Follows e out new1 (o.job.place + 1) w.below d1 =
     follows_then e out first skipped (o.job.place + 1) w.jump w.below f.follows.k w.first_cost skip_cost d1 w.first_arm
     (record { jumps = w.jumps; later = f.follows.later; more = f.follows.more; covers = record { run = omega arith; susp = omega arith; waits = omega arith; leave = omega arith } })
@@ -220,7 +220,7 @@ at_fork e s first second rest out h c o f =
           (record { run = omega (arith, f.follows.covers, w.covers_first); susp = omega (arith, f.follows.covers, w.covers_first); waits = omega (arith, f.follows.covers, w.covers_first); leave = omega (arith, f.follows.covers, w.covers_first) }))),
     )
 
-pub at_skip : (e : Where) (s : State) (to : ℕ) (rest : List Step) (out : Option ℕ) (h : ℕ) (c : Cost) (o : Own)
+pub at_skip : (e : Where) (s : State) (to : ℕ) (rest : List Step) (out : Option ℕ) (h : ℕ) (c : WalkCost) (o : Own)
     → Frame e (Skip to ∷ rest) out h c o → Moves e s (Skip to ∷ rest) c o
 at_skip e s to rest out h c o f = (
   i.Jump (pos to),
@@ -231,12 +231,12 @@ at_skip e s to rest out h c o f = (
       (record { run = omega (arith, f.follows.covers); susp = omega (arith, f.follows.covers); waits = omega (arith, f.follows.covers); leave = omega (arith, f.follows.covers) }),
 )
 
-pub at_rep : (e : Where) (s : State) (n : ℕ) (body : Segs) (rest : List Step) (out : Option ℕ) (h : ℕ) (c : Cost) (o : Own)
+pub at_rep : (e : Where) (s : State) (n : ℕ) (body : Segs) (rest : List Step) (out : Option ℕ) (h : ℕ) (c : WalkCost) (o : Own)
     → Frame e (Segment (Rep (suc n) body) ∷ rest) out h c o → Moves e s (Segment (Rep (suc n) body) ∷ rest) c o
 at_rep e s n body rest out h c o f =
     let path : List Step = Segment (Rep (suc n) body) ∷ rest in
     let w : Walk e out (held rest) (length (under rest)) (Rep (suc n) body) o.job.place f.follows.next h f.follows.k f.follows.first = f.follows.walk in
-    let later : Cost = f.follows.later in
+    let later : WalkCost = f.follows.later in
     let again : List Step = Again n (o.job.place + 1) body h ∷ rest in
     let new : List Step = then_rest body again in
     let base : suc (h + length (under rest)) ≡ suc (length (plains h (under rest))) = omega (arith, length-plains h (under rest)) in
@@ -244,8 +244,8 @@ at_rep e s n body rest out h c o f =
     subst (λ (b : ℕ). Walks e (Some (w.last + 1)) (held rest) b body (o.job.place + 1) w.last 0 0 w.turn) base w.loop in
     let more : Follows e out rest (w.last + 1) h later =
     subst (λ (a : ℕ). Follows e out rest a h later) w.next_is (subst (λ (g : ℕ). Follows e out rest f.follows.next g later) w.kept f.follows.more) in
-    let again_cost : Cost = record { run = 3 + n * (w.turn.run + 3) + later.run; susp = n * w.turn.susp + later.susp; waits = n * w.turn.waits + later.waits; leave = 3 + n * (w.turn.leave + 3) + later.leave } in
-    let d : Cost = record { run = w.turn.run + again_cost.run; susp = w.turn.susp + again_cost.susp; waits = w.turn.waits + again_cost.waits; leave = w.turn.leave + again_cost.leave } in
+    let again_cost : WalkCost = record { run = 3 + n * (w.turn.run + 3) + later.run; susp = n * w.turn.susp + later.susp; waits = n * w.turn.waits + later.waits; leave = 3 + n * (w.turn.leave + 3) + later.leave } in
+    let d : WalkCost = record { run = w.turn.run + again_cost.run; susp = w.turn.susp + again_cost.susp; waits = w.turn.waits + again_cost.waits; leave = w.turn.leave + again_cost.leave } in
     let u : under new ≡ Counts (suc n) ∷ plains h (under rest) = under_then body again in
     let follows : Follows e (Some (w.last + 1)) new (o.job.place + 1) 0 d =
     follows_then e (Some (w.last + 1)) body again (o.job.place + 1) w.last 0 0 w.turn again_cost d loop
@@ -279,7 +279,7 @@ counted n (Counter m ∷ more) ks is = (more, let e : m ≡ n = cc in ap (λ (j 
 counted n (Value x ∷ more) ks is = absurd cc
 counted n [] ks is = absurd cc
 
-pub at_again : (e : Where) (s : State) (n start : ℕ) (body : Segs) (height : ℕ) (rest : List Step) (out : Option ℕ) (h : ℕ) (c : Cost) (o : Own)
+pub at_again : (e : Where) (s : State) (n start : ℕ) (body : Segs) (height : ℕ) (rest : List Step) (out : Option ℕ) (h : ℕ) (c : WalkCost) (o : Own)
     → Frame e (Again n start body height ∷ rest) out h c o → Moves e s (Again n start body height ∷ rest) c o
 at_again e s zero start body height rest out h c o f =
     let path : List Step = Again 0 start body height ∷ rest in
@@ -299,13 +299,13 @@ at_again e s (suc n) start body height rest out h c o f =
     let P : Own → Type 0 = Moved e path c 3 o in
     let top : (more : List Operand) × (o.job.operands ≡ Counter (suc (suc n)) ∷ more) × (kinds more ≡ plains height (under rest)) =
     counted (suc (suc n)) o.job.operands (plains height (under rest)) (f.operands ∙ ap (λ g. plains g (under path)) f.follows.empty) in
-    let later : Cost = f.follows.later in
-    let turn : Cost = f.follows.turn in
+    let later : WalkCost = f.follows.later in
+    let turn : WalkCost = f.follows.turn in
     let again : List Step = Again n start body height ∷ rest in
     let new : List Step = then_rest body again in
     let u : under new ≡ Counts (suc n) ∷ plains height (under rest) = under_then body again in
-    let again_cost : Cost = record { run = 3 + n * (turn.run + 3) + later.run; susp = n * turn.susp + later.susp; waits = n * turn.waits + later.waits; leave = 3 + n * (turn.leave + 3) + later.leave } in
-    let d : Cost = record { run = turn.run + again_cost.run; susp = turn.susp + again_cost.susp; waits = turn.waits + again_cost.waits; leave = turn.leave + again_cost.leave } in
+    let again_cost : WalkCost = record { run = 3 + n * (turn.run + 3) + later.run; susp = n * turn.susp + later.susp; waits = n * turn.waits + later.waits; leave = 3 + n * (turn.leave + 3) + later.leave } in
+    let d : WalkCost = record { run = turn.run + again_cost.run; susp = turn.susp + again_cost.susp; waits = turn.waits + again_cost.waits; leave = turn.leave + again_cost.leave } in
     let follows : Follows e out new start 0 d =
     follows_then e out body again start o.job.place 0 0 turn again_cost d f.follows.loop
     (record {
@@ -334,18 +334,18 @@ at_again e s (suc n) start body height rest out h c o f =
     )
 
 -- what follows the innermost loop, whose end is out
-record Left (e : Where) (to : ℕ) (rest : List Step) (c : Cost) : Type 0 where
+record Left (e : Where) (to : ℕ) (rest : List Step) (c : WalkCost) : Type 0 where
   turns : ℕ
   new : List Step
   outer : Option ℕ
   height : ℕ
-  cost : Cost
+  cost : WalkCost
   follows : Follows e outer new to height cost
   is_under : under rest ≡ Counts (suc turns) ∷ plains height (under new)
   same_held : held new ≡ held rest
   less : Covers c cost.run cost.susp cost.waits cost.leave
 
-leave_loop : (e : Where) (rest : List Step) (out : Option ℕ) (to at k : ℕ) (c : Cost) → Follows e out rest at k c → out ≡ Some to → Left e to rest c
+leave_loop : (e : Where) (rest : List Step) (out : Option ℕ) (to at k : ℕ) (c : WalkCost) → Follows e out rest at k c → out ≡ Some to → Left e to rest c
 leave_loop e [] out to at k c f is = absurd (let no_out : out ≡ None = f.no_loop in cc)
 leave_loop e (Segment seg ∷ rest) out to at k c f is =
     let l : Left e to rest f.later = leave_loop e rest out to f.next f.k f.later f.more is in
@@ -389,7 +389,7 @@ leave_loop e (Again turns start body height ∷ rest) out to at k c f is =
     }
 leave_loop e (Leaves m ∷ rest) out to at k c f is = absurd (let no_out : out ≡ None = f.no_loop in cc)
 
-pub at_exit : (e : Where) (s : State) (rest : List Step) (out : Option ℕ) (h : ℕ) (c : Cost) (o : Own)
+pub at_exit : (e : Where) (s : State) (rest : List Step) (out : Option ℕ) (h : ℕ) (c : WalkCost) (o : Own)
     → Frame e (Segment Exit ∷ rest) out h c o → Moves e s (Segment Exit ∷ rest) c o
 at_exit e s rest out h c o f =
     let path : List Step = Segment Exit ∷ rest in

@@ -6,7 +6,7 @@ use Rattle.machine_semantics.specs.Effect.{Own, Outcome, Goes, Does, Signals, Br
 use Rattle.machine_isa.specs.Ticks.{ticks}
 use Rattle.machine_safety_spec.specs.Part.{Part}
 use Rattle.machine_safety_spec.specs.SafeTerms.{GoesOn}
-use Rattle.machine_safety_spec.specs.Walk.{Where, Cost, At, within}
+use Rattle.machine_safety_spec.specs.Walk.{Where, WalkCost, At, within}
 use Rattle.machine_safety_spec.specs.Path.{Step, held, Moved, next_own}
 use Rattle.machine_safety_spec.specs.Job.{joined, Inside, Chain, Stands, Less, Keeps}
 use Rattle.machine_safety.proofs.Frames.{IsInside, Moves}
@@ -31,7 +31,7 @@ joined_less None new old later n h = omega arith
 joined_less (Some m) new old later n h = omega arith
 
 -- raises only where the cost has room for an END
-pub keeps_moves : (e : Where) (own : Part) (c : Cost) (n : ℕ) (o : Own) (st : Stands e own o c) (out : Outcome) → 4 + n ≤ c.run
+pub keeps_moves : (e : Where) (own : Part) (c : WalkCost) (n : ℕ) (o : Own) (st : Stands e own o c) (out : Outcome) → 4 + n ≤ c.run
     → GoesOn (Moved (within e st.part) st.path st.here n o) out → Keeps e own c n o out
 keeps_moves e own c n o st out room g = by_case out g where
   less : (p : Own) → Moved (within e st.part) st.path st.here n o p → Less e own c n o p
@@ -75,24 +75,24 @@ keeps_moves e own c n o st out room g = by_case out g where
   by_case Stuck g = absurd g
 
 -- what an instruction of the process comes to
-abbrev pub Instruction : Where → State → Part → Own → Cost → Type 0
+abbrev pub Instruction : Where → State → Part → Own → WalkCost → Type 0
 Instruction e s own o c = (instr : Instr) × At e o.job.place instr × Keeps e own c (ticks instr) o (effect e.image s instr (next_own o)) × ((m : ℕ) → o.job.inside ≡ Some m → ticks instr ≤ c.leave)
 
-pub within_frame : (e : Where) (s : State) (own : Part) (o : Own) (c : Cost) (st : Stands e own o c) → Moves (within e st.part) s st.path st.here o → Instruction e s own o c
+pub within_frame : (e : Where) (s : State) (own : Part) (o : Own) (c : WalkCost) (st : Stands e own o c) → Moves (within e st.part) s st.path st.here o → Instruction e s own o c
 within_frame e s own o c st m = (m.0, m.1, keeps_moves e own c (ticks m.0) o st (effect e.image s m.0 (next_own o)) (omega (arith, m.2, st.covers)) m.4, λ k was. omega (arith, m.3, joined_here st.part.monitor st.here.leave st.later.leave, st.covers))
 
 -- a part has no more words of its own than the process
-pub chain_owned : (e : Where) (own part : Part) (ks : List Caller) (inside : Option ℕ) (c : Cost) → Chain e own part ks inside c → part.owned ≤ own.owned
+pub chain_owned : (e : Where) (own part : Part) (ks : List Caller) (inside : Option ℕ) (c : WalkCost) → Chain e own part ks inside c → part.owned ≤ own.owned
 chain_owned e own part [] inside c chain = omega (arith, ap (λ (p : Part). p.owned) chain.0)
 chain_owned e own part (k ∷ ks) inside c chain = omega (arith, chain.owned, chain_owned e own chain.caller ks chain.below chain.later chain.more)
 
 -- nor a greater limit
-pub chain_limit : (e : Where) (own part : Part) (ks : List Caller) (inside : Option ℕ) (c : Cost) → Chain e own part ks inside c → part.limit ≤ own.limit
+pub chain_limit : (e : Where) (own part : Part) (ks : List Caller) (inside : Option ℕ) (c : WalkCost) → Chain e own part ks inside c → part.limit ≤ own.limit
 chain_limit e own part [] inside c chain = omega (arith, ap (λ (p : Part). p.limit) chain.0)
 chain_limit e own part (k ∷ ks) inside c chain = omega (arith, chain.limit, chain_limit e own chain.caller ks chain.below chain.later chain.more)
 
 -- nor longer stays
-pub chain_stays : (e : Where) (own part : Part) (ks : List Caller) (inside : Option ℕ) (c : Cost) (m : ℕ) → Chain e own part ks inside c → part.stays m ≤ own.stays m
+pub chain_stays : (e : Where) (own part : Part) (ks : List Caller) (inside : Option ℕ) (c : WalkCost) (m : ℕ) → Chain e own part ks inside c → part.stays m ≤ own.stays m
 chain_stays e own part [] inside c m chain = omega (arith, ap (λ (p : Part). p.stays m) chain.0)
 chain_stays e own part (k ∷ ks) inside c m chain = omega (arith, chain.stays m, chain_stays e own chain.caller ks chain.below chain.later m chain.more)
 

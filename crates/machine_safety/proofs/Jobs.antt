@@ -11,7 +11,7 @@ use Rattle.machine_semantics.specs.State.{Operand, Value, Counter, Caller, State
 use Rattle.machine_semantics.specs.Effect.{Own, holding, take_one, one, give, arguments, called, call, back, enters, leaves, wait, waits}
 use Rattle.machine_semantics.specs.Tick.{at_next}
 use Rattle.machine_safety_spec.specs.Part.{Part, Kind, Plain, kinds, plains, IsSized}
-use Rattle.machine_safety_spec.specs.Walk.{Where, Cost, Reaches, Walk, within}
+use Rattle.machine_safety_spec.specs.Walk.{Where, WalkCost, Reaches, Walk, within}
 use Rattle.machine_safety_spec.specs.Path.{Step, Segment, Skip, Again, Leaves, under, held, then_rest, Follows, Frame, Returning, next_own}
 use Rattle.machine_safety_spec.specs.Job.{RoutineFits, RoutinesFit, joined, Inside, Chain, Stands, Comes, Less, Keeps, FindsFree, InstructionIsSafe}
 use Rattle.machine_safety.proofs.Lists.{plains_add, length-plains, under_then, held_then}
@@ -20,7 +20,7 @@ use Rattle.machine_safety.proofs.JobBasics.{is_inside_part, joined_here, joined_
 
 -- ---- monitors
 
-at_stay : (e : Where) (s : State) (own : Part) (o : Own) (c : Cost) (m : ℕ) (body : Segs) (rest : List Step) (st : Stands e own o c) → st.path ≡ Segment (Stay m body) ∷ rest
+at_stay : (e : Where) (s : State) (own : Part) (o : Own) (c : WalkCost) (m : ℕ) (body : Segs) (rest : List Step) (st : Stands e own o c) → st.path ≡ Segment (Stay m body) ∷ rest
     → FindsFree e s own o → Instruction e s own o c
 at_stay e s own o c m body rest st is free =
     let path : List Step = Segment (Stay m body) ∷ rest in
@@ -34,8 +34,8 @@ at_stay e s own o c m body rest st is free =
     let new : List Step = then_rest body leaving in
     let u : under new ≡ under rest = under_then body leaving in
     let more : Follows w st.out rest (stay.last + 1) f.follows.k f.follows.later = subst (λ (a : ℕ). Follows w st.out rest a f.follows.k f.follows.later) stay.next_is f.follows.more in
-    let leave_cost : Cost = record { run = 3 + f.follows.later.run; susp = f.follows.later.susp; waits = f.follows.later.waits; leave = 3 } in
-    let here : Cost = record { run = stay.inner.run + leave_cost.run; susp = stay.inner.susp + leave_cost.susp; waits = stay.inner.waits + leave_cost.waits; leave = stay.inner.leave + leave_cost.leave } in
+    let leave_cost : WalkCost = record { run = 3 + f.follows.later.run; susp = f.follows.later.susp; waits = f.follows.later.waits; leave = 3 } in
+    let here : WalkCost = record { run = stay.inner.run + leave_cost.run; susp = stay.inner.susp + leave_cost.susp; waits = stay.inner.waits + leave_cost.waits; leave = stay.inner.leave + leave_cost.leave } in
     let follows : Follows w st.out new (o.job.place + 1) st.height here =
     follows_then w st.out body leaving (o.job.place + 1) stay.last st.height f.follows.k stay.inner leave_cost here stay.stays
     (record { no_loop = stay.no_loop; leaves = stay.leaves; entry = stay.entry; outside = stay.outside; later = f.follows.later; more = more; covers = record { run = omega arith; susp = omega arith; waits = omega arith; leave = omega arith } })
@@ -82,7 +82,7 @@ at_stay e s own o c m body rest st is free =
       λ k was. absurd (let none' : o.job.inside ≡ None = none in cc),
     )
 
-at_leave : (e : Where) (s : State) (own : Part) (o : Own) (c : Cost) (m : ℕ) (rest : List Step) (st : Stands e own o c) → st.path ≡ Leaves m ∷ rest → Instruction e s own o c
+at_leave : (e : Where) (s : State) (own : Part) (o : Own) (c : WalkCost) (m : ℕ) (rest : List Step) (st : Stands e own o c) → st.path ≡ Leaves m ∷ rest → Instruction e s own o c
 at_leave e s own o c m rest st is =
     let path : List Step = Leaves m ∷ rest in
     let w : Where = within e st.part in
@@ -124,7 +124,7 @@ at_leave e s own o c m rest st is =
       λ k was. omega (arith, f.follows.covers, joined_here st.part.monitor st.here.leave st.later.leave, st.covers),
     )
 
-at_wait : (e : Where) (s : State) (own : Part) (o : Own) (c : Cost) (rest : List Step) (st : Stands e own o c) → st.path ≡ Segment Wait ∷ rest → Instruction e s own o c
+at_wait : (e : Where) (s : State) (own : Part) (o : Own) (c : WalkCost) (rest : List Step) (st : Stands e own o c) → st.path ≡ Segment Wait ∷ rest → Instruction e s own o c
 at_wait e s own o c rest st is =
     let path : List Step = Segment Wait ∷ rest in
     let w : Where = within e st.part in
@@ -137,7 +137,7 @@ at_wait e s own o c rest st is =
     let more : Follows w st.out rest (o.job.place + 1 + 1) st.height f.follows.later =
     subst (λ (a : ℕ). Follows w st.out rest a st.height f.follows.later) place (subst (λ (g : ℕ). Follows w st.out rest f.follows.next g f.follows.later) pause.kept f.follows.more) in
     let short_now : st.here.leave ≤ st.part.stays pause.monitor = st.short pause.monitor pause.entry (ap (λ (q : List Step). held q) is ∙ pause.inside) in
-    let here : Cost = record { run = 4 + f.follows.later.run; susp = f.follows.later.susp; waits = f.follows.later.waits; leave = 4 + f.follows.later.leave } in (
+    let here : WalkCost = record { run = 4 + f.follows.later.run; susp = f.follows.later.susp; waits = f.follows.later.waits; leave = 4 + f.follows.later.leave } in (
       i.Wait (pos pause.condition) (pos pause.limit) (pos pause.number),
       pause.waits,
       subst (λ (q : Option ℕ). Keeps e own c 6 o (wait q (pos pause.condition) (pos pause.limit) (pos pause.number) (next_own o))) (sym pause.of)
@@ -184,7 +184,7 @@ at_wait e s own o c rest st is =
       λ k was. omega (arith, pause.covers, f.follows.covers, joined_here st.part.monitor st.here.leave st.later.leave, st.covers),
     )
 
-at_return : (e : Where) (s : State) (own : Part) (o : Own) (c : Cost) (comes : Comes e own o c) → FindsFree e s own o → Instruction e s own o c
+at_return : (e : Where) (s : State) (own : Part) (o : Own) (c : WalkCost) (comes : Comes e own o c) → FindsFree e s own o → Instruction e s own o c
 at_return e s own o c comes free =
     let b : Returning (within e comes.part) comes.path comes.out comes.height comes.here o = comes.back in
     let limit : comes.part.limit ≤ own.limit = chain_limit e own comes.part o.job.callers None comes.later comes.chain in
@@ -240,7 +240,7 @@ arguments_of (suc n) (Value x ∷ os) taken ks is =
 arguments_of (suc n) (Counter m ∷ os) taken ks is = absurd cc
 arguments_of (suc n) [] taken ks is = absurd cc
 
-at_call : (e : Where) (s : State) (own : Part) (o : Own) (c : Cost) (r : ℕ) (rest : List Step) (st : Stands e own o c) → st.path ≡ Segment (Call r) ∷ rest → RoutinesFit e → Instruction e s own o c
+at_call : (e : Where) (s : State) (own : Part) (o : Own) (c : WalkCost) (r : ℕ) (rest : List Step) (st : Stands e own o c) → st.path ≡ Segment (Call r) ∷ rest → RoutinesFit e → Instruction e s own o c
 at_call e s own o c r rest st is routines =
     let path : List Step = Segment (Call r) ∷ rest in
     let w : Where = within e st.part in
@@ -256,15 +256,15 @@ at_call e s own o c r rest st is routines =
     = arguments_of routine.params o.job.operands [] (plains calls.below (under rest)) ops in
     let more : Follows w st.out rest (o.job.place + 1) (callee.results + calls.below) f.follows.later =
     subst (λ (g : ℕ). Follows w st.out rest g (callee.results + calls.below) f.follows.later) calls.next_is (subst (λ (g : ℕ). Follows w st.out rest f.follows.next g f.follows.later) calls.given f.follows.more) in
-    let ending : Cost = record { run = 4; susp = 0; waits = 0; leave = 4 } in
-    let here : Cost = record { run = fits.inner.run + 4; susp = fits.inner.susp; waits = fits.inner.waits; leave = fits.inner.leave + 4 } in
+    let ending : WalkCost = record { run = 4; susp = 0; waits = 0; leave = 4 } in
+    let here : WalkCost = record { run = fits.inner.run + 4; susp = fits.inner.susp; waits = fits.inner.waits; leave = fits.inner.leave + 4 } in
     let new : List Step = then_rest routine.tree [] in
     let u : under new ≡ [] = under_then routine.tree [] in
     let follows : Follows (within e callee) None new routine.start 0 here =
     follows_then (within e callee) None routine.tree [] routine.start fits.last 0 callee.results fits.inner ending here fits.tree
     (record { no_loop = refl; ends = fits.ends; height = refl; covers = record { run = omega arith; susp = omega arith; waits = omega arith; leave = omega arith } })
     (record { run = omega arith; susp = omega arith; waits = omega arith; leave = omega arith }) in
-    let later : Cost = record { run = f.follows.later.run + st.later.run; susp = f.follows.later.susp + st.later.susp; waits = f.follows.later.waits + st.later.waits; leave = joined st.part.monitor f.follows.later.leave st.later.leave } in
+    let later : WalkCost = record { run = f.follows.later.run + st.later.run; susp = f.follows.later.susp + st.later.susp; waits = f.follows.later.waits + st.later.waits; leave = joined st.part.monitor f.follows.later.leave st.later.leave } in
     let room : length (plains calls.below (under rest)) + 2 + callee.locals + callee.depth ≤ st.part.depth = omega (arith, length-plains calls.below (under rest), calls.room, calls.locals) in
     let none_if_entry : callee.level ≡ 1 → o.job.inside ≡ None =
     λ one. elim calls.may [ inl quiet ↦ absurd (omega arith) | inr two ↦ in_it.outer two ] in
@@ -352,7 +352,7 @@ at_call e s own o c r rest st is routines =
       λ k was. omega (arith, calls.covers, f.follows.covers, joined_here st.part.monitor st.here.leave st.later.leave, st.covers),
     )
 
-at_last : (e : Where) (s : State) (own : Part) (o : Own) (c : Cost) (st : Stands e own o c) → st.path ≡ [] → own.last ≡ i.End → RoutinesFit e → Instruction e s own o c
+at_last : (e : Where) (s : State) (own : Part) (o : Own) (c : WalkCost) (st : Stands e own o c) → st.path ≡ [] → own.last ≡ i.End → RoutinesFit e → Instruction e s own o c
 at_last e s own o c st is own_ends routines = by_callers o.job.callers refl st.chain where
   w : Where
   w = within e st.part
@@ -409,7 +409,7 @@ at_last e s own o c st is own_ends routines = by_callers o.job.callers refl st.c
     owned = refl;
     shared = refl;
   } where
-    chain_cost : Cost
+    chain_cost : WalkCost
     chain_cost = record { run = chain.first.run + chain.later.run; susp = chain.first.susp + chain.later.susp; waits = chain.first.waits + chain.later.waits; leave = joined chain.caller.monitor chain.first.leave chain.later.leave }
 
   by_callers : (callers : List Caller) → o.job.callers ≡ callers → Chain e own st.part o.job.callers st.below st.later → Instruction e s own o c
@@ -451,14 +451,14 @@ at_last e s own o c st is own_ends routines = by_callers o.job.callers refl st.c
 -- ---- all steps
 
 -- an instruction within the frame, whose steps are these
-framed_at : (e : Where) (s : State) (own : Part) (o : Own) (c : Cost) (path : List Step) (st : Stands e own o c) → st.path ≡ path
+framed_at : (e : Where) (s : State) (own : Part) (o : Own) (c : WalkCost) (path : List Step) (st : Stands e own o c) → st.path ≡ path
     → (Frame (within e st.part) path st.out st.height st.here o → IsInside (within e st.part) path o → Moves (within e st.part) s path st.here o) → Instruction e s own o c
 framed_at e s own o c path st is go =
     let w : Where = within e st.part in
     let entered : IsInside w path o = subst (λ (q : List Step). IsInside w q o) is (is_inside_part e st.part st.path o st.below st.inside_is) in
     within_frame e s own o c st (subst (λ (q : List Step). Moves w s q st.here o) (sym is) (go (subst (λ (q : List Step). Frame w q st.out st.height st.here o) is st.frame) entered))
 
-at_path : (e : Where) (s : State) (own : Part) (o : Own) (c : Cost) (path : List Step) (st : Stands e own o c) → st.path ≡ path → RoutinesFit e → IsSized e.image s o.shared → own.last ≡ i.End → FindsFree e s own o → Instruction e s own o c
+at_path : (e : Where) (s : State) (own : Part) (o : Own) (c : WalkCost) (path : List Step) (st : Stands e own o c) → st.path ≡ path → RoutinesFit e → IsSized e.image s o.shared → own.last ≡ i.End → FindsFree e s own o → Instruction e s own o c
 at_path e s own o c [] st is routines sized own_ends free = at_last e s own o c st is own_ends routines
 at_path e s own o c (Segment (Line zero) ∷ rest) st is routines sized own_ends free =
     let w : Where = within e st.part in

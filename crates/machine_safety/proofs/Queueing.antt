@@ -13,7 +13,7 @@ use Rattle.machine_semantics.specs.Effect.{Outcome, Goes, Does, Signals, Broadca
 use Rattle.machine_semantics.specs.Starts.{unchanged, told, released, release, release_thread, time_out, raised, without, queue_of, starts}
 use Rattle.machine_semantics.specs.Tick.{Candidate, least, pick, woken, wake, wake_all, first, rest, wake_first, settle, outcome, owned_of, run_thread, run_picked, tick}
 use Rattle.machine_semantics.specs.Run.{at_start, state_at}
-use Rattle.machine_safety_spec.specs.Walk.{Where, Cost}
+use Rattle.machine_safety_spec.specs.Walk.{Where, WalkCost}
 use Rattle.machine_safety_spec.specs.Safe.{Parts, ImageFits, TickFits}
 use Rattle.machine_safety_spec.specs.Whole.{ThreadFits, StateFits}
 use Rattle.machine_safety_spec.specs.Queues.{times, waits_on, QueuesFit, AreQueued, TickKeepsQueues, RunKeepsQueues}
@@ -212,7 +212,7 @@ module _ (e : Where) (ps : ℕ → Parts) (image_fits : ImageFits e ps) where
 
   -- ---- the tick of the process that runs
 
-  settle_queues : (t k : ℕ) (p : Process) (job : Job) (s : State) (left : Cost) (out : Outcome) → slice_get s.threads k ≡ Some (Ready job) → length s.queues ≡ length e.image.conditions
+  settle_queues : (t k : ℕ) (p : Process) (job : Job) (s : State) (left : WalkCost) (out : Outcome) → slice_get s.threads k ≡ Some (Ready job) → length s.queues ≡ length e.image.conditions
       → TickFits e p (ps k) job (owned_of (slice_get s.owned k)) s.shared left out → AreQueued s → AreQueued (settle e.image t k p job s out).state
   settle_queues t k p job s left out at sized tick_fits fits = by out tick_fits where
     nowhere : (c : ℕ) → times k (queue_of s.queues c) ≡ 0
@@ -248,7 +248,7 @@ module _ (e : Where) (ps : ℕ → Parts) (image_fits : ImageFits e ps) where
         let process : slice_get e.image.processes c.place ≡ Some ch.p = ap (λ (x : ℕ). slice_get e.image.processes x) (sym at) ∙ ch.process in
         let ready : slice_get s.threads c.place ≡ Some (Ready ch.job) = ap (λ (x : ℕ). slice_get s.threads x) (sym at) ∙ ch.ready in
         let f : ThreadFits e ch.p (ps c.place) (Ready ch.job) (owned_of (slice_get s.owned c.place)) s.shared = state_fits.threads c.place ch.p (Ready ch.job) process ready in
-        let o : (l : Cost) × TickFits e ch.p (ps c.place) ch.job (owned_of (slice_get s.owned c.place)) s.shared l (outcome e.image s ch.job (owned_of (slice_get s.owned c.place)) ch.job.dispatch_ticks) =
+        let o : (l : WalkCost) × TickFits e ch.p (ps c.place) ch.job (owned_of (slice_get s.owned c.place)) s.shared l (outcome e.image s ch.job (owned_of (slice_get s.owned c.place)) ch.job.dispatch_ticks) =
         outcome_fits e ps image_fits s c ch c.place refl process state_fits f.0 f.1 ch.job.dispatch_ticks refl in
         subst (λ (x : Option Process). AreQueued (run_thread e.image t c.place s x (slice_get s.threads c.place)).state) (sym process)
         (subst (λ (x : Option Thread). AreQueued (run_thread e.image t c.place s (Some ch.p) x).state) (sym ready)

@@ -10,7 +10,7 @@ use Rattle.machine_semantics.specs.Effect.{Own}
 use Rattle.machine_semantics.specs.Tick.{owned_of}
 use Rattle.machine_semantics.specs.Run.{words_of, at_start, state_at}
 use Rattle.machine_safety_spec.specs.Part.{Part, Kind, kinds}
-use Rattle.machine_safety_spec.specs.Walk.{Where, Cost}
+use Rattle.machine_safety_spec.specs.Walk.{Where, WalkCost}
 use Rattle.machine_safety_spec.specs.Job.{Chain, Stands, Comes}
 use Rattle.machine_safety_spec.specs.Safe.{Parts, ProcessFits, ImageFits, own_of, part_of}
 use Rattle.machine_safety_spec.specs.Whole.{ThreadFits, StateFits, StackFits, held_by, InsideIsReady, EveryRunIsSafe}
@@ -23,16 +23,16 @@ length-kinds : (os : List Operand) → length (kinds os) ≡ length os
 length-kinds [] = refl
 length-kinds (x ∷ os) = ap suc (length-kinds os)
 
-stack_chain : (e : Where) (own part : Part) (ks : List Caller) (inside : Option ℕ) (c : Cost) → Chain e own part ks inside c → part.locals + part.depth + stack_below ks ≤ own.locals + own.depth
+stack_chain : (e : Where) (own part : Part) (ks : List Caller) (inside : Option ℕ) (c : WalkCost) → Chain e own part ks inside c → part.locals + part.depth + stack_below ks ≤ own.locals + own.depth
 stack_chain e own part [] inside c chain = omega (arith, ap (λ (p : Part). p.locals) chain.0, ap (λ (p : Part). p.depth) chain.0)
 stack_chain e own part (k ∷ ks) inside c chain =
     omega (arith, chain.room, chain.locals, ap (λ (xs : List Kind). length xs) chain.operands, length-kinds k.operands, stack_chain e own chain.caller ks chain.below chain.later chain.more)
 
-stack_stands : (e : Where) (own : Part) (o : Own) (c : Cost) → Stands e own o c → stack_of o.job ≤ own.locals + own.depth
+stack_stands : (e : Where) (own : Part) (o : Own) (c : WalkCost) → Stands e own o c → stack_of o.job ≤ own.locals + own.depth
 stack_stands e own o c st =
     omega (arith, st.frame.room, st.frame.words.locals, ap (λ (xs : List Kind). length xs) st.frame.operands, length-kinds o.job.operands, stack_chain e own st.part o.job.callers st.below st.later st.chain)
 
-stack_comes : (e : Where) (own : Part) (o : Own) (c : Cost) → Comes e own o c → stack_of o.job ≤ own.locals + own.depth
+stack_comes : (e : Where) (own : Part) (o : Own) (c : WalkCost) → Comes e own o c → stack_of o.job ≤ own.locals + own.depth
 stack_comes e own o c k =
     omega (arith, k.back.room, k.back.words.locals, ap (λ (xs : List Kind). length xs) k.back.operands, length-kinds o.job.operands, stack_chain e own k.part o.job.callers None k.later k.chain)
 

@@ -7,7 +7,7 @@ use Rattle.machine_semantics.specs.State.{Job, Thread, Idle, Ready, Waiting, Sta
 use Rattle.machine_semantics.specs.Effect.{Own, Outcome, Goes, Does, Signals, Broadcasts, Waits, Raises, Ends, Stuck}
 use Rattle.machine_semantics.specs.Starts.{starts, raised, queue_of}
 use Rattle.machine_semantics.specs.Tick.{Candidate, active_rank, outside, least, pick, woken, wake, wake_all, first, rest, wake_first, settle, outcome, owned_of, run_thread, run_picked, tick}
-use Rattle.machine_safety_spec.specs.Walk.{Where, Cost}
+use Rattle.machine_safety_spec.specs.Walk.{Where, WalkCost}
 use Rattle.machine_safety_spec.specs.Safe.{Parts, ProcessFits, ImageFits, ReadyFits, WaitingFits, Ticks, TickFits, part_of}
 use Rattle.machine_safety_spec.specs.Whole.{ThreadFits, ceiling_of, StateFits, EveryTickIsSafe}
 use Rattle.machine_safety.proofs.Ticking.{some_ticks, tick_is_safe, comes_at}
@@ -23,7 +23,7 @@ set_past (y ∷ ys) zero x at = absurd cc
 set_past (y ∷ ys) (suc k) x at = ap (λ (zs : List _). y ∷ zs) (set_past ys k x at)
 
 -- a waiting process that is woken fits its trees
-pub woken_fits : (e : Where) (p : Process) (ps : Parts) (job : Job) (b : ℕ) (owned shared : List ℤ) (left : Cost) → WaitingFits e p ps job owned shared left → ReadyFits e p ps (record job { dispatch_ticks = b }) owned shared left
+pub woken_fits : (e : Where) (p : Process) (ps : Parts) (job : Job) (b : ℕ) (owned shared : List ℤ) (left : WalkCost) → WaitingFits e p ps job owned shared left → ReadyFits e p ps (record job { dispatch_ticks = b }) owned shared left
 woken_fits e p ps job b owned shared left w = record {
   cost = w.cost;
   fits = inr (comes_at e (part_of ps job.handling) job job.done b owned owned shared shared w.cost (omega arith) w.fits);
@@ -77,7 +77,7 @@ module _ (e : Where) (ps : ℕ → Parts) (image_fits : ImageFits e ps) where
 
   -- the state after the outcome of the process that is picked
   pub settle_keeps : (t : ℕ) (s : State) (c : Candidate) (ch : Chosen e.image 0 e.image.processes s.threads c) (k : ℕ) → c.place ≡ k → slice_get e.image.processes k ≡ Some ch.p
-      → slice_get s.threads k ≡ Some (Ready ch.job) → StateFits e ps s → (left : Cost) (out : Outcome)
+      → slice_get s.threads k ≡ Some (Ready ch.job) → StateFits e ps s → (left : WalkCost) (out : Outcome)
       → TickFits e ch.p (ps k) ch.job (owned_of (slice_get s.owned k)) s.shared left out
       → ((settle e.image t k ch.p ch.job s out).stuck ≡ false) × StateFits e ps (settle e.image t k ch.p ch.job s out).state
   settle_keeps t s c ch k place process ready fits left out = by_case out where
@@ -116,8 +116,8 @@ module _ (e : Where) (ps : ℕ → Parts) (image_fits : ImageFits e ps) where
 
   -- one tick of it: a burn tick, or one of its instruction
   pub outcome_fits : (s : State) (c : Candidate) (ch : Chosen e.image 0 e.image.processes s.threads c) (k : ℕ) → c.place ≡ k → slice_get e.image.processes k ≡ Some ch.p
-      → StateFits e ps s → (left : Cost) → ReadyFits e ch.p (ps k) ch.job (owned_of (slice_get s.owned k)) s.shared left → (n : ℕ) → ch.job.dispatch_ticks ≡ n
-      → (l : Cost) × TickFits e ch.p (ps k) ch.job (owned_of (slice_get s.owned k)) s.shared l (outcome e.image s ch.job (owned_of (slice_get s.owned k)) n)
+      → StateFits e ps s → (left : WalkCost) → ReadyFits e ch.p (ps k) ch.job (owned_of (slice_get s.owned k)) s.shared left → (n : ℕ) → ch.job.dispatch_ticks ≡ n
+      → (l : WalkCost) × TickFits e ch.p (ps k) ch.job (owned_of (slice_get s.owned k)) s.shared l (outcome e.image s ch.job (owned_of (slice_get s.owned k)) n)
   outcome_fits s c ch k place process fits left ready zero is = (
     left,
     tick_is_safe e (ps k) s ch.p ch.job (owned_of (slice_get s.owned k)) left image_fits.routines (image_fits.processes k ch.p process) fits.sized ready
@@ -149,7 +149,7 @@ module _ (e : Where) (ps : ℕ → Parts) (image_fits : ImageFits e ps) where
         let process : slice_get e.image.processes c.place ≡ Some ch.p = ap (λ (x : ℕ). slice_get e.image.processes x) (sym at) ∙ ch.process in
         let ready : slice_get s.threads c.place ≡ Some (Ready ch.job) = ap (λ (x : ℕ). slice_get s.threads x) (sym at) ∙ ch.ready in
         let f : ThreadFits e ch.p (ps c.place) (Ready ch.job) (owned_of (slice_get s.owned c.place)) s.shared = fits.threads c.place ch.p (Ready ch.job) process ready in
-        let o : (l : Cost) × TickFits e ch.p (ps c.place) ch.job (owned_of (slice_get s.owned c.place)) s.shared l (outcome e.image s ch.job (owned_of (slice_get s.owned c.place)) ch.job.dispatch_ticks) =
+        let o : (l : WalkCost) × TickFits e ch.p (ps c.place) ch.job (owned_of (slice_get s.owned c.place)) s.shared l (outcome e.image s ch.job (owned_of (slice_get s.owned c.place)) ch.job.dispatch_ticks) =
         outcome_fits s c ch c.place refl process fits f.0 f.1 ch.job.dispatch_ticks refl in
         subst (λ (x : Option Process). ((run_thread e.image t c.place s x (slice_get s.threads c.place)).stuck ≡ false) × StateFits e ps (run_thread e.image t c.place s x (slice_get s.threads c.place)).state) (sym process)
         (subst (λ (x : Option Thread). ((run_thread e.image t c.place s (Some ch.p) x).stuck ≡ false) × StateFits e ps (run_thread e.image t c.place s (Some ch.p) x).state) (sym ready)

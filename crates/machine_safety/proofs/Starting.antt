@@ -6,7 +6,7 @@ use Rattle.machine_semantics.specs.Image.{Process, Script, Line, Sets, Occurs, e
 use Rattle.machine_semantics.specs.State.{Job, Thread, Idle, Ready, Waiting, State}
 use Rattle.machine_semantics.specs.Starts.{Started, unchanged, told, released, release_thread, release, occurs, line, lines, is_periodic_due, periodic, raised, without, queue_of, time_out, at_rank, time_outs, starts}
 use Rattle.machine_semantics.specs.Tick.{owned_of}
-use Rattle.machine_safety_spec.specs.Walk.{Where, Cost}
+use Rattle.machine_safety_spec.specs.Walk.{Where, WalkCost}
 use Rattle.machine_safety_spec.specs.Safe.{Parts, ProcessFits, ImageFits, ReadyFits, own_of, part_of, spare}
 use Rattle.machine_safety_spec.specs.Work.{worst_of}
 use Rattle.machine_safety_spec.specs.Whole.{ThreadFits, StateFits}
@@ -28,7 +28,7 @@ released_fits e p ps owned shared fits enough = record {
   waits = omega arith;
 }
 
-pub ready_burn : (e : Where) (p : Process) (ps : Parts) (job : Job) (b : ℕ) (owned shared : List ℤ) (left : Cost) → ReadyFits e p ps job owned shared left → ReadyFits e p ps (record job { dispatch_ticks = b }) owned shared left
+pub ready_burn : (e : Where) (p : Process) (ps : Parts) (job : Job) (b : ℕ) (owned shared : List ℤ) (left : WalkCost) → ReadyFits e p ps job owned shared left → ReadyFits e p ps (record job { dispatch_ticks = b }) owned shared left
 ready_burn e p ps job b owned shared left r =
     record { cost = r.cost; fits = fits_at e (part_of ps job.handling) job job.done b owned owned shared shared r.cost (omega arith) r.fits; early = r.early; ends = r.ends; run = r.run; susp = r.susp; waits = r.waits; leave = r.leave }
 
@@ -131,7 +131,7 @@ module _ (e : Where) (ps : ℕ → Parts) (image_fits : ImageFits e ps) where
       b : Based (part_of (ps k) job.handling) (own_of job own s.shared) f.1.cost
       b = based e (part_of (ps k) job.handling) (own_of job own s.shared) f.1.cost (inr f.1.fits)
 
-      left : Cost
+      left : WalkCost
       left = record { run = 4 + spare (ps k) job.handling; susp = 0; waits = 0; leave = 4 + spare (ps k) job.handling }
 
       queues : List (List ℕ)

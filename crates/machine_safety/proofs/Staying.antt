@@ -10,7 +10,7 @@ use Rattle.machine_semantics.specs.State.{Job, Thread, Idle, Ready, Waiting, Sta
 use Rattle.machine_semantics.specs.Effect.{Own, Outcome, Goes, Does, Signals, Broadcasts, Waits, Raises, Ends, Stuck}
 use Rattle.machine_semantics.specs.Starts.{unchanged, told, released, release, release_thread, time_out, raised, without, queue_of, starts}
 use Rattle.machine_semantics.specs.Tick.{Candidate, least, pick, woken, wake, wake_all, first, wake_first, settle, outcome, owned_of, run_thread, run_picked, tick}
-use Rattle.machine_safety_spec.specs.Walk.{Where, Cost}
+use Rattle.machine_safety_spec.specs.Walk.{Where, WalkCost}
 use Rattle.machine_safety_spec.specs.Safe.{Parts, ImageFits, ReadyFits, Ticks, TickFits, part_of}
 use Rattle.machine_safety_spec.specs.Whole.{StateFits}
 use Rattle.machine_safety_spec.specs.Work.{is_chosen, runs}
@@ -137,7 +137,7 @@ module _ (e : Where) (ps : ℕ → Parts) (image_fits : ImageFits e ps) where
   Nearer k m n u = (job : Job) → slice_get u.threads k ≡ Some (Ready job) → job.inside ≡ Some m → (l : ℕ) × (n ≡ l + 1) × StaysIn e ps u k m l
 
   -- its own tick
-  settle_stays : (t : ℕ) (s : State) (k m n : ℕ) (p : Process) (job : Job) (left : Cost) (out : Outcome) → slice_get e.image.processes k ≡ Some p → slice_get s.threads k ≡ Some (Ready job)
+  settle_stays : (t : ℕ) (s : State) (k m n : ℕ) (p : Process) (job : Job) (left : WalkCost) (out : Outcome) → slice_get e.image.processes k ≡ Some p → slice_get s.threads k ≡ Some (Ready job)
       → TickFits e p (ps k) job (owned_of (slice_get s.owned k)) s.shared left out → job.dispatch_ticks ≡ 0 → job.inside ≡ Some m → left.leave ≤ n → Nearer k m n (settle e.image t k p job s out).state
   unfolding Nearer
   settle_stays t s k m n p job left out process at fits no_burn was short = by_case out fits where

@@ -10,7 +10,7 @@ use Rattle.machine_semantics.specs.State.{Job, Thread, Idle, Ready, Waiting, Sta
 use Rattle.machine_semantics.specs.Effect.{Own, Outcome, Goes, Does, Signals, Broadcasts, Waits, Raises, Ends, Stuck}
 use Rattle.machine_semantics.specs.Starts.{Started, unchanged, told, released, release, release_thread, time_out, at_rank, time_outs, raised, without, queue_of, starts}
 use Rattle.machine_semantics.specs.Tick.{Candidate, least, pick, woken, wake, wake_all, first, wake_first, settle, outcome, owned_of, run_thread, run_picked, tick}
-use Rattle.machine_safety_spec.specs.Walk.{Where, Cost}
+use Rattle.machine_safety_spec.specs.Walk.{Where, WalkCost}
 use Rattle.machine_safety_spec.specs.Safe.{Parts, ImageFits, ReadyFits, Ticks, TickFits, own_of, part_of, spare}
 use Rattle.machine_safety_spec.specs.Whole.{StateFits}
 use Rattle.machine_safety_spec.specs.Work.{HasLeft, IsBusy, worst_of}
@@ -160,7 +160,7 @@ run_left image t s j k None x th differ at = record { thread = (th, at, inl refl
 
 module _ (e : Where) (ps : ℕ → Parts) (image_fits : ImageFits e ps) where
   -- the same process with another thread, in a state with its words
-  suspends : (s u : State) (t k n w : ℕ) (p : Process) (th : Thread) (left : Cost) → slice_get e.image.processes k ≡ Some p → slice_get u.threads k ≡ Some th
+  suspends : (s u : State) (t k n w : ℕ) (p : Process) (th : Thread) (left : WalkCost) → slice_get e.image.processes k ≡ Some p → slice_get u.threads k ≡ Some th
       → length (owned_of (slice_get s.owned k)) ≤ length (owned_of (slice_get u.owned k)) → HasLeft e p (ps k) th (owned_of (slice_get s.owned k)) s.shared left
       → IsDueFrom t th → suspension_of t th left ≤ n → waits_of th left ≤ w → Suspends e ps u t k n w
   suspends s u t k n w p th left process at words has due suspension waits = record {
@@ -215,7 +215,7 @@ module _ (e : Where) (ps : ℕ → Parts) (image_fits : ImageFits e ps) where
     ran = λ is_not still. o;
   }
 
-  settle_spends : (t : ℕ) (s : State) (k n w : ℕ) (p : Process) (job : Job) (left : Cost) (out : Outcome) → slice_get e.image.processes k ≡ Some p → slice_get s.threads k ≡ Some (Ready job)
+  settle_spends : (t : ℕ) (s : State) (k n w : ℕ) (p : Process) (job : Job) (left : WalkCost) (out : Outcome) → slice_get e.image.processes k ≡ Some p → slice_get s.threads k ≡ Some (Ready job)
       → TickFits e p (ps k) job (owned_of (slice_get s.owned k)) s.shared left out → left.susp ≤ n → left.waits ≤ w → Spends e ps s (settle e.image t k p job s out).state t k n w
   settle_spends t s k n w p job left out process at fits susp waits = by out fits where
     own : List ℤ
@@ -380,7 +380,7 @@ module _ (e : Where) (ps : ℕ → Parts) (image_fits : ImageFits e ps) where
             b : Based (part_of (ps k) job.handling) (own_of job own s.shared) has.cost
             b = based e (part_of (ps k) job.handling) (own_of job own s.shared) has.cost (inr has.fits)
 
-            left : Cost
+            left : WalkCost
             left = record { run = 4 + spare (ps k) job.handling; susp = 0; waits = 0; leave = 0 }
 
             queues : List (List ℕ)

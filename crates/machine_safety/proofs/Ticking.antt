@@ -12,7 +12,7 @@ use Rattle.machine_isa.specs.Ticks.{ticks}
 use Rattle.machine_semantics.specs.Starts.{raised, lists}
 use Rattle.machine_semantics.specs.Tick.{outcome_at}
 use Rattle.machine_safety_spec.specs.Part.{Part, Kind, kinds}
-use Rattle.machine_safety_spec.specs.Walk.{Where, Cost, At, Walks, within}
+use Rattle.machine_safety_spec.specs.Walk.{Where, WalkCost, At, Walks, within}
 use Rattle.machine_safety_spec.specs.Path.{Step, under, then_rest, Follows, Returning, next_own}
 use Rattle.machine_safety_spec.specs.Job.{RoutinesFit, joined, Chain, Stands, Comes, Less, Pauses, Keeps}
 use Rattle.machine_safety_spec.specs.Safe.{Parts, IsOwn, HandlerFits, ProcessFits, part_of, spare, own_of, ReadyFits, Ticks, Pausing, TickFits, TickIsSafe}
@@ -25,17 +25,17 @@ some_ticks (i.Push v) = omega arith
 some_ticks _ = omega arith
 
 -- the locals of the process's own frame
-pub own_locals_of : (e : Where) (own part : Part) (locals : List ℤ) (ks : List Caller) (inside : Option ℕ) (c : Cost) → length locals ≡ part.locals → Chain e own part ks inside c → length (own_locals locals ks) ≡ own.locals
+pub own_locals_of : (e : Where) (own part : Part) (locals : List ℤ) (ks : List Caller) (inside : Option ℕ) (c : WalkCost) → length locals ≡ part.locals → Chain e own part ks inside c → length (own_locals locals ks) ≡ own.locals
 own_locals_of e own part locals [] inside c is chain = is ∙ ap (λ (p : Part). p.locals) chain.0
 own_locals_of e own part locals (k ∷ ks) inside c is chain = own_locals_of e own chain.caller k.locals ks chain.below chain.later chain.locals chain.more
 
 -- what a process that stands or comes back has of its own frame, and that an END is still to be paid
-pub record Based (own : Part) (o : Own) (c : Cost) : Type 0 where
+pub record Based (own : Part) (o : Own) (c : WalkCost) : Type 0 where
   pub locals : length (own_locals o.job.locals o.job.callers) ≡ own.locals
   pub enough : own.owned ≤ length o.owned
   pub some : 4 ≤ c.run
 
-pub based : (e : Where) (own : Part) (o : Own) (c : Cost) → (Stands e own o c) ⊎ (Comes e own o c) → Based own o c
+pub based : (e : Where) (own : Part) (o : Own) (c : WalkCost) → (Stands e own o c) ⊎ (Comes e own o c) → Based own o c
 based e own o c (inl st) = record {
   locals = own_locals_of e own st.part o.job.locals o.job.callers st.below st.later st.frame.words.locals st.chain;
   enough = st.enough;
@@ -74,13 +74,13 @@ at_end e own p o is_own at no_operands no_callers outside locals enough = record
 }
 
 -- at the start of a tree of the process's own
-pub at_start_of : (e : Where) (own : Part) (p : Process) (tree : Segs) (start end_at : ℕ) (c : Cost) (o : Own) → IsOwn p own → Walks (within e own) None None 0 tree start end_at 0 0 c → At e end_at i.End
+pub at_start_of : (e : Where) (own : Part) (p : Process) (tree : Segs) (start end_at : ℕ) (c : WalkCost) (o : Own) → IsOwn p own → Walks (within e own) None None 0 tree start end_at 0 0 c → At e end_at i.End
     → o.job.place ≡ start → o.job.operands ≡ [] → o.job.callers ≡ [] → o.job.inside ≡ None → length o.job.locals ≡ own.locals → own.owned ≤ length o.owned
     → Stands e own o (record { run = c.run + 4; susp = c.susp; waits = c.waits; leave = c.leave + 4 })
 at_start_of e own p tree start end_at c o is_own walks ends place no_operands no_callers outside locals enough =
-    let none : Cost = record { run = 0; susp = 0; waits = 0; leave = 0 } in
-    let ending : Cost = record { run = 4; susp = 0; waits = 0; leave = 4 } in
-    let here : Cost = record { run = c.run + 4; susp = c.susp; waits = c.waits; leave = c.leave + 4 } in
+    let none : WalkCost = record { run = 0; susp = 0; waits = 0; leave = 0 } in
+    let ending : WalkCost = record { run = 4; susp = 0; waits = 0; leave = 4 } in
+    let here : WalkCost = record { run = c.run + 4; susp = c.susp; waits = c.waits; leave = c.leave + 4 } in
     let new : List Step = then_rest tree [] in
     let u : under new ≡ [] = under_then tree [] in
     let follows : Follows (within e own) None new start 0 here =
@@ -113,7 +113,7 @@ is_own_part e p ps false fits = fits.body
 is_own_part e p ps true fits = fits.handler
 
 -- after a raise: in the handler, or at an END
-raise_by : (e : Where) (p : Process) (ps : Parts) (dispatch_ticks number : ℕ) (ls owned shared : List ℤ) (left : Cost) (h b : Bool) → (b ≡ true → (h ≡ false) × (lists p.numbers number ≡ true)) → ProcessFits e p ps
+raise_by : (e : Where) (p : Process) (ps : Parts) (dispatch_ticks number : ℕ) (ls owned shared : List ℤ) (left : WalkCost) (h b : Bool) → (b ≡ true → (h ≡ false) × (lists p.numbers number ≡ true)) → ProcessFits e p ps
     → At e (end_of p h) i.End → length ls ≡ (part_of ps h).locals → (part_of ps h).owned ≤ length owned → 4 + spare ps h ≤ left.run
     → ReadyFits e p ps (record { place = cond b p.handler (end_of p h); done = 0; dispatch_ticks = dispatch_ticks; locals = ls; operands = []; callers = []; handling = cond b true h; inside = None }) owned shared left
 raise_by e p ps dispatch_ticks number ls owned shared left h true ok fits ends locals enough time =
@@ -147,7 +147,7 @@ handled_only : (h l : Bool) → not h && l ≡ true → (h ≡ false) × (l ≡ 
 handled_only false l is = (refl, is)
 handled_only true l is = absurd cc
 
-pub raise_fits : (e : Where) (p : Process) (ps : Parts) (job : Job) (owned shared : List ℤ) (number : ℕ) (left : Cost) → ProcessFits e p ps → At e (end_of p job.handling) i.End
+pub raise_fits : (e : Where) (p : Process) (ps : Parts) (job : Job) (owned shared : List ℤ) (number : ℕ) (left : WalkCost) → ProcessFits e p ps → At e (end_of p job.handling) i.End
     → length (own_locals job.locals job.callers) ≡ (part_of ps job.handling).locals → (part_of ps job.handling).owned ≤ length owned
     → 4 + spare ps job.handling ≤ left.run → ReadyFits e p ps (raised p number job) owned shared left
 raise_fits e p ps job owned shared number left fits ends locals enough time =
@@ -155,7 +155,7 @@ raise_fits e p ps job owned shared number left fits ends locals enough time =
 
 -- ---- the same at other words, and at another tick of the same instruction
 
-pub stands_at : (e : Where) (own : Part) (job : Job) (d b : ℕ) (owned owned' shared shared' : List ℤ) (c : Cost) → length owned ≤ length owned'
+pub stands_at : (e : Where) (own : Part) (job : Job) (d b : ℕ) (owned owned' shared shared' : List ℤ) (c : WalkCost) → length owned ≤ length owned'
     → Stands e own (own_of job owned shared) c → Stands e own (own_of (record job { done = d; dispatch_ticks = b }) owned' shared') c
 stands_at e own job d b owned owned' shared shared' c longer st = record {
   part = st.part;
@@ -173,7 +173,7 @@ stands_at e own job d b owned owned' shared shared' c longer st = record {
   covers = st.covers;
 }
 
-pub comes_at : (e : Where) (own : Part) (job : Job) (d b : ℕ) (owned owned' shared shared' : List ℤ) (c : Cost) → length owned ≤ length owned'
+pub comes_at : (e : Where) (own : Part) (job : Job) (d b : ℕ) (owned owned' shared shared' : List ℤ) (c : WalkCost) → length owned ≤ length owned'
     → Comes e own (own_of job owned shared) c → Comes e own (own_of (record job { done = d; dispatch_ticks = b }) owned' shared') c
 comes_at e own job d b owned owned' shared shared' c longer k =
     let r : Returning (within e k.part) k.path k.out k.height k.here (own_of job owned shared) = k.back in
@@ -205,7 +205,7 @@ comes_at e own job d b owned owned' shared shared' c longer k =
       covers = k.covers;
     }
 
-pub fits_at : (e : Where) (own : Part) (job : Job) (d b : ℕ) (owned owned' shared shared' : List ℤ) (c : Cost) → length owned ≤ length owned'
+pub fits_at : (e : Where) (own : Part) (job : Job) (d b : ℕ) (owned owned' shared shared' : List ℤ) (c : WalkCost) → length owned ≤ length owned'
     → (Stands e own (own_of job owned shared) c) ⊎ (Comes e own (own_of job owned shared) c)
     → (Stands e own (own_of (record job { done = d; dispatch_ticks = b }) owned' shared') c) ⊎ (Comes e own (own_of (record job { done = d; dispatch_ticks = b }) owned' shared') c)
 fits_at e own job d b owned owned' shared shared' c longer (inl st) = inl (stands_at e own job d b owned owned' shared shared' c longer st)
@@ -213,7 +213,7 @@ fits_at e own job d b owned owned' shared shared' c longer (inr k) = inr (comes_
 
 -- ---- the tick
 
-keeps_time : (e : Where) (own : Part) (c : Cost) (n : ℕ) (o : Own) (out : Outcome) → Keeps e own c n o out → n ≤ c.run
+keeps_time : (e : Where) (own : Part) (c : WalkCost) (n : ℕ) (o : Own) (out : Outcome) → Keeps e own c n o out → n ≤ c.run
 keeps_time e own c n o (Goes q) k = omega (arith, k.less)
 keeps_time e own c n o (Does a q) k = omega (arith, k.less)
 keeps_time e own c n o (Signals j q) k = omega (arith, k.less)
@@ -224,7 +224,7 @@ keeps_time e own c n o Ends k = k
 keeps_time e own c n o Stuck k = absurd k
 
 -- an instruction's last tick
-last_tick : (e : Where) (ps : Parts) (p : Process) (job : Job) (owned shared : List ℤ) (left : Cost) (n : ℕ) → ProcessFits e p ps → (ready : ReadyFits e p ps job owned shared left)
+last_tick : (e : Where) (ps : Parts) (p : Process) (job : Job) (owned shared : List ℤ) (left : WalkCost) (n : ℕ) → ProcessFits e p ps → (ready : ReadyFits e p ps job owned shared left)
     → n ≤ job.done + 1 → job.done < n → (out : Outcome) → Keeps e (part_of ps job.handling) ready.cost n (own_of job owned shared) out → TickFits e p ps job owned shared left out
 last_tick e ps p job owned shared left n fits ready last early out keeps = by_case out keeps where
   own : Part
@@ -232,7 +232,7 @@ last_tick e ps p job owned shared left n fits ready last early out keeps = by_ca
 
   again : (q : Own) → Less e own ready.cost n (own_of job owned shared) q → Ticks e p ps own job.inside job.dispatch_ticks owned shared left q
   again q l =
-      let after : Cost = record { run = l.cost.run + spare ps job.handling; susp = l.cost.susp; waits = l.cost.waits; leave = l.cost.leave } in
+      let after : WalkCost = record { run = l.cost.run + spare ps job.handling; susp = l.cost.susp; waits = l.cost.waits; leave = l.cost.leave } in
       record {
         after = after;
         fits = record {
@@ -257,7 +257,7 @@ last_tick e ps p job owned shared left n fits ready last early out keeps = by_ca
 
   pauses : (c limit : ℕ) (q : Own) → Pauses e own ready.cost n c limit (own_of job owned shared) q → Pausing e p ps owned shared left c limit q
   pauses c limit q l =
-      let after : Cost = record { run = l.cost.run + spare ps job.handling; susp = l.cost.susp; waits = l.cost.waits; leave = l.cost.leave } in
+      let after : WalkCost = record { run = l.cost.run + spare ps job.handling; susp = l.cost.susp; waits = l.cost.waits; leave = l.cost.leave } in
       record {
         monitor = l.monitor;
         of = l.of;

@@ -4,7 +4,7 @@ use Rattle.std.specs.Prelude.{slice_get, slice_set, ℤ}
 use Rattle.machine_semantics.specs.Image.{Image, Process}
 use Rattle.machine_semantics.specs.State.{Job, Thread, Idle, Ready, Waiting, State}
 use Rattle.machine_semantics.specs.Tick.{owned_of}
-use Rattle.machine_safety_spec.specs.Walk.{Where, Cost}
+use Rattle.machine_safety_spec.specs.Walk.{Where, WalkCost}
 use Rattle.machine_safety_spec.specs.Safe.{Parts, ReadyFits, WaitingFits, part_of}
 use Rattle.machine_safety_spec.specs.Whole.{ThreadFits, ceiling_of, IsInside, Apart, StateFits}
 use Rattle.machine_safety.proofs.Ticking.{fits_at, comes_at}
@@ -28,11 +28,11 @@ length_owned (v ∷ vs) (suc k) (suc j) w is = length_owned vs k j w is
 
 -- ---- threads that do not run
 
-pub ready_elsewhere : (e : Where) (p : Process) (ps : Parts) (job : Job) (owned owned' shared shared' : List ℤ) (left : Cost) → length owned ≤ length owned' → ReadyFits e p ps job owned shared left → ReadyFits e p ps job owned' shared' left
+pub ready_elsewhere : (e : Where) (p : Process) (ps : Parts) (job : Job) (owned owned' shared shared' : List ℤ) (left : WalkCost) → length owned ≤ length owned' → ReadyFits e p ps job owned shared left → ReadyFits e p ps job owned' shared' left
 ready_elsewhere e p ps job owned owned' shared shared' left longer r =
     record { cost = r.cost; fits = fits_at e (part_of ps job.handling) job job.done job.dispatch_ticks owned owned' shared shared' r.cost longer r.fits; early = r.early; ends = r.ends; run = r.run; susp = r.susp; waits = r.waits; leave = r.leave }
 
-pub waiting_elsewhere : (e : Where) (p : Process) (ps : Parts) (job : Job) (owned owned' shared shared' : List ℤ) (left : Cost) → length owned ≤ length owned' → WaitingFits e p ps job owned shared left → WaitingFits e p ps job owned' shared' left
+pub waiting_elsewhere : (e : Where) (p : Process) (ps : Parts) (job : Job) (owned owned' shared shared' : List ℤ) (left : WalkCost) → length owned ≤ length owned' → WaitingFits e p ps job owned shared left → WaitingFits e p ps job owned' shared' left
 waiting_elsewhere e p ps job owned owned' shared shared' left longer r =
     record { cost = r.cost; fits = comes_at e (part_of ps job.handling) job job.done job.dispatch_ticks owned owned' shared shared' r.cost longer r.fits; fresh = r.fresh; ends = r.ends; run = r.run; susp = r.susp; waits = r.waits }
 

@@ -10,7 +10,7 @@ use Rattle.machine_semantics.specs.State.{Job, Thread, Idle, Ready, Waiting, Sta
 use Rattle.machine_semantics.specs.Effect.{Own, Outcome, Goes, Does, Signals, Broadcasts, Waits, Raises, Ends, Stuck}
 use Rattle.machine_semantics.specs.Starts.{Started, unchanged, told, released, release, release_thread, time_out, raised, without, queue_of, starts}
 use Rattle.machine_semantics.specs.Tick.{Candidate, least, pick, woken, wake, wake_all, first, rest, wake_first, settle, outcome, owned_of, run_thread, run_picked, tick}
-use Rattle.machine_safety_spec.specs.Walk.{Where, Cost}
+use Rattle.machine_safety_spec.specs.Walk.{Where, WalkCost}
 use Rattle.machine_safety_spec.specs.Safe.{Parts, ImageFits, ReadyFits, Ticks, TickFits, own_of, part_of, spare}
 use Rattle.machine_safety_spec.specs.Whole.{StateFits}
 use Rattle.machine_safety_spec.specs.Work.{work_of, HasLeft, Owes, IsBusy, is_chosen, runs, worst_of, activation, WorkFalls, ReleaseOwes}
@@ -27,7 +27,7 @@ times_le a b c h = let e : c ≡ b + (c - b) = omega arith in subst (λ (x : ℕ
 
 -- ---- another process changes
 
-pub left_elsewhere : (e : Where) (p : Process) (ps : Parts) (t : Thread) (owned owned' shared shared' : List ℤ) (left : Cost) → length owned ≤ length owned' → HasLeft e p ps t owned shared left → HasLeft e p ps t owned' shared' left
+pub left_elsewhere : (e : Where) (p : Process) (ps : Parts) (t : Thread) (owned owned' shared shared' : List ℤ) (left : WalkCost) → length owned ≤ length owned' → HasLeft e p ps t owned shared left → HasLeft e p ps t owned' shared' left
 left_elsewhere e p ps Idle owned owned' shared shared' left longer h = tt
 left_elsewhere e p ps (Ready job) owned owned' shared shared' left longer h = ready_elsewhere e p ps job owned owned' shared shared' left longer h
 left_elsewhere e p ps (Waiting c due n job) owned owned' shared shared' left longer h = waiting_elsewhere e p ps job owned owned' shared shared' left longer h
@@ -140,7 +140,7 @@ module _ (e : Where) (ps : ℕ → Parts) (image_fits : ImageFits e ps) where
             b : Based (part_of (ps k) job.handling) (own_of job own s.shared) has.cost
             b = based e (part_of (ps k) job.handling) (own_of job own s.shared) has.cost (inr has.fits)
 
-            left : Cost
+            left : WalkCost
             left = record { run = 4 + spare (ps k) job.handling; susp = 0; waits = 0; leave = 0 }
 
             queues : List (List ℕ)
@@ -190,7 +190,7 @@ module _ (e : Where) (ps : ℕ → Parts) (image_fits : ImageFits e ps) where
   -- ---- the tick of the process that runs
 
   -- its thread is this, with so much left, and the other threads may be taken out of a queue after it
-  ran : (s : State) (k m : ℕ) (p : Process) (old new : Thread) (w shared : List ℤ) (queues : List (List ℕ)) (left : Cost)
+  ran : (s : State) (k m : ℕ) (p : Process) (old new : Thread) (w shared : List ℤ) (queues : List (List ℕ)) (left : WalkCost)
       → slice_get e.image.processes k ≡ Some p → slice_get s.threads k ≡ Some old → length w ≤ length (owned_of (slice_get (slice_set s.owned k w) k)) → HasLeft e p (ps k) new w shared left → work_of e.image.over new left ≤ m
       → Owes e ps (record { threads = slice_set s.threads k new; owned = slice_set s.owned k w; shared = shared; queues = queues; devices = s.devices }) k m
   ran s k m p old new w shared queues left process at longer has work = record {
@@ -203,7 +203,7 @@ module _ (e : Where) (ps : ℕ → Parts) (image_fits : ImageFits e ps) where
     has = left_elsewhere e p (ps k) new w (owned_of (slice_get (slice_set s.owned k w) k)) shared shared left longer has;
   }
 
-  settle_owes : (t : ℕ) (s : State) (k n : ℕ) (p : Process) (job : Job) (left : Cost) (out : Outcome) → slice_get e.image.processes k ≡ Some p → slice_get s.threads k ≡ Some (Ready job)
+  settle_owes : (t : ℕ) (s : State) (k n : ℕ) (p : Process) (job : Job) (left : WalkCost) (out : Outcome) → slice_get e.image.processes k ≡ Some p → slice_get s.threads k ≡ Some (Ready job)
       → TickFits e p (ps k) job (owned_of (slice_get s.owned k)) s.shared left out → job.dispatch_ticks ≡ 0 → left.run + 2 * e.image.over * left.waits ≤ n
       → (m : ℕ) × (n ≡ m + 1) × Owes e ps (settle e.image t k p job s out).state k m
   settle_owes t s k n p job left out process at fits no_burn work = by_case out fits where
@@ -282,7 +282,7 @@ module _ (e : Where) (ps : ℕ → Parts) (image_fits : ImageFits e ps) where
   run_other t s j k n None th differ o = o
 
   -- the tick of the process that is picked
-  run_it : (t : ℕ) (s : State) (c : Candidate) (ch : Chosen e.image 0 e.image.processes s.threads c) (k n : ℕ) → c.place ≡ k → StateFits e ps s → (left : Cost)
+  run_it : (t : ℕ) (s : State) (c : Candidate) (ch : Chosen e.image 0 e.image.processes s.threads c) (k n : ℕ) → c.place ≡ k → StateFits e ps s → (left : WalkCost)
       → slice_get e.image.processes k ≡ Some ch.p → slice_get s.threads k ≡ Some (Ready ch.job) → ReadyFits e ch.p (ps k) ch.job (owned_of (slice_get s.owned k)) s.shared left
       → left.run + ch.job.dispatch_ticks + 2 * e.image.over * left.waits ≤ n
       → (m : ℕ) × (n ≡ m + 1) × Owes e ps (settle e.image t k ch.p ch.job s (outcome e.image s ch.job (owned_of (slice_get s.owned k)) ch.job.dispatch_ticks)).state k m

@@ -8,7 +8,7 @@ use Rattle.machine_semantics.specs.Tick.{tick}
 use Rattle.machine_semantics.specs.Run.{state_at}
 use Rattle.machine_semantics_law.specs.Example.{waiter_and_signaller}
 use Rattle.machine_safety_spec.specs.Part.{Part}
-use Rattle.machine_safety_spec.specs.Walk.{Where, Cost}
+use Rattle.machine_safety_spec.specs.Walk.{Where, WalkCost}
 use Rattle.machine_safety_spec.specs.Safe.{Parts, ImageFits}
 
 -- no tick of any run of the image is stuck
@@ -16,7 +16,7 @@ abbrev pub IsNeverStuck : Image → Type 0
 IsNeverStuck image = (script : Script) (t : ℕ) → (tick image script t (state_at image script t)).stuck ≡ false
 
 -- so many ticks, ticks of waiting and waits; it is left at the end at the latest
-abbrev pub cost : ℕ → ℕ → ℕ → Cost
+abbrev pub cost : ℕ → ℕ → ℕ → WalkCost
 cost r s w = record { run = r; susp = s; waits = w; leave = r }
 
 -- a part without locals or words of its own, whose END is at height 0
@@ -83,7 +83,7 @@ looping_part zero = inner_part
 looping_part (suc r) = outer_part
 
 -- by routine what it costs at most, with its return
-abbrev pub looping_cost : ℕ → Cost
+abbrev pub looping_cost : ℕ → WalkCost
 looping_cost zero = cost 9 0 0
 looping_cost (suc r) = cost 22 0 0
 
@@ -107,7 +107,7 @@ abbrev pub entry_part : ℕ → Part
 entry_part r = record { locals = 0; owned = 0; monitor = Some 0; depth = 0; last = i.Return; results = 0; level = 1; limit = 1; stays = λ m. entry_stay r }
 
 -- by entry what it costs at most, with its return
-abbrev pub entry_cost : ℕ → Cost
+abbrev pub entry_cost : ℕ → WalkCost
 entry_cost zero = cost 22 30 1
 entry_cost (suc r) = cost 17 0 0
 

@@ -7,7 +7,7 @@ use Rattle.machine_semantics.specs.State.{Caller, State, is_free}
 use Rattle.machine_semantics.specs.Effect.{Own, Outcome, Goes, Does, Signals, Broadcasts, Waits, Raises, Ends, Stuck, effect}
 use Rattle.machine_isa.specs.Ticks.{ticks}
 use Rattle.machine_safety_spec.specs.Part.{Part, kinds, plains, IsSized}
-use Rattle.machine_safety_spec.specs.Walk.{Where, Cost, Covers, At, Reaches, Walks, within}
+use Rattle.machine_safety_spec.specs.Walk.{Where, WalkCost, Covers, At, Reaches, Walks, within}
 use Rattle.machine_safety_spec.specs.Path.{Step, under, held, Follows, Frame, Returning, next_own}
 
 -- ---- routines
@@ -17,7 +17,7 @@ use Rattle.machine_safety_spec.specs.Path.{Step, under, held, Follows, Frame, Re
 pub record RoutineFits (e : Where) (r : ℕ) (routine : Routine) : Type 0 where
   pub locals : (e.parts r).locals ≡ routine.locals
   pub last : ℕ
-  pub inner : Cost
+  pub inner : WalkCost
   pub tree : Walks (within e (e.parts r)) None None 0 routine.tree routine.start last 0 (e.parts r).results inner
   pub ends : At e last (e.parts r).last
   pub returns : (((e.parts r).results ≡ 0) × ((e.parts r).last ≡ i.Return)) ⊎ (((e.parts r).results ≡ 1) × ((e.parts r).last ≡ i.ReturnValue))
@@ -50,7 +50,7 @@ pub record Inside (part : Part) (path : List Step) (inside below : Option ℕ) :
 -- The callers of a part, from the innermost out to the process's own part. Each has steps of its
 -- own from where it goes on, once the part has left its results; the frames together fit the depth
 -- that the outermost part has.
-abbrev pub Chain : Where → (own part : Part) → List Caller → (inside : Option ℕ) → Cost → Type 0
+abbrev pub Chain : Where → (own part : Part) → List Caller → (inside : Option ℕ) → WalkCost → Type 0
 Chain e own part [] inside c = (part ≡ own) × (inside ≡ None)
 Chain e own part (k ∷ ks) inside c = record {
   r : ℕ;
@@ -61,8 +61,8 @@ Chain e own part (k ∷ ks) inside c = record {
   path : List Step;
   out : Option ℕ;
   h : ℕ;
-  first : Cost;
-  later : Cost;
+  first : WalkCost;
+  later : WalkCost;
   below : Option ℕ;
   follows : Follows (within e caller) out path k.back (part.results + h) first;
   operands : kinds k.operands ≡ plains h (under path);
@@ -80,13 +80,13 @@ Chain e own part (k ∷ ks) inside c = record {
 
 -- the process stands at an instruction of a part, in a frame with steps to do, above its callers;
 -- it has at most this to do
-pub record Stands (e : Where) (own : Part) (o : Own) (c : Cost) : Type 0 where
+pub record Stands (e : Where) (own : Part) (o : Own) (c : WalkCost) : Type 0 where
   pub part : Part
   pub path : List Step
   pub out : Option ℕ
   pub height : ℕ
-  pub here : Cost
-  pub later : Cost
+  pub here : WalkCost
+  pub later : WalkCost
   pub below : Option ℕ
   pub frame : Frame (within e part) path out height here o
   pub inside_is : Inside part path o.job.inside below
@@ -96,13 +96,13 @@ pub record Stands (e : Where) (own : Part) (o : Own) (c : Cost) : Type 0 where
   pub covers : Covers c (here.run + later.run) (here.susp + later.susp) (here.waits + later.waits) (joined part.monitor here.leave later.leave)
 
 -- the process stands at the REENT that follows a wait, outside all monitors
-pub record Comes (e : Where) (own : Part) (o : Own) (c : Cost) : Type 0 where
+pub record Comes (e : Where) (own : Part) (o : Own) (c : WalkCost) : Type 0 where
   pub part : Part
   pub path : List Step
   pub out : Option ℕ
   pub height : ℕ
-  pub here : Cost
-  pub later : Cost
+  pub here : WalkCost
+  pub later : WalkCost
   pub back : Returning (within e part) path out height here o
   pub outside : o.job.inside ≡ None
   pub level : (part.level ≡ 2) → ⊥
@@ -113,8 +113,8 @@ pub record Comes (e : Where) (own : Part) (o : Own) (c : Cost) : Type 0 where
 -- ---- what an instruction of n ticks comes to
 
 -- the process stands at an instruction again, with at least n ticks less to do
-pub record Less (e : Where) (own : Part) (c : Cost) (n : ℕ) (o p : Own) : Type 0 where
-  pub cost : Cost
+pub record Less (e : Where) (own : Part) (c : WalkCost) (n : ℕ) (o p : Own) : Type 0 where
+  pub cost : WalkCost
   pub stands : Stands e own p cost
   pub less : Covers c (cost.run + n) cost.susp cost.waits 0
   -- it stays where it was, or leaves its monitor, or was inside none
@@ -132,11 +132,11 @@ pub record Less (e : Where) (own : Part) (c : Cost) (n : ℕ) (o p : Own) : Type
 
 -- the process waits on a condition, for at most limit ticks, with at least n ticks and the wait
 -- less to do
-pub record Pauses (e : Where) (own : Part) (c : Cost) (n condition limit : ℕ) (o p : Own) : Type 0 where
+pub record Pauses (e : Where) (own : Part) (c : WalkCost) (n condition limit : ℕ) (o p : Own) : Type 0 where
   -- there is such a condition, so it has a queue
   pub monitor : ℕ
   pub of : slice_get e.image.conditions condition ≡ Some monitor
-  pub cost : Cost
+  pub cost : WalkCost
   pub comes : Comes e own p cost
   pub less : Covers c (cost.run + n) (cost.susp + limit) (cost.waits + 1) 0
   pub done : p.job.done ≡ 0
@@ -147,7 +147,7 @@ pub record Pauses (e : Where) (own : Part) (c : Cost) (n condition limit : ℕ) 
 
 -- the outcome is not stuck; where it goes on the process fits, and a raise leaves at least the
 -- ticks of an END to be paid
-abbrev pub Keeps : Where → Part → Cost → ℕ → Own → Outcome → Type 0
+abbrev pub Keeps : Where → Part → WalkCost → ℕ → Own → Outcome → Type 0
 Keeps e own c n o (Goes p) = Less e own c n o p
 Keeps e own c n o (Does a p) = Less e own c n o p
 Keeps e own c n o (Signals k p) = Less e own c n o p
@@ -164,6 +164,6 @@ FindsFree e s own o = (m : ℕ) (monitor : Monitor) → slice_get e.image.monito
 -- The law: an instruction of a process that fits its trees is not stuck; the process fits them
 -- after it, with less to do.
 abbrev pub InstructionIsSafe : Type 0
-InstructionIsSafe = (e : Where) (s : State) (own : Part) (o : Own) (c : Cost) → RoutinesFit e → IsSized e.image s o.shared → own.last ≡ i.End
+InstructionIsSafe = (e : Where) (s : State) (own : Part) (o : Own) (c : WalkCost) → RoutinesFit e → IsSized e.image s o.shared → own.last ≡ i.End
     → (Stands e own o c) ⊎ (Comes e own o c) → FindsFree e s own o
     → (instr : Instr) × At e o.job.place instr × Keeps e own c (ticks instr) o (effect e.image s instr (next_own o)) × ((m : ℕ) → o.job.inside ≡ Some m → ticks instr ≤ c.leave)

@@ -7,7 +7,7 @@ use Rattle.machine_semantics.specs.Effect.{Own}
 use Rattle.machine_semantics.specs.Tick.{at_next}
 use Rattle.machine_safety_spec.specs.Part.{Kind, Counts, kinds, plains}
 use Rattle.machine_safety_spec.specs.SafeTerms.{IsIn}
-use Rattle.machine_safety_spec.specs.Walk.{Where, Cost, Covers, At, Reaches, Walk, Walks}
+use Rattle.machine_safety_spec.specs.Walk.{Where, WalkCost, Covers, At, Reaches, Walk, Walks}
 
 -- a step that is still to be done in a frame
 pub data Step : Type 0 where
@@ -45,7 +45,7 @@ then_rest (Cons head more) rest = Segment head ∷ then_rest more rest
 
 -- the code from place at on does these steps, from height h, at most at this cost, and then comes
 -- to the end of the part
-abbrev pub Follows : Where → (out : Option ℕ) → List Step → (at h : ℕ) → Cost → Type 0
+abbrev pub Follows : Where → (out : Option ℕ) → List Step → (at h : ℕ) → WalkCost → Type 0
 Follows e out [] at h c = record {
   no_loop : out ≡ None;
   ends : At e at e.part.last;
@@ -55,15 +55,15 @@ Follows e out [] at h c = record {
 Follows e out (Segment seg ∷ rest) at h c = record {
   next : ℕ;
   k : ℕ;
-  first : Cost;
-  later : Cost;
+  first : WalkCost;
+  later : WalkCost;
   walk : Walk e out (held rest) (length (under rest)) seg at next h k first;
   more : Follows e out rest next k later;
   covers : Covers c (first.run + later.run) (first.susp + later.susp) (first.waits + later.waits) (first.leave + later.leave);
 }
 Follows e out (Skip to ∷ rest) at h c = record {
   jumps : At e at (i.Jump (pos to));
-  later : Cost;
+  later : WalkCost;
   more : Follows e out rest to h later;
   covers : Covers c (1 + later.run) later.susp later.waits (1 + later.leave);
 }
@@ -71,10 +71,10 @@ Follows e out (Again turns start body height ∷ rest) at h c = record {
   empty : h ≡ 0;
   repeats : At e at (i.Repeat (pos start));
   out_is : out ≡ Some (at + 1);
-  turn : Cost;
+  turn : WalkCost;
   loop : Walks e out (held rest) (suc (length (plains height (under rest)))) body start at 0 0 turn;
   outer : Option ℕ;
-  later : Cost;
+  later : WalkCost;
   more : Follows e outer rest (at + 1) height later;
   room : suc (length (plains height (under rest))) ≤ e.part.depth;
   covers : Covers c (3 + turns * (turn.run + 3) + later.run) (turns * turn.susp + later.susp) (turns * turn.waits + later.waits) (3 + turns * (turn.leave + 3) + later.leave);
@@ -84,13 +84,13 @@ Follows e out (Leaves m ∷ rest) at h c = record {
   leaves : At e at (i.Leave (pos m));
   entry : e.part.monitor ≡ Some m;
   outside : held rest ≡ None;
-  later : Cost;
+  later : WalkCost;
   more : Follows e out rest (at + 1) h later;
   covers : Covers c (3 + later.run) later.susp later.waits 3;
 }
 
 -- the innermost frame has these steps to do, with the operands and words that they need
-pub record Frame (e : Where) (path : List Step) (out : Option ℕ) (h : ℕ) (c : Cost) (o : Own) : Type 0 where
+pub record Frame (e : Where) (path : List Step) (out : Option ℕ) (h : ℕ) (c : WalkCost) (o : Own) : Type 0 where
   pub follows : Follows e out path o.job.place h c
   pub operands : kinds o.job.operands ≡ plains h (under path)
   pub room : length (plains h (under path)) ≤ e.part.depth
@@ -98,13 +98,13 @@ pub record Frame (e : Where) (path : List Step) (out : Option ℕ) (h : ℕ) (c 
 
 -- the frame stands at the REENT that follows a wait, outside the monitor of its entry; the steps
 -- are those after it
-pub record Returning (e : Where) (path : List Step) (out : Option ℕ) (h : ℕ) (c : Cost) (o : Own) : Type 0 where
+pub record Returning (e : Where) (path : List Step) (out : Option ℕ) (h : ℕ) (c : WalkCost) (o : Own) : Type 0 where
   pub monitor : ℕ
   pub enters : At e o.job.place (i.Reenter (pos monitor))
   pub entry : held path ≡ Some monitor
   pub is_entry : e.part.monitor ≡ Some monitor
   pub reach : Reaches e monitor
-  pub later : Cost
+  pub later : WalkCost
   pub follows : Follows e out path (o.job.place + 1) h later
   pub operands : kinds o.job.operands ≡ plains h (under path)
   pub room : length (plains h (under path)) ≤ e.part.depth
@@ -114,11 +114,11 @@ pub record Returning (e : Where) (path : List Step) (out : Option ℕ) (h : ℕ)
 
 -- after an instruction of n ticks within the frame: the frame has other steps, and at least n ticks
 -- less to do
-pub record Moved (e : Where) (path : List Step) (c : Cost) (n : ℕ) (o p : Own) : Type 0 where
+pub record Moved (e : Where) (path : List Step) (c : WalkCost) (n : ℕ) (o p : Own) : Type 0 where
   pub new_path : List Step
   pub out : Option ℕ
   pub height : ℕ
-  pub cost : Cost
+  pub cost : WalkCost
   pub frame : Frame e new_path out height cost p
   pub same_held : held new_path ≡ held path
   pub less : Covers c (cost.run + n) cost.susp cost.waits (cost.leave + n)

@@ -11,7 +11,7 @@ use Rattle.machine_semantics.specs.Starts.{raised, lists}
 use Rattle.machine_semantics.specs.Tick.{outcome_at}
 use Rattle.machine_semantics.specs.Run.{words_of}
 use Rattle.machine_safety_spec.specs.Part.{Part, IsSized}
-use Rattle.machine_safety_spec.specs.Walk.{Where, Cost, Covers, At, Reaches, Walks, within}
+use Rattle.machine_safety_spec.specs.Walk.{Where, WalkCost, Covers, At, Reaches, Walks, within}
 use Rattle.machine_safety_spec.specs.Job.{Stands, Comes, FindsFree, RoutinesFit}
 
 -- ---- a process of a valid image
@@ -20,8 +20,8 @@ use Rattle.machine_safety_spec.specs.Job.{Stands, Comes, FindsFree, RoutinesFit}
 pub record Parts : Type 0 where
   pub body : Part
   pub handler : Part
-  pub body_cost : Cost
-  pub handler_cost : Cost
+  pub body_cost : WalkCost
+  pub handler_cost : WalkCost
 
 -- the part is a process's own: it ends with END, has the process's locals, words and stack, and the
 -- ceiling of each monitor that it enters is at most, as a number, the process's rank
@@ -75,8 +75,8 @@ own_of job owned shared = record { job = job; owned = owned; shared = shared }
 
 -- a ready process fits its trees, with at most so much left to do: the ticks of its instruction
 -- that have passed are paid, and a handler that has not run may still come
-pub record ReadyFits (e : Where) (p : Process) (ps : Parts) (job : Job) (owned shared : List ℤ) (left : Cost) : Type 0 where
-  pub cost : Cost
+pub record ReadyFits (e : Where) (p : Process) (ps : Parts) (job : Job) (owned shared : List ℤ) (left : WalkCost) : Type 0 where
+  pub cost : WalkCost
   pub fits : (Stands e (part_of ps job.handling) (own_of job owned shared) cost) ⊎ (Comes e (part_of ps job.handling) (own_of job owned shared) cost)
   pub early : (instr : Instr) → At e job.place instr → job.done < ticks instr
   pub ends : At e (end_of p job.handling) i.End
@@ -86,8 +86,8 @@ pub record ReadyFits (e : Where) (p : Process) (ps : Parts) (job : Job) (owned s
   pub leave : (m : ℕ) → job.inside ≡ Some m → cost.leave ≤ left.leave + job.done
 
 -- a waiting process, outside its monitor, with at most so much left to do after the wait
-pub record WaitingFits (e : Where) (p : Process) (ps : Parts) (job : Job) (owned shared : List ℤ) (left : Cost) : Type 0 where
-  pub cost : Cost
+pub record WaitingFits (e : Where) (p : Process) (ps : Parts) (job : Job) (owned shared : List ℤ) (left : WalkCost) : Type 0 where
+  pub cost : WalkCost
   pub fits : Comes e (part_of ps job.handling) (own_of job owned shared) cost
   pub fresh : job.done ≡ 0
   pub ends : At e (end_of p job.handling) i.End
@@ -99,8 +99,8 @@ pub record WaitingFits (e : Where) (p : Process) (ps : Parts) (job : Job) (owned
 
 -- the process is ready again, with one tick less at least; was is the monitor that it was inside,
 -- burnt the ticks of dispatch that it had
-pub record Ticks (e : Where) (p : Process) (ps : Parts) (own : Part) (was : Option ℕ) (burnt : ℕ) (before words : List ℤ) (left : Cost) (q : Own) : Type 0 where
-  pub after : Cost
+pub record Ticks (e : Where) (p : Process) (ps : Parts) (own : Part) (was : Option ℕ) (burnt : ℕ) (before words : List ℤ) (left : WalkCost) (q : Own) : Type 0 where
+  pub after : WalkCost
   pub fits : ReadyFits e p ps q.job q.owned q.shared after
   pub less : Covers left (after.run + 1) after.susp after.waits 0
   pub inside : (q.job.inside ≡ was) ⊎ ((q.job.inside ≡ None) ⊎ (was ≡ None))
@@ -112,17 +112,17 @@ pub record Ticks (e : Where) (p : Process) (ps : Parts) (own : Part) (was : Opti
   pub shared : length q.shared ≡ length words
 
 -- the process waits, with one tick and the wait less at least
-pub record Pausing (e : Where) (p : Process) (ps : Parts) (before words : List ℤ) (left : Cost) (condition limit : ℕ) (q : Own) : Type 0 where
+pub record Pausing (e : Where) (p : Process) (ps : Parts) (before words : List ℤ) (left : WalkCost) (condition limit : ℕ) (q : Own) : Type 0 where
   pub monitor : ℕ
   pub of : slice_get e.image.conditions condition ≡ Some monitor
-  pub after : Cost
+  pub after : WalkCost
   pub fits : WaitingFits e p ps q.job q.owned q.shared after
   pub less : Covers left (after.run + 1) (after.susp + limit) (after.waits + 1) 0
   pub owned : length q.owned ≡ length before
   pub shared : length q.shared ≡ length words
 
 -- what a tick of the process comes to
-abbrev pub TickFits : Where → Process → Parts → Job → List ℤ → List ℤ → Cost → Outcome → Type 0
+abbrev pub TickFits : Where → Process → Parts → Job → List ℤ → List ℤ → WalkCost → Outcome → Type 0
 TickFits e p ps job owned shared left (Goes q) = Ticks e p ps (part_of ps job.handling) job.inside job.dispatch_ticks owned shared left q
 TickFits e p ps job owned shared left (Does a q) = Ticks e p ps (part_of ps job.handling) job.inside job.dispatch_ticks owned shared left q
 TickFits e p ps job owned shared left (Signals c q) = Ticks e p ps (part_of ps job.handling) job.inside job.dispatch_ticks owned shared left q
@@ -135,7 +135,7 @@ TickFits e p ps job owned shared left Stuck = ⊥
 -- The law: a tick of an instruction of a ready process is not stuck; the process fits after it and
 -- has less left.
 abbrev pub TickIsSafe : Type 0
-TickIsSafe = (e : Where) (ps : Parts) (s : State) (p : Process) (job : Job) (owned : List ℤ) (left : Cost)
+TickIsSafe = (e : Where) (ps : Parts) (s : State) (p : Process) (job : Job) (owned : List ℤ) (left : WalkCost)
     → RoutinesFit e → ProcessFits e p ps → IsSized e.image s s.shared → ReadyFits e p ps job owned s.shared left
     → FindsFree e s (part_of ps job.handling) (own_of job owned s.shared)
     → TickFits e p ps job owned s.shared left (outcome_at e.image s job owned (slice_get e.image.code job.place))

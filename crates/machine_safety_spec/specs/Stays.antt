@@ -4,7 +4,7 @@ use Rattle.machine_semantics.specs.Image.{Process, Monitor, Script}
 use Rattle.machine_semantics.specs.Starts.{starts}
 use Rattle.machine_semantics.specs.State.{Job, Ready, State, is_free}
 use Rattle.machine_semantics.specs.Tick.{Candidate, pick, owned_of, tick}
-use Rattle.machine_safety_spec.specs.Walk.{Where, Cost, Reaches, within}
+use Rattle.machine_safety_spec.specs.Walk.{Where, WalkCost, Reaches, within}
 use Rattle.machine_safety_spec.specs.Safe.{Parts, ImageFits, ReadyFits, part_of}
 use Rattle.machine_safety_spec.specs.Whole.{StateFits}
 use Rattle.machine_safety_spec.specs.Work.{runs}
@@ -13,7 +13,7 @@ use Rattle.machine_safety_spec.specs.Work.{runs}
 pub record StaysIn (e : Where) (ps : ℕ → Parts) (s : State) (k m n : ℕ) : Type 0 where
   pub p : Process
   pub job : Job
-  pub left : Cost
+  pub left : WalkCost
   pub process : slice_get e.image.processes k ≡ Some p
   pub there : slice_get s.threads k ≡ Some (Ready job)
   pub inside : job.inside ≡ Some m

@@ -4,7 +4,7 @@ use Rattle.machine_semantics.specs.Image.{Image, Process, Script}
 use Rattle.machine_semantics.specs.State.{Thread, Idle, Ready, Waiting, State}
 use Rattle.machine_semantics.specs.Starts.{release, starts}
 use Rattle.machine_semantics.specs.Tick.{owned_of, tick}
-use Rattle.machine_safety_spec.specs.Walk.{Where, Cost}
+use Rattle.machine_safety_spec.specs.Walk.{Where, WalkCost}
 use Rattle.machine_safety_spec.specs.Safe.{Parts, ImageFits}
 use Rattle.machine_safety_spec.specs.Whole.{StateFits}
 use Rattle.machine_safety_spec.specs.Work.{HasLeft, worst_of, IsBusy}
@@ -15,13 +15,13 @@ IsRanked image = (k : ℕ) (p : Process) → slice_get image.processes k ≡ Som
 
 -- before tick t, the ticks in which the process may still wait: the rest of a wait that has begun,
 -- and the waits to come
-abbrev pub suspension_of : ℕ → Thread → Cost → ℕ
+abbrev pub suspension_of : ℕ → Thread → WalkCost → ℕ
 suspension_of t Idle left = 0
 suspension_of t (Ready job) left = left.susp
 suspension_of t (Waiting condition due number job) left = due - t + left.susp
 
 -- the waits to come
-abbrev pub waits_of : Thread → Cost → ℕ
+abbrev pub waits_of : Thread → WalkCost → ℕ
 waits_of Idle left = 0
 waits_of (Ready job) left = left.waits
 waits_of (Waiting condition due number job) left = left.waits
@@ -44,7 +44,7 @@ is_waiting None = false
 pub record Suspends (e : Where) (ps : ℕ → Parts) (s : State) (t k n w : ℕ) : Type 0 where
   pub p : Process
   pub thread : Thread
-  pub left : Cost
+  pub left : WalkCost
   pub process : slice_get e.image.processes k ≡ Some p
   pub there : slice_get s.threads k ≡ Some thread
   pub has : HasLeft e p (ps k) thread (owned_of (slice_get s.owned k)) s.shared left

@@ -11,14 +11,14 @@ use Rattle.machine_safety_spec.specs.Part.{Part, IsPlain}
 
 -- ticks of execution, ticks of suspension, waits; and ticks of execution until the monitor is left
 -- that the process is inside
-pub record Cost : Type 0 where
+pub record WalkCost : Type 0 where
   pub run : ℕ
   pub susp : ℕ
   pub waits : ℕ
   pub leave : ℕ
 
 -- the cost is at least this
-pub record Covers (c : Cost) (r s w l : ℕ) : Type 0 where
+pub record Covers (c : WalkCost) (r s w l : ℕ) : Type 0 where
   pub run : r ≤ c.run
   pub susp : s ≤ c.susp
   pub waits : w ≤ c.waits
@@ -29,7 +29,7 @@ pub record Covers (c : Cost) (r s w l : ℕ) : Type 0 where
 pub record Where : Type 0 where
   pub image : Image
   pub parts : ℕ → Part
-  pub costs : ℕ → Cost
+  pub costs : ℕ → WalkCost
   pub part : Part
 
 -- the same place in another part
@@ -52,7 +52,7 @@ abbrev pub MayCall : ℕ → ℕ → Type 0
 MayCall caller callee = (callee ≡ 0) ⊎ (caller ≡ 2)
 
 -- so many plain instructions, each of which finds its operands and stays within the depth
-abbrev pub IsLine : Where → ℕ → ℕ → (at next h k : ℕ) → Cost → Type 0
+abbrev pub IsLine : Where → ℕ → ℕ → (at next h k : ℕ) → WalkCost → Type 0
 IsLine e base zero at next h k c = (next ≡ at) × (k ≡ h)
 IsLine e base (suc n) at next h k c = record {
   instr : Instr;
@@ -61,7 +61,7 @@ IsLine e base (suc n) at next h k c = record {
   kept : ℕ;
   taken : h ≡ takes instr + kept;
   room : gives instr + kept + base ≤ e.part.depth;
-  later : Cost;
+  later : WalkCost;
   more : IsLine e base n (at + 1) next (gives instr + kept) k later;
   covers : Covers c (ticks instr + later.run) later.susp later.waits (ticks instr + later.leave);
 }
@@ -72,7 +72,7 @@ IsLine e base (suc n) at next h k c = record {
 -- monitor that the process is inside by this part. Costs are upper bounds, so a Fork needs no
 -- maximum.
 abbrev mutual
-  pub Walk : Where → (out : Option ℕ) (held : Option ℕ) (base : ℕ) → Seg → (at next h k : ℕ) → Cost → Type 0
+  pub Walk : Where → (out : Option ℕ) (held : Option ℕ) (base : ℕ) → Seg → (at next h k : ℕ) → WalkCost → Type 0
   Walk e out held base (Line zero) at next h k c = ⊥
   Walk e out held base (Line (suc n)) at next h k c = (held ≡ e.part.monitor) × IsLine e base (suc n) at next h k c
   Walk e out held base (Fork first second) at next h k c = record {
@@ -80,10 +80,10 @@ abbrev mutual
     below : ℕ;
     tests : At e at (i.JumpZero (pos (jump + 1)));
     taken : h ≡ suc below;
-    first_cost : Cost;
+    first_cost : WalkCost;
     first_arm : Walks e out held base first (at + 1) jump below k first_cost;
     jumps : At e jump (i.Jump (pos next));
-    second_cost : Cost;
+    second_cost : WalkCost;
     second_arm : Walks e out held base second (jump + 1) next below k second_cost;
     covers_first : Covers c (first_cost.run + 3) first_cost.susp first_cost.waits (first_cost.leave + 3);
     covers_second : Covers c (second_cost.run + 2) second_cost.susp second_cost.waits (second_cost.leave + 2);
@@ -92,7 +92,7 @@ abbrev mutual
   Walk e out held base (Rep (suc n) body) at next h k c = record {
     counts : At e at (i.Repeats (pos (suc n)));
     last : ℕ;
-    turn : Cost;
+    turn : WalkCost;
     loop : Walks e (Some (last + 1)) held (suc (h + base)) body (at + 1) last 0 0 turn;
     repeats : At e last (i.Repeat (pos (at + 1)));
     next_is : next ≡ last + 1;
@@ -127,7 +127,7 @@ abbrev mutual
     reach : Reaches e m;
     enters : At e at (i.Enter (pos m));
     last : ℕ;
-    inner : Cost;
+    inner : WalkCost;
     stays : Walks e out (Some m) base body (at + 1) last h k inner;
     leaves : At e last (i.Leave (pos m));
     short : inner.leave + 3 ≤ e.part.stays m;
@@ -159,13 +159,13 @@ abbrev mutual
     covers : Covers c 3 0 0 3;
   }
 
-  pub Walks : Where → (out : Option ℕ) (held : Option ℕ) (base : ℕ) → Segs → (at next h k : ℕ) → Cost → Type 0
+  pub Walks : Where → (out : Option ℕ) (held : Option ℕ) (base : ℕ) → Segs → (at next h k : ℕ) → WalkCost → Type 0
   Walks e out held base Nil at next h k c = (next ≡ at) × (k ≡ h)
   Walks e out held base (Cons head rest) at next h k c = record {
     mid : ℕ;
     between : ℕ;
-    first : Cost;
-    later : Cost;
+    first : WalkCost;
+    later : WalkCost;
     here : Walk e out held base head at mid h between first;
     more : Walks e out held base rest mid next between k later;
     covers : Covers c (first.run + later.run) (first.susp + later.susp) (first.waits + later.waits) (first.leave + later.leave);

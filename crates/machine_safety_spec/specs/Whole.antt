@@ -5,14 +5,14 @@ use Rattle.machine_semantics.specs.State.{Job, Thread, Idle, Ready, Waiting, Sta
 use Rattle.machine_semantics.specs.Tick.{ceiling, owned_of, tick}
 use Rattle.machine_semantics.specs.Run.{state_at}
 use Rattle.machine_safety_spec.specs.Part.{IsSized}
-use Rattle.machine_safety_spec.specs.Walk.{Where, Cost}
+use Rattle.machine_safety_spec.specs.Walk.{Where, WalkCost}
 use Rattle.machine_safety_spec.specs.Safe.{Parts, ImageFits, ReadyFits, WaitingFits}
 
 -- an idle process has its words; any other fits its trees
 abbrev pub ThreadFits : Where → Process → Parts → Thread → (owned shared : List ℤ) → Type 0
 ThreadFits e p ps Idle owned shared = p.words ≤ length owned
-ThreadFits e p ps (Ready job) owned shared = (left : Cost) × ReadyFits e p ps job owned shared left
-ThreadFits e p ps (Waiting condition due number job) owned shared = (left : Cost) × WaitingFits e p ps job owned shared left
+ThreadFits e p ps (Ready job) owned shared = (left : WalkCost) × ReadyFits e p ps job owned shared left
+ThreadFits e p ps (Waiting condition due number job) owned shared = (left : WalkCost) × WaitingFits e p ps job owned shared left
 
 -- the ceiling of a monitor, by its number
 abbrev pub ceiling_of : Image → ℕ → ℕ

@@ -4,19 +4,19 @@ use Rattle.machine_semantics.specs.Image.{Image, Process, Script}
 use Rattle.machine_semantics.specs.State.{Thread, Idle, Ready, Waiting, State}
 use Rattle.machine_semantics.specs.Starts.{release, starts}
 use Rattle.machine_semantics.specs.Tick.{Candidate, pick, owned_of, tick}
-use Rattle.machine_safety_spec.specs.Walk.{Where, Cost}
+use Rattle.machine_safety_spec.specs.Walk.{Where, WalkCost}
 use Rattle.machine_safety_spec.specs.Safe.{Parts, ImageFits, ReadyFits, WaitingFits}
 use Rattle.machine_safety_spec.specs.Whole.{StateFits}
 
 -- the ticks that are left; each wait to come burns two dispatches more, and so does one that has
 -- begun
-abbrev pub work_of : ℕ → Thread → Cost → ℕ
+abbrev pub work_of : ℕ → Thread → WalkCost → ℕ
 work_of over Idle left = 0
 work_of over (Ready job) left = left.run + job.dispatch_ticks + 2 * over * left.waits
 work_of over (Waiting condition due number job) left = left.run + 2 * over * (left.waits + 1)
 
 -- the process fits its trees with so much left to do
-abbrev pub HasLeft : Where → Process → Parts → Thread → (owned shared : List ℤ) → Cost → Type 0
+abbrev pub HasLeft : Where → Process → Parts → Thread → (owned shared : List ℤ) → WalkCost → Type 0
 HasLeft e p ps Idle owned shared left = Unit {0}
 HasLeft e p ps (Ready job) owned shared left = ReadyFits e p ps job owned shared left
 HasLeft e p ps (Waiting condition due number job) owned shared left = WaitingFits e p ps job owned shared left
@@ -25,14 +25,14 @@ HasLeft e p ps (Waiting condition due number job) owned shared left = WaitingFit
 pub record Owes (e : Where) (ps : ℕ → Parts) (s : State) (k n : ℕ) : Type 0 where
   pub p : Process
   pub thread : Thread
-  pub left : Cost
+  pub left : WalkCost
   pub process : slice_get e.image.processes k ≡ Some p
   pub there : slice_get s.threads k ≡ Some thread
   pub has : HasLeft e p (ps k) thread (owned_of (slice_get s.owned k)) s.shared left
   pub work : work_of e.image.over thread left ≤ n
 
 -- the cost of a whole activation: body, handler and END
-abbrev pub worst_of : Parts → Cost
+abbrev pub worst_of : Parts → WalkCost
 worst_of ps = record {
   run = ps.body_cost.run + ps.handler_cost.run + 4;
   susp = ps.body_cost.susp;
@@ -41,7 +41,7 @@ worst_of ps = record {
 }
 
 -- with the burn ticks of its release and of each wait
-abbrev pub activation : ℕ → Cost → ℕ
+abbrev pub activation : ℕ → WalkCost → ℕ
 activation over c = c.run + 2 * over * (1 + c.waits)
 
 -- the process is not idle

@@ -14,7 +14,7 @@ use Rattle.static_numbers.specs.Types.{Bounds, decls_bounds, crossed, too_long}
 use Rattle.static_numbers.specs.Processes as of_process
 use Rattle.static_numbers.specs.Processes.{frame_of, deadline_of, bad_frame, bad_deadline, bad_limit, bad_first, bad_start, is_activated_by, users, misused_event, Handled, handled, handler_numbers, all_handled, bad_handled, has_value, repeated}
 use Rattle.static_numbers.specs.Counts as counts
-use Rattle.static_numbers.specs.Counts.{process_places, monitor_places, conditions, routine_places, one_too_many, at_none, no_process, kind_words, vars_words, members_words, words, too_many_words}
+use Rattle.static_numbers.specs.Counts.{process_places, monitor_places, conditions, routine_places, one_too_many, at_none, no_process, placed_kind_size, vars_words, members_words, words, too_many_words}
 use Rattle.static_numbers.specs.Rules.{bounds_rules, process_rules, event_rules, handler_rules, count_rules, LimitFails}
 use Rattle.placing_law.specs.Moved.{moved_constant, moved_scalar, moved_kind, moved_var, moved_param, moved_routine, moved_member, moved_monitor, moved_activation, moved_handler, moved_process, moved_decl, moved}
 use Rattle.placing_law.specs.Alike.{AreAlike, Stays}
@@ -279,7 +279,7 @@ module _ {X : Type 0} (a b : X → Place) where
 
     -- ---- words
 
-    kind-words-like : (k : Kind X) → kind_words v (moved_kind a k) ≡ kind_words w (moved_kind b k)
+    kind-words-like : (k : Kind X) → placed_kind_size v (moved_kind a k) ≡ placed_kind_size w (moved_kind b k)
     kind-words-like (scalar s) = refl
     kind-words-like (array low high s) = λ i. up_to (worth high i -ℤ worth low i)
 

@@ -8,7 +8,7 @@ use Rattle.syntax_tree.specs.Plain as plain_of
 use Rattle.source_semantics.specs.Names.{processes}
 use Rattle.code_spec.specs.Numbering as numbering
 use Rattle.code_cost_spec.specs.Levels.{code_length, stack_of_process}
-use Rattle.code_size.specs.Rules.{SizeFails, routine_stack, texts_from}
+use Rattle.code_size.specs.Rules.{SizeFails, placed_texts_from, routine_stack}
 use Rattle.code_size.proofs.Parts.{plain_process_at, plain_texts}
 use Rattle.checked_law.proofs.Texts.{IsPlainOf, plain_of_placed, plain_text}
 use Rattle.built_image_law.specs.Limits.{StacksAreInLimits}
@@ -19,9 +19,9 @@ sizes_kept stacks g h same fits number place (inl (is, long)) =
 sizes_kept stacks g h same fits number place (inr (is, inl large)) =
     let t = plain_text large.text in
     let of_other : Contains (numbering.texts_from 0 0 (map plain_decl h.decls)) t =
-    subst (λ (ts : List numbering.Text). Contains ts t) (sym (plain_texts 0 0 h.decls)) (in_map plain_text (texts_from 0 0 h.decls) large.text large.listed) in
+    subst (λ (ts : List numbering.Text). Contains ts t) (sym (plain_texts 0 0 h.decls)) (in_map plain_text (placed_texts_from 0 0 h.decls) large.text large.listed) in
     let of_first : Contains (numbering.texts_from 0 0 (map plain_decl g.decls)) t = subst (λ (p : plain_of.Program). Contains (numbering.texts_from 0 0 p.decls) t) same of_other in
-    let o : IsPlainOf (texts_from 0 0 g.decls) t = plain_of_placed g.decls t of_first in
+    let o : IsPlainOf (placed_texts_from 0 0 g.decls) t = plain_of_placed g.decls t of_first in
     let over : 4096 < routine_stack (plain g) t.owner t.routine = subst (λ (p : plain_of.Program). 4096 < routine_stack p t.owner t.routine) same large.over in
     let own : 4096 < routine_stack (plain g) o.text.owner (plain_routine o.text.routine) = subst (λ (x : numbering.Text). 4096 < routine_stack (plain g) x.owner x.routine) (sym o.is) over in
     fits 47 o.text.routine.place (inr (refl, inl (record { text = o.text; listed = o.listed; is = refl; over = own })))

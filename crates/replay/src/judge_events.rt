@@ -10,7 +10,7 @@ ghost use Rattle.std.specs.Prelude.{IfOk, length, ◌<◌, ◌^◌};
 ghost use Rattle.replay_accept.specs.Cursors.{IsAt, script_in};
 ghost use Rattle.replay_accept.specs.Running.{Stands, program_of};
 ghost use Rattle.replay_state.specs.View.{config_of};
-ghost use Rattle.replay_due_events.specs.Timings.{script_of};
+ghost use Rattle.script_meaning.specs.Script.{said};
 ghost use Rattle.source_semantics.specs.Verdicts.{Judges};
 
 use base::Event;
@@ -60,7 +60,7 @@ pub fn judge(
     requires end { script.now.end < 2 ^ 61 }
     requires few { length events.now < 4294967295 }
     ensures { IfOk result (λ verdict. Judges (program_of running.old.rules)
-        (script_of script.now.lines script.now.end) (config_of running.old.config) events.now
+        (said script.now.lines script.now.end) (config_of running.old.config) events.now
         verdict) }
 {
     let mut cursor = ScriptCursor::new(running.rules.text.alloc, script)?;

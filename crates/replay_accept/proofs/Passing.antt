@@ -11,7 +11,7 @@ use Rattle.source_semantics.specs.Starts.{NoneMissing, Script, due, event_releas
 use Rattle.script.specs.declared.script.ScriptLine.{ScriptLine}
 use Rattle.script.specs.declared.script.ScriptLine.TheVariants as line_is
 use Rattle.script.specs.Scripts.{tick_of}
-use Rattle.replay_due_events.specs.Timings.{line_of, script_of}
+use Rattle.script_meaning.specs.Script.{line_said, said}
 use Rattle.replay_accept.specs.Cursors.{ArePassed, are_in_order, until, word, word_after}
 
 -- what stands past the end of a list of lines
@@ -62,7 +62,7 @@ order_here t k l ls h split low =
 
 -- ---- lines that come too late
 
-releases_late : (g : Program) (c : Config) (u p : ℕ) (ls : List ScriptLine) → are_in_order p ls ≡ true → u < p → event_releases g c u (map line_of ls) ≡ []
+releases_late : (g : Program) (c : Config) (u p : ℕ) (ls : List ScriptLine) → are_in_order p ls ≡ true → u < p → event_releases g c u (map line_said ls) ≡ []
 releases_late g c u p [] h late = refl
 releases_late g c u p (line_is.Set t d v ∷ ls) h late =
     let r : Rises p (line_is.Set t d v) ls = rises p (line_is.Set t d v) ls h in
@@ -74,25 +74,25 @@ releases_late g c u p (line_is.Occur t e ∷ ls) h late =
     let apart : nat_eq t u ≡ false = ne_eqb t u (λ same. absurd (omega (arith, same, first, late))) in
     rw apart (releases_late g c u t ls r.rest (omega (arith, first, late)))
 
-releases_more : (g : Program) (c : Config) (u : ℕ) (l : ScriptLine) (a b : List ScriptLine) → event_releases g c u (map line_of a) ≡ event_releases g c u (map line_of b)
-    → event_releases g c u (map line_of (l ∷ a)) ≡ event_releases g c u (map line_of (l ∷ b))
+releases_more : (g : Program) (c : Config) (u : ℕ) (l : ScriptLine) (a b : List ScriptLine) → event_releases g c u (map line_said a) ≡ event_releases g c u (map line_said b)
+    → event_releases g c u (map line_said (l ∷ a)) ≡ event_releases g c u (map line_said (l ∷ b))
 releases_more g c u (line_is.Set t d v) a b e = e
 releases_more g c u (line_is.Occur t x) a b e = ap (λ (es : List Event). cond (nat_eq t u) (releases_by g c u x 0 (processes g)) [] ++ es) e
 
-pub releases_until : (g : Program) (c : Config) (u t p : ℕ) (ls : List ScriptLine) → are_in_order p ls ≡ true → u ≤ t → event_releases g c u (map line_of (until t ls)) ≡ event_releases g c u (map line_of ls)
+pub releases_until : (g : Program) (c : Config) (u t p : ℕ) (ls : List ScriptLine) → are_in_order p ls ≡ true → u ≤ t → event_releases g c u (map line_said (until t ls)) ≡ event_releases g c u (map line_said ls)
 releases_until g c u t p [] h low = refl
 releases_until g c u t p (l ∷ ls) h low =
     let r : Rises p l ls = rises p l ls h in
     by_case (nat_le (tick_of l) t) refl r.rest (releases_until g c u t (tick_of l) ls r.rest low)
   where
-    by_case : (b : Bool) → nat_le (tick_of l) t ≡ b → are_in_order (tick_of l) ls ≡ true → event_releases g c u (map line_of (until t ls)) ≡ event_releases g c u (map line_of ls)
-        → event_releases g c u (map line_of (cond b (l ∷ until t ls) [])) ≡ event_releases g c u (map line_of (l ∷ ls))
+    by_case : (b : Bool) → nat_le (tick_of l) t ≡ b → are_in_order (tick_of l) ls ≡ true → event_releases g c u (map line_said (until t ls)) ≡ event_releases g c u (map line_said ls)
+        → event_releases g c u (map line_said (cond b (l ∷ until t ls) [])) ≡ event_releases g c u (map line_said (l ∷ ls))
     by_case true e rest same = releases_more g c u l (until t ls) ls same
     by_case false e rest same =
         let past : t < tick_of l = grind (arith, nat_tests) in
         sym (releases_late g c u (suc u) (l ∷ ls) (ordered (suc u) l ls (omega (arith, low, past)) rest) (omega arith))
 
-value_late : (u d : ℕ) (v : ℤ) (p : ℕ) (ls : List ScriptLine) → are_in_order p ls ≡ true → u < p → value_set u d v (map line_of ls) ≡ v
+value_late : (u d : ℕ) (v : ℤ) (p : ℕ) (ls : List ScriptLine) → are_in_order p ls ≡ true → u < p → value_set u d v (map line_said ls) ≡ v
 value_late u d v p [] h late = refl
 value_late u d v p (line_is.Set t e w ∷ ls) h late =
     let r : Rises p (line_is.Set t e w) ls = rises p (line_is.Set t e w) ls h in
@@ -104,18 +104,18 @@ value_late u d v p (line_is.Occur t e ∷ ls) h late =
     let first : p ≤ t = r.first in
     value_late u d v t ls r.rest (omega (arith, first, late))
 
-value_more : (u d : ℕ) (v : ℤ) (l : ScriptLine) (a b : List ScriptLine) → ((w : ℤ) → value_set u d w (map line_of a) ≡ value_set u d w (map line_of b)) → value_set u d v (map line_of (l ∷ a)) ≡ value_set u d v (map line_of (l ∷ b))
+value_more : (u d : ℕ) (v : ℤ) (l : ScriptLine) (a b : List ScriptLine) → ((w : ℤ) → value_set u d w (map line_said a) ≡ value_set u d w (map line_said b)) → value_set u d v (map line_said (l ∷ a)) ≡ value_set u d v (map line_said (l ∷ b))
 value_more u d v (line_is.Set t e w) a b h = h (cond (nat_eq e d && nat_le t u) w v)
 value_more u d v (line_is.Occur t e) a b h = h v
 
-pub value_until : (u d : ℕ) (v : ℤ) (p : ℕ) (ls : List ScriptLine) → are_in_order p ls ≡ true → value_set u d v (map line_of (until u ls)) ≡ value_set u d v (map line_of ls)
+pub value_until : (u d : ℕ) (v : ℤ) (p : ℕ) (ls : List ScriptLine) → are_in_order p ls ≡ true → value_set u d v (map line_said (until u ls)) ≡ value_set u d v (map line_said ls)
 value_until u d v p [] h = refl
 value_until u d v p (l ∷ ls) h =
     let r : Rises p l ls = rises p l ls h in
     by_case (nat_le (tick_of l) u) refl r.rest (λ w. value_until u d w (tick_of l) ls r.rest)
   where
-    by_case : (b : Bool) → nat_le (tick_of l) u ≡ b → are_in_order (tick_of l) ls ≡ true → ((w : ℤ) → value_set u d w (map line_of (until u ls)) ≡ value_set u d w (map line_of ls))
-        → value_set u d v (map line_of (cond b (l ∷ until u ls) [])) ≡ value_set u d v (map line_of (l ∷ ls))
+    by_case : (b : Bool) → nat_le (tick_of l) u ≡ b → are_in_order (tick_of l) ls ≡ true → ((w : ℤ) → value_set u d w (map line_said (until u ls)) ≡ value_set u d w (map line_said ls))
+        → value_set u d v (map line_said (cond b (l ∷ until u ls) [])) ≡ value_set u d v (map line_said (l ∷ ls))
     by_case true e rest same = value_more u d v l (until u ls) ls same
     by_case false e rest same =
         let past : u < tick_of l = grind (arith, nat_tests) in
@@ -148,13 +148,13 @@ split_next (l ∷ ls) (suc k) h = split_next ls k (omega (arith, h))
 pub split_at : (ls : List ScriptLine) (k : ℕ) → k < length ls → drop k ls ≡ get_or ls k some_line ∷ drop (k + 1) ls
 split_at ls k h = let next : suc k ≡ k + 1 = omega arith in split_next ls k h ∙ ap (λ (n : ℕ). get_or ls k some_line ∷ drop n ls) next
 
-releases_past : (g : Program) (c : Config) (u : ℕ) (l : ScriptLine) (ls : List ScriptLine) → tick_of l < u → event_releases g c u (map line_of (l ∷ ls)) ≡ event_releases g c u (map line_of ls)
+releases_past : (g : Program) (c : Config) (u : ℕ) (l : ScriptLine) (ls : List ScriptLine) → tick_of l < u → event_releases g c u (map line_said (l ∷ ls)) ≡ event_releases g c u (map line_said ls)
 releases_past g c u (line_is.Set t d v) ls past = refl
 releases_past g c u (line_is.Occur t e) ls past =
     let apart : nat_eq t u ≡ false = ne_eqb t u (λ same. absurd (omega (arith, same, past))) in
     rw apart refl
 
-value_past : (u d : ℕ) (v : ℤ) (l : ScriptLine) (ls : List ScriptLine) → tick_of l ≤ u → value_set u d v (map line_of (l ∷ ls)) ≡ value_set u d (word_after d v l) (map line_of ls)
+value_past : (u d : ℕ) (v : ℤ) (l : ScriptLine) (ls : List ScriptLine) → tick_of l ≤ u → value_set u d v (map line_said (l ∷ ls)) ≡ value_set u d (word_after d v l) (map line_said ls)
 value_past u d v (line_is.Set t e w) ls low =
     let come : nat_le t u ≡ true = grind (arith, nat_tests) in
     rw (come, yes_test (nat_eq e d)) refl
@@ -165,12 +165,12 @@ pub pass_one : (t done : ℕ) (lines : List ScriptLine) (words later : List ℤ)
 pass_one t done lines words later l split past kept passed = record {
   releases = λ g c u low.
       passed.releases g c u low
-      ∙ (ap (λ (ls : List ScriptLine). event_releases g c u (map line_of ls)) split ∙ releases_past g c u l (drop (done + 1) lines) (omega (arith, low, past)));
+      ∙ (ap (λ (ls : List ScriptLine). event_releases g c u (map line_said ls)) split ∙ releases_past g c u l (drop (done + 1) lines) (omega (arith, low, past)));
   words = λ u d low.
       passed.words u d low
       ∙ (
-      ap (λ (ls : List ScriptLine). value_set u d (word d words) (map line_of ls)) split
-      ∙ (value_past u d (word d words) l (drop (done + 1) lines) (omega (arith, low, past)) ∙ ap (λ (v : ℤ). value_set u d v (map line_of (drop (done + 1) lines))) (sym (kept d)))
+      ap (λ (ls : List ScriptLine). value_set u d (word d words) (map line_said ls)) split
+      ∙ (value_past u d (word d words) l (drop (done + 1) lines) (omega (arith, low, past)) ∙ ap (λ (v : ℤ). value_set u d v (map line_said (drop (done + 1) lines))) (sym (kept d)))
       );
 }
 
@@ -183,7 +183,7 @@ pass_later t u done lines words low passed = record {
 pub none_passed : (lines : List ScriptLine) (words : List ℤ) → ((d : ℕ) → word d words ≡ pos 0) → ArePassed 0 0 lines words
 none_passed lines words zeros = record {
   releases = λ g c u low. refl;
-  words = λ u d low. ap (λ (v : ℤ). value_set u d v (map line_of lines)) (sym (zeros d));
+  words = λ u d low. ap (λ (v : ℤ). value_set u d v (map line_said lines)) (sym (zeros d));
 }
 
 -- ---- words
@@ -205,7 +205,7 @@ word_kept words e w d within = by_case (nat_eq e d) refl
 -- ---- what is due
 
 -- lines that release the same at a tick leave the same due
-pub due_alike : (g : Program) (c : Config) (u end : ℕ) (a b : List ScriptLine) → event_releases g c u (map line_of a) ≡ event_releases g c u (map line_of b) → due g (script_of a end) c u ≡ due g (script_of b end) c u
+pub due_alike : (g : Program) (c : Config) (u end : ℕ) (a b : List ScriptLine) → event_releases g c u (map line_said a) ≡ event_releases g c u (map line_said b) → due g (said a end) c u ≡ due g (said b end) c u
 unfolding due
 due_alike g c u end a b e = rw e refl
 

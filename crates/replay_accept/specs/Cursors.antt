@@ -6,7 +6,7 @@ use Rattle.source_semantics.specs.Starts.{Script, device_value, event_releases, 
 use Rattle.script.specs.declared.script.ScriptLine.{ScriptLine}
 use Rattle.script.specs.declared.script.ScriptLine.TheVariants as line_is
 use Rattle.script.specs.Scripts.{tick_of}
-use Rattle.replay_due_events.specs.Timings.{line_of, script_of}
+use Rattle.script_meaning.specs.Script.{line_said, said}
 use Rattle.replay_accept.specs.declared.cursor.ScriptCursor.{ScriptCursor}
 
 -- the ticks of the lines do not descend, and none is before t
@@ -30,14 +30,14 @@ word d words = slice_index_or words d (pos 0)
 -- so many lines are passed: from tick t on, the others release what all release, and devices answer
 -- the words that are kept until one of the others sets them
 pub record ArePassed (t done : ℕ) (lines : List ScriptLine) (kept : List ℤ) : Type 0 where
-  pub releases : (g : Program) (c : Config) (u : ℕ) → t ≤ u → event_releases g c u (map line_of lines) ≡ event_releases g c u (map line_of (drop done lines))
-  pub words : (u d : ℕ) → t ≤ u → value_set u d (pos 0) (map line_of lines) ≡ value_set u d (word d kept) (map line_of (drop done lines))
+  pub releases : (g : Program) (c : Config) (u : ℕ) → t ≤ u → event_releases g c u (map line_said lines) ≡ event_releases g c u (map line_said (drop done lines))
+  pub words : (u d : ℕ) → t ≤ u → value_set u d (pos 0) (map line_said lines) ≡ value_set u d (word d kept) (map line_said (drop done lines))
 
 abbrev pub lines_of : ScriptCursor → List ScriptLine
 lines_of s = s.script.now.lines
 
 abbrev pub script_in : ScriptCursor → Script
-script_in s = script_of s.script.now.lines s.script.now.end
+script_in s = said s.script.now.lines s.script.now.end
 
 -- The lines before the tick reached are passed. Where the script is in order, no other line is
 -- before that tick.

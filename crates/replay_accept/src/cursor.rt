@@ -5,7 +5,7 @@ ghost use Rattle.syntax_tree.specs.Plain.{Program};
 ghost use Rattle.source_semantics.specs.Config.{Config};
 ghost use Rattle.source_semantics.specs.Starts.{device_value, due, value_set};
 ghost use Rattle.script.specs.Scripts.{tick_of as tick_in};
-ghost use Rattle.replay_due_events.specs.Timings.{line_of, script_of};
+ghost use Rattle.script_meaning.specs.Script.{line_said, said};
 ghost use Rattle.replay_accept.specs.Cursors.{ArePassed, IsAt, IsCursor, IsWithin, are_in_order, lines_of, script_in, until, word, word_after};
 
 use script::{Script, ScriptLine};
@@ -163,10 +163,10 @@ impl<'s> ScriptCursor<'s> {
     pub(crate) fn up_to(&self, tick: u64) -> &[ScriptLine]
         requires { IsCursor self.now }
         ensures due { (g : Program) (c : Config) (u : ℕ) → self.now.reached ≤ u → u ≤ tick →
-            due g (script_of result.now self.now.script.now.end) c u ≡
+            due g (said result.now self.now.script.now.end) c u ≡
             due g (script_in self.now) c u }
         ensures words { (d : ℕ) → self.now.reached ≤ tick → value_set tick d (word d self.now.words.items)
-            (map line_of result.now) ≡ device_value (script_in self.now) tick d }
+            (map line_said result.now) ≡ device_value (script_in self.now) tick d }
     {
         let lines = self.coming();
         if self.in_order {

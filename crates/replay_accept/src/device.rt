@@ -2,7 +2,7 @@
 
 ghost use Rattle.std.specs.Prelude.{map, ◌≡◌};
 ghost use Rattle.source_semantics.specs.Starts.{device_value as value_at, value_set};
-ghost use Rattle.replay_due_events.specs.Timings.{line_of};
+ghost use Rattle.script_meaning.specs.Script.{line_said};
 ghost use Rattle.replay_accept.specs.Cursors.{IsWithin, script_in};
 ghost use Rattle.replay_accept.specs.Told.{value_after};
 
@@ -19,7 +19,7 @@ pub fn device_value(script: &ScriptCursor<'_>, tick: u64, device: usize) -> i32
 
 /// The value that these lines set last up to the tick, or the one before them.
 fn set_up_to(lines: &[ScriptLine], tick: u64, device: usize, before: i32) -> i32
-    ensures { result ≡ value_set tick device before (map line_of lines.now) }
+    ensures { result ≡ value_set tick device before (map line_said lines.now) }
 {
     let mut last = before;
     for line in lines {

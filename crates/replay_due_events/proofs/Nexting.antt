@@ -11,7 +11,8 @@ use Rattle.source_semantics.specs.Names.{processes}
 use Rattle.source_semantics.specs.Starts.{occurs, releases_by}
 use Rattle.replay_due_events.specs.declared.timetable.Timing.{Timing}
 use Rattle.script.specs.declared.script.ScriptLine.{ScriptLine}
-use Rattle.replay_due_events.specs.Timings.{FrameCounts, FramesCount, first_in, line_of, released_by, script_of, timing_of, timings}
+use Rattle.script_meaning.specs.Script.{line_said, said}
+use Rattle.replay_due_events.specs.Timings.{FrameCounts, FramesCount, first_in, released_by, timing_of, timings}
 use Rattle.replay_due_events.proofs.Agreeing.{releases_agree}
 use Rattle.replay_due_events.specs.Next.{jobs_due, timing_due, timings_due}
 
@@ -84,13 +85,13 @@ module _ (g : Program) (c : Config) (from until u e : ℕ) (js : List Job) (xs :
 
 pub next_after : (g : Program) (c : Config) (ls : List ScriptLine) (end until from : ℕ) (js : List Job) (xs : List Timing) (a b d : Bool)
     → from ≡ due_from c → js ≡ c.jobs → xs ≡ timings g → length c.jobs ≡ length (processes g)
-    → a ≡ is_after until (lines_due g c from (map line_of ls)) → b ≡ is_after until (timings_due js from 0 xs) → d ≡ is_after until (jobs_due from js)
-    → a && (b && d) ≡ is_after until (next_in_order g (script_of ls end) c)
+    → a ≡ is_after until (lines_due g c from (map line_said ls)) → b ≡ is_after until (timings_due js from 0 xs) → d ≡ is_after until (jobs_due from js)
+    → a && (b && d) ≡ is_after until (next_in_order g (said ls end) c)
 next_after g c ls end until from js xs a b d begins jobs times many by_lines by_clock by_waits =
-    let la = is_after until (lines_due g c (due_from c) (map line_of ls)) in
+    let la = is_after until (lines_due g c (due_from c) (map line_said ls)) in
     let ca = is_after until (periodic_due g c (due_from c) 0 (processes g)) in
     let wa = is_after until (waits_due c (due_from c) (numbers_from (length (processes g)) 0)) in
-    let lines : a ≡ la = by_lines ∙ ap (λ f. is_after until (lines_due g c f (map line_of ls))) begins in
+    let lines : a ≡ la = by_lines ∙ ap (λ f. is_after until (lines_due g c f (map line_said ls))) begins in
     let clock : b ≡ ca = by_clock ∙ (ap (λ f. is_after until (timings_due js f 0 xs)) begins
     ∙ (ap (λ l. is_after until (timings_due l (due_from c) 0 xs)) jobs
     ∙ (ap (λ l. is_after until (timings_due c.jobs (due_from c) 0 l)) times
@@ -102,7 +103,7 @@ next_after g c ls end until from js xs a b d begins jobs times many by_lines by_
     ∙ (ap (λ x. la && (x && d)) clock
     ∙ (ap (λ x. la && (ca && x)) waits
     ∙ (sym (ap (λ x. la && x) (after_sooner until (periodic_due g c (due_from c) 0 (processes g)) (waits_due c (due_from c) (numbers_from (length (processes g)) 0))))
-    ∙ sym (after_sooner until (lines_due g c (due_from c) (map line_of ls)) (sooner (periodic_due g c (due_from c) 0 (processes g)) (waits_due c (due_from c) (numbers_from (length (processes g)) 0)))))))
+    ∙ sym (after_sooner until (lines_due g c (due_from c) (map line_said ls)) (sooner (periodic_due g c (due_from c) 0 (processes g)) (waits_due c (due_from c) (numbers_from (length (processes g)) 0)))))))
 
 frame_counts : (g : Program) (a : Trigger) → FramePasses g a → FrameCounts (timing_of g a)
 frame_counts g (periodic frame deadline first) passes = passes

@@ -7,7 +7,7 @@ use Rattle.syntax_tree.specs.Plain.{Trigger, periodic, at_event, Program}
 use Rattle.source_semantics.specs.Names.{processes, event_number, count_value}
 use Rattle.source_semantics.specs.Config.{Job}
 use Rattle.source_semantics.specs.Ranks.{by_rank}
-use Rattle.source_semantics.specs.Starts.{Line, sets, occurs, Script, first_of, release_missing, release_of, time_out}
+use Rattle.source_semantics.specs.Starts.{first_of, release_missing, release_of, time_out}
 use Rattle.script.specs.declared.script.ScriptLine.{ScriptLine}
 use Rattle.script.specs.declared.script.ScriptLine.TheVariants as line_is
 use Rattle.replay_due_events.specs.declared.timetable.Timing.{Timing}
@@ -35,14 +35,6 @@ FrameCounts (timing_is.AtEvent e) = Unit {0}
 -- no frame is 0
 abbrev pub FramesCount : List Timing → Type 0
 FramesCount ts = All FrameCounts ts
-
--- the lines of a script, and the tick before which its run ends
-abbrev pub line_of : ScriptLine → Line
-line_of (line_is.Set t d v) = sets t d v
-line_of (line_is.Occur t e) = occurs t e
-
-abbrev pub script_of : List ScriptLine → ℕ → Script
-script_of ls end = record { lines = map line_of ls; end_tick = end }
 
 -- a start event, at a tick
 abbrev pub event_of : ℕ → Start → Event

@@ -4,7 +4,8 @@ ghost use Rattle.std.specs.Prelude.{◌≡◌, ◌+◌, ◌&&◌, [], ◌∷◌,
 ghost use Rattle.syntax_tree.specs.Plain.{Program};
 ghost use Rattle.source_semantics.specs.Starts.{due, release_missing, release_of, was_released_at, time_out};
 ghost use Rattle.replay_state.specs.View.{config_of, doing_of, jobs_of};
-ghost use Rattle.replay_due_events.specs.Timings.{FramesCount, IsTimetableOf, clocked, event_of, expired, first_in, is_at, is_clocked, released_by, released_in, script_of};
+ghost use Rattle.script_meaning.specs.Script.{said};
+ghost use Rattle.replay_due_events.specs.Timings.{FramesCount, IsTimetableOf, clocked, event_of, expired, first_in, is_at, is_clocked, released_by, released_in};
 
 use crate::timetable::{Timetable, Timing};
 use replay_state::{Activity, Config, ProcessState};
@@ -177,7 +178,7 @@ impl Timetable {
         requires table { IsTimetableOf program self.now }
         requires frames { FramesCount self.now.timings.items }
         ensures { (end : ℕ) → option_map (event_of tick) result ≡
-            first_in (due program (script_of lines.now end) (config_of config.now) tick) }
+            first_in (due program (said lines.now end) (config_of config.now) tick) }
     {
         if has_acted(config, tick) {
             return None;

@@ -12,7 +12,8 @@ ghost use Rattle.source_semantics.specs.Names.{processes};
 ghost use Rattle.source_semantics.specs.Starts.{NoneMissing};
 ghost use Rattle.replay_due_events.specs.NextDue.{FramesPass, doing_due, due_from, is_after, line_due, lines_due, next_in_order, release_from};
 ghost use Rattle.replay_state.specs.View.{config_of, doing_of, jobs_of};
-ghost use Rattle.replay_due_events.specs.Timings.{FramesCount, IsClockFree, IsTimetableOf, line_of, script_of, timings as timings_in};
+ghost use Rattle.script_meaning.specs.Script.{line_said, said};
+ghost use Rattle.replay_due_events.specs.Timings.{FramesCount, IsClockFree, IsTimetableOf, timings as timings_in};
 ghost use Rattle.replay_due_events.specs.Next.{AreWaitsAfter, timing_due, timings_due, jobs_due};
 
 use crate::{Timetable, Timing, by_event, is_released_at};
@@ -38,7 +39,7 @@ fn line_is_after(
     ghost program: { Program }
     requires { timings.now ≡ timings_in program }
     ensures { result ≡ is_after until (line_due program (config_of config.now) from
-        (line_of line)) }
+        (line_said line)) }
 {
     match line {
         ScriptLine::Set { .. } => true,
@@ -62,7 +63,7 @@ fn lines_are_after(
     ghost program: { Program }
     requires { timings.now ≡ timings_in program }
     ensures { result ≡ is_after until (lines_due program (config_of config.now) from
-        (map line_of lines.now)) }
+        (map line_said lines.now)) }
 {
     for line in lines {
         if !line_is_after(timings, config, from, until, *line) {
@@ -219,7 +220,7 @@ fn is_next_after(
         free_until }
     requires waits { AreWaitsAfter free_until (config_of config.now).jobs }
     ensures { (end : ℕ) → result ≡ is_after until
-        (next_in_order program (script_of lines.now end) (config_of config.now)) }
+        (next_in_order program (said lines.now end) (config_of config.now)) }
 {
     let from = first_open(config);
     let timings = table.timings.as_slice();
@@ -247,7 +248,7 @@ pub fn is_none_missing_before(
     requires free { IsClockFree table.now.timings.items (due_from (config_of config.now))
         free_until }
     requires waits { AreWaitsAfter free_until (config_of config.now).jobs }
-    ensures { (end : ℕ) → NoneMissing program (script_of lines.now end)
+    ensures { (end : ℕ) → NoneMissing program (said lines.now end)
         (config_of config.now) until ↔ IsTrue result }
 {
     crate::next_due::none_missing_is_one_comparison();

@@ -9,8 +9,8 @@ use Rattle.source_semantics.specs.Source.{IsSourceRun}
 use Rattle.built_image.specs.Named.{names_of}
 use Rattle.event_log.specs.declared.fault.LogFault.{LogFault}
 use Rattle.event_log.specs.Logs.{IsLog}
-use Rattle.event_log.specs.LogReading.{AreSound, IsOneLog}
-use Rattle.command_due.specs.Script.{said}
+use Rattle.event_log.specs.LogReading.{AreUnambiguous, IsOneLog}
+use Rattle.script_meaning.specs.Script.{said}
 use Rattle.command_due.specs.CommandsDue.{told}
 use Rattle.source_semantics.specs.Verdicts.{IsRefusedAt}
 use Rattle.command_due.specs.ReplayDue.{IsJudged, misread, is_refused, is_run, log_fault_line, refused_line, run_line}
@@ -27,7 +27,7 @@ judgements_are_one names_sound one_log determined program g lines end text outco
   script : Script
   script = said lines end
 
-  sound : AreSound names
+  sound : AreUnambiguous names
   sound = names_sound program g written.program
 
   events_once : (es fs : List Event) → IsLog names text es → IsLog names text fs → es ≡ fs

@@ -8,7 +8,7 @@ use Rattle.machine_isa.specs.Bytes.{HasWords}
 use Rattle.image.specs.declared.names.ImageNames.{ImageNames}
 use Rattle.event_log.specs.InRange.{AreIn}
 use Rattle.event_log.specs.Line.{log_of}
-use Rattle.event_log.specs.Logs.{ActFits, AreWords, IsTold}
+use Rattle.event_log.specs.Logs.{ActFits, AreWordNames, IsTold}
 use Rattle.vm_law.specs.Logged.{ValidRunsHaveLines}
 use Rattle.built_image.specs.Named.{names_of}
 use Rattle.built_valid_law.specs.Ready.{BuiltImagesAreReady, IsReady}
@@ -20,7 +20,7 @@ use Rattle.replay_law.specs.ReplayLaws.{LogsOfRunsAreLogs, run_events}
 use Rattle.replay_law.proofs.Scripted.{script_fits}
 
 -- the names that can stand in lines, and are words, can tell events whose numbers fit
-all_told : (names : ImageNames) (es : List Event) → AreWords names → All (AreIn names) es → All (λ event. ActFits event.act) es → All (IsTold names) es
+all_told : (names : ImageNames) (es : List Event) → AreWordNames names → All (AreIn names) es → All (λ event. ActFits event.act) es → All (IsTold names) es
 all_told names es words lines fit k d low =
     let one = lines k d low in
     record { words = words; tick = one.tick; process = one.process; act = one.act; fits = fit k d low }
@@ -32,7 +32,7 @@ logs_of_runs_are_logs built_ready have_lines made_words runs_fit names_words ove
     let fit : All (λ event. ActFits event.act) (run_events n lines end) =
     runs_fit n.image (run_of lines end) ready.limits accepted.faithful.valid has (script_fits n.names text lines end script) in
     let lined : All (AreIn n.names) (run_events n lines end) = have_lines n.names n.image (run_of lines end) ready.limits accepted.faithful.valid ready.names script.form in
-    let words : AreWords (names_of (plain g)) = names_words accepted.text g accepted.written.program.tree in
+    let words : AreWordNames (names_of (plain g)) = names_words accepted.text g accepted.written.program.tree in
     record {
       short = short;
       told = all_told (names_of (plain g)) (run_events n lines end) words (subst (λ (names : ImageNames). All (AreIn names) (run_events n lines end)) accepted.built.names lined) fit;

@@ -9,11 +9,11 @@ use Rattle.image.specs.declared.names.ImageNames.{ImageNames}
 use Rattle.event_log.specs.Line.{line_of, log_of}
 use Rattle.event_log.specs.declared.fault.LogFault.{LogFault}
 use Rattle.event_log.specs.declared.fault.LogFault.TheVariants.{Line, Long, Memory}
-use Rattle.event_log.specs.Logs.{AreWords, IsFault, IsLog, IsTold}
+use Rattle.event_log.specs.Logs.{AreWordNames, IsFault, IsLog, IsTold}
 use Rattle.event_log.specs.Parts.{spelled}
 use Rattle.event_log.proofs.Reading.{line_then, spelled_feed}
 
-module _ (names : ImageNames) (words : AreWords names) where
+module _ (names : ImageNames) (words : AreWordNames names) where
   -- no event begins the bytes
   abbrev Unread : List ℕ → Type 0
   Unread rest = (event : Event) (after : List ℕ) → IsTold names event → rest ≢ line_of names event ++ after

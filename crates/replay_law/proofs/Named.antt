@@ -13,7 +13,7 @@ use Rattle.text_fields.specs.Fields.{IsWord, Lacks}
 use Rattle.image.specs.declared.names.ConditionName.{ConditionName}
 use Rattle.image.specs.declared.names.DeviceName.{DeviceName}
 use Rattle.built_image.specs.Named.{named_conditions, named_device, names_of}
-use Rattle.event_log.specs.Logs.{AreWords}
+use Rattle.event_log.specs.Logs.{AreWordNames}
 use Rattle.replay_law.specs.Words.{IsIdentifier, MonitorIsNamed, NamesAreIdentifiers, NamesOfTextsAreIdentifiers, NamesOfTextsAreWords}
 use Rattle.built_valid_law.proofs.Names.{conditions_placed}
 use Rattle.built_valid_law.proofs.Counts.{named_in}
@@ -67,7 +67,7 @@ devices_are_words (routine r ∷ ds) all = devices_are_words ds all
 devices_are_words (monitor m ∷ ds) all = devices_are_words ds all
 devices_are_words (process p ∷ ds) all = devices_are_words ds all
 
-pub names_are_words : (g : Program) → NamesAreIdentifiers g → AreWords (names_of g)
+pub names_are_words : (g : Program) → NamesAreIdentifiers g → AreWordNames (names_of g)
 names_are_words g all = record {
   processes = All-map IsWord (λ (p : Process). p.name) (processes g) (All-weaker (λ (p : Process). IsIdentifier p.name) (λ (p : Process). IsWord p.name) (λ p is. identifier_is_word p.name is) (processes g) all.of_processes);
   monitors = All-map IsWord (λ (m : Monitor). m.name) (monitors g) (All-weaker MonitorIsNamed (λ (m : Monitor). IsWord m.name) (λ m is. identifier_is_word m.name is.name) (monitors g) all.of_monitors);

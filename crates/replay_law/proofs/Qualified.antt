@@ -13,7 +13,7 @@ use Rattle.image.specs.declared.names.ImageNames.{ImageNames}
 use Rattle.image.specs.declared.names.ConditionName.{ConditionName}
 use Rattle.built_image.specs.Named.{named_conditions}
 use Rattle.event_log.specs.Line.{condition_name, monitor_name, qualified}
-use Rattle.event_log.specs.Logs.{AreWords}
+use Rattle.event_log.specs.Logs.{AreWordNames}
 use Rattle.event_log.specs.LogReading.{AreDistinct}
 use Rattle.event_log.proofs.Names.{word_at}
 use Rattle.wellformed_names_law.proofs.Members.{In}
@@ -103,7 +103,7 @@ one_place (x ∷ xs) apart (suc i) zero c d at there mon name =
     absurd (apart.0 c (found_in xs i c at) (ap (λ (z : ConditionName). z.mon) e ∙ sym mon) (ap (λ (z : ConditionName). z.name) e ∙ sym name))
 one_place (x ∷ xs) apart (suc i) (suc j) c d at there mon name = ap (λ n. suc n) (one_place xs apart.1 i j c d at there mon name)
 
-pub conditions_distinct : (names : ImageNames) → AreWords names → AreDistinct (length names.monitors) (monitor_name names) → Apart names.conditions → AreDistinct (length names.conditions) (condition_name names)
+pub conditions_distinct : (names : ImageNames) → AreWordNames names → AreDistinct (length names.monitors) (monitor_name names) → Apart names.conditions → AreDistinct (length names.conditions) (condition_name names)
 conditions_distinct names words monitors apart i j low below e =
     let a = stands_at names names.conditions i low words.conditions words.placed in
     let b = stands_at names names.conditions j below words.conditions words.placed in

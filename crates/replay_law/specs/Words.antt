@@ -9,7 +9,7 @@ use Rattle.syntax_tree.specs.declared.place.Place.{Place}
 use Rattle.source_semantics.specs.Names.{processes, monitors, conditions_of, device_in, event_in}
 use Rattle.front_end.specs.Source.{IsTreeOf}
 use Rattle.built_image.specs.Named.{names_of}
-use Rattle.event_log.specs.Logs.{AreWords}
+use Rattle.event_log.specs.Logs.{AreWordNames}
 
 -- a name is what the token of a name spells
 abbrev pub IsIdentifier : Name → Type 0
@@ -34,4 +34,4 @@ NamesOfTextsAreIdentifiers = (text : List ℕ) (g : placed.Prog Place) → IsTre
 
 -- The law: the names of its parts are words, and each condition stands in a monitor.
 abbrev pub NamesOfTextsAreWords : Type 0
-NamesOfTextsAreWords = (text : List ℕ) (g : placed.Prog Place) → IsTreeOf text g → AreWords (names_of (plain g))
+NamesOfTextsAreWords = (text : List ℕ) (g : placed.Prog Place) → IsTreeOf text g → AreWordNames (names_of (plain g))

@@ -4,7 +4,7 @@ ghost use Rattle.std.specs.Prelude.{◌≡◌, ◌&&◌, IfOk, map, not, option_
 ghost use Rattle.syntax_tree.specs.Placed.{placed, placed_constant, placed_process, plain, plain_constant, plain_process};
 ghost use Rattle.source_semantics.specs.Names.{count_value};
 ghost use Rattle.source_semantics.specs.Config.{changed, leave as left};
-ghost use Rattle.source_semantics.specs.Source.{lists};
+ghost use Rattle.source_semantics.specs.Source.{lists_constant};
 ghost use Rattle.replay_state.specs.View.{config_of, jobs_of};
 ghost use Rattle.replay_state.specs.Texts.{IsAfter, IsPrepared, IsText, after_of, after_put, raised_job};
 
@@ -33,7 +33,7 @@ pub fn count(declarations: &Declarations<'_>, constant: &Constant) -> u32
 
 /// Whether one of the constants is the number.
 fn is_listed(declarations: &Declarations<'_>, number: u32, constants: &[Constant]) -> bool
-    ensures { result ≡ lists (plain (placed declarations.now)) number
+    ensures { result ≡ lists_constant (plain (placed declarations.now)) number
         (map plain_constant (map placed_constant constants.now)) }
 {
     for constant in constants {
@@ -53,7 +53,7 @@ pub struct AfterException<'a> {
 
 /// Whether the handler begins: it lists the number, and does not run yet.
 fn begins(declarations: &Declarations<'_>, number: u32, handler: &Handler, handling: bool) -> bool
-    ensures { result ≡ (lists (plain (placed declarations.now)) number
+    ensures { result ≡ (lists_constant (plain (placed declarations.now)) number
         (map plain_constant (map placed_constant handler.now.numbers)) && not handling) }
 {
     is_listed(declarations, number, handler.numbers.as_slice()) && !handling

@@ -70,12 +70,12 @@ responses_in image script columns k = responses k columns.first 0 (events_from i
 abbrev pub bound_of : Image → (k : ℕ) → ℕ
 bound_of image k = unwrap_or (option_map (λ p. p.bound) (slice_get image.processes k)) 0
 
-abbrev pub rank_of : Image → (k : ℕ) → ℕ
-rank_of image k = unwrap_or (option_map (λ p. p.rank) (slice_get image.processes k)) 0
+abbrev pub declared_rank_of : Image → (k : ℕ) → ℕ
+declared_rank_of image k = unwrap_or (option_map (λ p. p.rank) (slice_get image.processes k)) 0
 
 -- the numbers of the processes of a rank, and of all in the order of ranks
 abbrev pub of_rank : Image → (rank : ℕ) → List ℕ
-of_rank image rank = filter (λ k. nat_eq (rank_of image k) rank) (range_with_len 0 (length image.processes))
+of_rank image rank = filter (λ k. nat_eq (declared_rank_of image k) rank) (range_with_len 0 (length image.processes))
 
 abbrev pub by_rank : Image → List ℕ
 by_rank image = flat_map (of_rank image) (range_with_len 1 (length image.processes))

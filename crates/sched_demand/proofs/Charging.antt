@@ -4,7 +4,7 @@ use Rattle.std.specs.Prelude.{Option, Some, None}
 use Rattle.std.proofs.lemmas.Bool.{cases_lt}
 use Rattle.sched_demand.specs.declared.tasks.DemandTask.{DemandTask}
 use Rattle.sched_demand.specs.Demand.{task_at}
-use Rattle.sched_theorem.specs.Charges.{Charge, Execution, Blocking, Cost}
+use Rattle.sched_theorem.specs.Charges.{Charge, Execution, Blocking, ChargedCost}
 use Rattle.sched_theorem.specs.Stretches.{Life, Acts, SomeActive, NoneActive, IsCharged, Trace, IsRun, AreCharged, IsStretch}
 use Rattle.sched_theorem.specs.Dispatched.{Stay, KeepsStays}
 use Rattle.sched_theorem.specs.Placed.{AreRanks}
@@ -93,7 +93,7 @@ due_row ts rank place end due r are run within l i below =
 abbrev pub shifted : ℕ → Trace → Trace
 shifted start t = record { before = λ k. t.before (start + k); after = λ k. t.after (start + k); released = λ k. t.released (start + k) }
 
-pub shifted_run : (n : ℕ) (cost : ℕ → Cost) (end : ℕ) (t : Trace) (start ticks : ℕ) → IsRun n cost end t → start + ticks ≤ end → IsRun n cost ticks (shifted start t)
+pub shifted_run : (n : ℕ) (cost : ℕ → ChargedCost) (end : ℕ) (t : Trace) (start ticks : ℕ) → IsRun n cost end t → start + ticks ≤ end → IsRun n cost ticks (shifted start t)
 shifted_run n cost end t start ticks run within = record {
   whole = λ k j low below. run.whole (start + k) j (omega arith) below;
   opens = λ k j low below. run.opens (start + k) j (omega arith) below;

@@ -4,7 +4,7 @@ use Rattle.std.specs.Prelude.{Bool, true, false, cond, nat_lt, Option, Some, Non
 use Rattle.std.proofs.lemmas.Bool.{cases_lt, cases_eq, lt-ltb, le-ltb, cases_Bool}
 use Rattle.sched_demand.specs.declared.tasks.DemandTask.{DemandTask}
 use Rattle.sched_demand.specs.Demand.{task_at}
-use Rattle.sched_theorem.specs.Charges.{Cost}
+use Rattle.sched_theorem.specs.Charges.{ChargedCost}
 use Rattle.sched_theorem.specs.Stretches.{Life, Opens, Acts, Trace, IsRun, flag}
 use Rattle.sched_theorem.specs.Placed.{AreRanks}
 use Rattle.sched_demand.specs.Activations.{Activation, Starts, Moves}
@@ -17,7 +17,7 @@ use Rattle.sched_demand.proofs.Stacking.{kept_by_releases, kept_by_choice, moves
 abbrev pub due_life : ℕ → ℕ → Activation → Life
 due_life due deadline a = record { run_left = cond (nat_lt due (a.release + deadline)) 0 a.left; suspension_left = 0; waits_left = 0; waiting = 0 }
 
-abbrev pub due_cost : ℕ → Cost
+abbrev pub due_cost : ℕ → ChargedCost
 due_cost c = record { run = c; susp = 0; waits = 0 }
 
 abbrev pub due_release : ℕ → ℕ → ℕ → Bool → Bool
@@ -166,7 +166,7 @@ due_trace ts place due r = record {
   released = λ k j. due_release due (task_at ts j).deadline k (r.released k (place j));
 }
 
-abbrev pub cost_at : List DemandTask → ℕ → Cost
+abbrev pub cost_at : List DemandTask → ℕ → ChargedCost
 cost_at ts j = due_cost (task_at ts j).cost
 
 pub due_run : (ts : List DemandTask) (rank place : ℕ → ℕ) (end due : ℕ) (r : Run) → AreRanks (length ts) rank place → IsEarliest ts rank end r → IsRun (length ts) (cost_at ts) end (due_trace ts place due r)

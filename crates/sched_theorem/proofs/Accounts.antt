@@ -2,12 +2,12 @@
 use Rattle.std.proofs.Common.{◌≡◌, ℕ, zero, suc, ◌+◌, ◌*◌, ◌<◌, ◌≤◌, inl, inr, List, [], ◌∷◌, length, refl, arith, sym, subst}
 use Rattle.std.specs.Prelude.{Bool}
 use Rattle.std.proofs.lemmas.Bool.{cases_lt}
-use Rattle.sched_theorem.specs.Charges.{Charge, Execution, Suspension, Blocking, executes, suspends, blocks, ticks_of, total, Cost, Paid}
+use Rattle.sched_theorem.specs.Charges.{Charge, Execution, Suspension, Blocking, executes, suspends, blocks, ticks_of, total, ChargedCost, Paid}
 use Rattle.sched_theorem.specs.Stretches.{Life, IsLife, flag, Opens, Acts, NoneActive, SomeActive, IsCharged, Trace, IsRun, AreCharged, releases}
 use Rattle.sched_theorem.proofs.Totals.{total_mono, total_less, total_add, total_zero, total_of_some, none_of_total}
 
 -- charges made and what is left are paid for; `ended` pieces have ended, each by a wait
-pub record Account (n : ℕ) (cost : ℕ → Cost) (most : ℕ) (count : ℕ → ℕ) (cs : List Charge) (lives : ℕ → Life) (stay ended : ℕ) : Type 0 where
+pub record Account (n : ℕ) (cost : ℕ → ChargedCost) (most : ℕ) (count : ℕ → ℕ) (cs : List Charge) (lives : ℕ → Life) (stay ended : ℕ) : Type 0 where
   pub execution : ticks_of executes cs + total n (λ j. (lives j).run_left) ≤ total n (λ j. count j * (cost j).run)
   pub suspension : ticks_of suspends cs + total n (λ j. (lives j).suspension_left) ≤ total n (λ j. count j * (cost j).susp)
   pub waits : ended + total n (λ j. (lives j).waits_left) ≤ total n (λ j. count j * (cost j).waits)
@@ -33,7 +33,7 @@ added (suc n) count gain most a b spent each paid =
     gains (suc n) count gain most = let rest = gains n count gain most in let here = one_more (count n) (most n) (gain n) in omega arith
 
 -- the start events of a tick keep the account
-pub open_account : (n : ℕ) (cost : ℕ → Cost) (most : ℕ) (count : ℕ → ℕ) (cs : List Charge) (a b : ℕ → Life) (stay ended : ℕ) (released : ℕ → Bool) → ((j : ℕ) → j < n → Opens (released j) (cost j) (a j) (b j)) → Account n cost most count cs a stay ended → Account n cost most (λ j. count j + flag (released j)) cs b stay ended
+pub open_account : (n : ℕ) (cost : ℕ → ChargedCost) (most : ℕ) (count : ℕ → ℕ) (cs : List Charge) (a b : ℕ → Life) (stay ended : ℕ) (released : ℕ → Bool) → ((j : ℕ) → j < n → Opens (released j) (cost j) (a j) (b j)) → Account n cost most count cs a stay ended → Account n cost most (λ j. count j + flag (released j)) cs b stay ended
 open_account n cost most count cs a b stay ended released opens account = record {
   execution = added n count (λ j. flag (released j)) (λ j. (cost j).run) (λ j. (a j).run_left) (λ j. (b j).run_left) _ (λ j below. (opens j below).run) account.execution;
   suspension = added n count (λ j. flag (released j)) (λ j. (cost j).susp) (λ j. (a j).suspension_left) (λ j. (b j).suspension_left) _ (λ j below. (opens j below).susp) account.suspension;
@@ -117,7 +117,7 @@ stepped n Blocking a b stay stay_after most acts short charged =
     }
 
 -- the rest of a tick keeps the account, with its charge; a piece ends where somebody begins to wait while nobody did
-pub act_account : (n : ℕ) (cost : ℕ → Cost) (most : ℕ) (count : ℕ → ℕ) (cs : List Charge) (c : Charge) (a b : ℕ → Life) (stay stay_after ended : ℕ) → ((j : ℕ) → j < n → Acts (a j) (b j)) → stay_after ≤ most → IsCharged n a b stay stay_after c → Account n cost most count cs a stay ended → (new : ℕ) × Account n cost most count (c ∷ cs) b stay_after new
+pub act_account : (n : ℕ) (cost : ℕ → ChargedCost) (most : ℕ) (count : ℕ → ℕ) (cs : List Charge) (c : Charge) (a b : ℕ → Life) (stay stay_after ended : ℕ) → ((j : ℕ) → j < n → Acts (a j) (b j)) → stay_after ≤ most → IsCharged n a b stay stay_after c → Account n cost most count cs a stay ended → (new : ℕ) × Account n cost most count (c ∷ cs) b stay_after new
 act_account n cost most count cs c a b stay stay_after ended acts short charged account =
     let s = stepped n c a b stay stay_after most acts short charged in
     let execution : executes c + ticks_of executes cs + total n (λ j. (b j).run_left) ≤ total n (λ j. count j * (cost j).run) = omega (arith, account.execution, s.execution) in
@@ -166,7 +166,7 @@ act_account n cost most count cs c a b stay stay_after ended acts short charged 
     ]
 
 -- the account at the start of a stretch
-first_account : (n : ℕ) (cost : ℕ → Cost) (most : ℕ) (lives : ℕ → Life) (stay : ℕ) → ((j : ℕ) → j < n → IsLife (lives j)) → NoneActive n lives → stay ≤ most → Account n cost most (λ j. 0) [] lives stay 0
+first_account : (n : ℕ) (cost : ℕ → ChargedCost) (most : ℕ) (lives : ℕ → Life) (stay : ℕ) → ((j : ℕ) → j < n → IsLife (lives j)) → NoneActive n lives → stay ≤ most → Account n cost most (λ j. 0) [] lives stay 0
 first_account n cost most lives stay whole clear short =
     let run = total_zero n (λ j. (lives j).run_left) clear in
     let susp = total_zero n (λ j. (lives j).suspension_left) (λ j below. (whole j below).no_susp (clear j below)) in
@@ -181,18 +181,18 @@ first_account n cost most lives stay whole clear short =
     }
 
 -- who is active before a tick is so after its start events
-pub still_active : (n : ℕ) (cost : ℕ → Cost) (a b : ℕ → Life) (released : ℕ → Bool) → ((j : ℕ) → j < n → Opens (released j) (cost j) (a j) (b j)) → SomeActive n a → SomeActive n b
+pub still_active : (n : ℕ) (cost : ℕ → ChargedCost) (a b : ℕ → Life) (released : ℕ → Bool) → ((j : ℕ) → j < n → Opens (released j) (cost j) (a j) (b j)) → SomeActive n a → SomeActive n b
 still_active n cost a b released opens some = (some.0, some.1, (opens some.0 some.1).goes_on some.2)
 
 -- so many charges, and an account of them
-pub record Accounted (n : ℕ) (cost : ℕ → Cost) (most : ℕ) (count : ℕ → ℕ) (ticks : ℕ) (lives : ℕ → Life) (stay : ℕ) : Type 0 where
+pub record Accounted (n : ℕ) (cost : ℕ → ChargedCost) (most : ℕ) (count : ℕ → ℕ) (ticks : ℕ) (lives : ℕ → Life) (stay : ℕ) : Type 0 where
   pub charges : List Charge
   pub many : length charges ≡ ticks
   pub ended : ℕ
   pub account : Account n cost most count charges lives stay ended
 
 -- the account of the first ticks of a stretch
-pub account_of : (n : ℕ) (cost : ℕ → Cost) (most end : ℕ) (t : Trace) (stay : ℕ → ℕ) (start : ℕ) → IsRun n cost end t → AreCharged n most end t stay → NoneActive n (t.before start) → SomeActive n (t.after start) →
+pub account_of : (n : ℕ) (cost : ℕ → ChargedCost) (most end : ℕ) (t : Trace) (stay : ℕ → ℕ) (start : ℕ) → IsRun n cost end t → AreCharged n most end t stay → NoneActive n (t.before start) → SomeActive n (t.after start) →
     (ticks : ℕ) → start + ticks ≤ end → ((k : ℕ) → 0 < k → k < ticks → SomeActive n (t.before (start + k))) →
     Accounted n cost most (λ j. releases (λ k. t.released k j) start ticks) ticks (t.before (start + ticks)) (stay (start + ticks))
 account_of n cost most end t stay start run charged clear busy zero within goes_on =
@@ -222,7 +222,7 @@ account_of n cost most end t stay start run charged clear busy (suc ticks) withi
     subst P e (record { charges = charge.0 ∷ was.charges; many = many; ended = acted.0; account = acted.1 })
 
 -- an account is paid for
-pub paid_of : (n : ℕ) (cost : ℕ → Cost) (most : ℕ) (count : ℕ → ℕ) (cs : List Charge) (lives : ℕ → Life) (stay ended : ℕ) → Account n cost most count cs lives stay ended → Paid n count cost most (1 + ended) (total n (λ j. (lives j).run_left)) cs
+pub paid_of : (n : ℕ) (cost : ℕ → ChargedCost) (most : ℕ) (count : ℕ → ℕ) (cs : List Charge) (lives : ℕ → Life) (stay ended : ℕ) → Account n cost most count cs lives stay ended → Paid n count cost most (1 + ended) (total n (λ j. (lives j).run_left)) cs
 paid_of n cost most count cs lives stay ended account = record {
   execution = account.execution;
   suspension = omega (arith, account.suspension);

@@ -2,7 +2,7 @@
 use Rattle.std.proofs.Common.{◌≡◌, ℕ, zero, suc, ◌+◌, ◌-◌, ◌/◌, ◌<◌, ◌≤◌, inl, inr, arith, ap, sym, subst}
 use Rattle.std.specs.Prelude.{Bool, true, cond}
 use Rattle.std.proofs.lemmas.Bool.{cases_lt, lt-ltb, le-ltb}
-use Rattle.sched_theorem.specs.Charges.{total, Cost}
+use Rattle.sched_theorem.specs.Charges.{total, ChargedCost}
 use Rattle.sched_theorem.specs.Stretches.{SomeActive, NoneActive, Trace, IsRun, AreCharged, Spaced, releases}
 use Rattle.sched_theorem.specs.Deadlines.{due_in, IsDueBy, AsksMore}
 use Rattle.sched_theorem.proofs.Totals.{total_of_some}
@@ -23,7 +23,7 @@ few_due frame deadline end released start ticks pos spaced within due = elim (ca
 ]
 
 -- a run in which somebody is active at the due tick
-pub missed_asks_more : (n : ℕ) (cost : ℕ → Cost) (frame deadline : ℕ → ℕ) (most end due : ℕ) (t : Trace) (stay : ℕ → ℕ) → IsRun n cost end t → AreCharged n most end t stay → IsDueBy n frame deadline end due t → NoneActive n (t.before 0) → due ≤ end → SomeActive n (t.before due) → AsksMore n cost frame deadline most due t
+pub missed_asks_more : (n : ℕ) (cost : ℕ → ChargedCost) (frame deadline : ℕ → ℕ) (most end due : ℕ) (t : Trace) (stay : ℕ → ℕ) → IsRun n cost end t → AreCharged n most end t stay → IsDueBy n frame deadline end due t → NoneActive n (t.before 0) → due ≤ end → SomeActive n (t.before due) → AsksMore n cost frame deadline most due t
 missed_asks_more n cost frame deadline most end zero t stay run charged is_due idle_first within late = absurd (not_both n (t.before 0) late idle_first)
 missed_asks_more n cost frame deadline most end (suc last) t stay run charged is_due idle_first within late =
     let busy : SomeActive n (t.after last) = active_before_acts n (t.after last) (t.before (suc last)) (λ j below. run.acts last j (omega arith) below) late in

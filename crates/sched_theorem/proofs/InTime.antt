@@ -6,7 +6,7 @@ use Rattle.std.proofs.lemmas.Bool.{cases_lt}
 use Rattle.sched_response.specs.declared.tasks.Task.{Task}
 use Rattle.sched_response.specs.Demand.{IsTask, Solves, task_at, deadline_at}
 use Rattle.sched_theorem.specs.Limited.{AreLimited}
-use Rattle.sched_theorem.specs.Charges.{Cost}
+use Rattle.sched_theorem.specs.Charges.{ChargedCost}
 use Rattle.sched_theorem.specs.Stretches.{flag, NoneActive, SomeActive, Trace, IsRun, AreCharged, releases, IsStretch}
 use Rattle.sched_theorem.specs.Ranked.{cost_at, IsRanked, EndsAt, EndsWithin}
 use Rattle.sched_theorem.specs.InTime.{AreBounds, IsInTime, MeetsDeadlines}
@@ -15,7 +15,7 @@ use Rattle.sched_theorem.proofs.Stretches.{cleared, no_longer, began, cases_acti
 use Rattle.sched_theorem.proofs.Demands.{task_is, one_frame, solution_covers}
 
 -- a run of all ranks is one of those up to a level
-run_below : (n m : ℕ) (cost : ℕ → Cost) (end : ℕ) (t : Trace) → m ≤ n → IsRun n cost end t → IsRun m cost end t
+run_below : (n m : ℕ) (cost : ℕ → ChargedCost) (end : ℕ) (t : Trace) → m ≤ n → IsRun n cost end t → IsRun m cost end t
 run_below n m cost end t le run = record {
   whole = λ k j within below. run.whole k j within (omega arith);
   opens = λ k j within below. run.opens k j within (omega arith);
@@ -48,7 +48,7 @@ stretch_within ts end t stay level bound start ticks are ranked below solves str
     no_longer (suc level) (cost_at ts) (task_at ts level).block end t (stay level) start ticks bound (λ j. div_ceil bound (task_at ts j).frame) l.run l.charged stretch within solves.above (λ sooner. few_releases ts end t stay start bound (suc level) are ranked (omega arith) sooner) (solution_covers ts level bound are below solves)
 
 -- what is left of an idle process's next activations comes from releases
-from_releases : (n : ℕ) (cost : ℕ → Cost) (end : ℕ) (t : Trace) (j start : ℕ) → IsRun n cost end t → j < n → (t.before start j).run_left ≡ 0 → (ticks : ℕ) → start + ticks ≤ end → (t.before (start + ticks) j).run_left ≤ releases (λ k. t.released k j) start ticks * (cost j).run
+from_releases : (n : ℕ) (cost : ℕ → ChargedCost) (end : ℕ) (t : Trace) (j start : ℕ) → IsRun n cost end t → j < n → (t.before start j).run_left ≡ 0 → (ticks : ℕ) → start + ticks ≤ end → (t.before (start + ticks) j).run_left ≤ releases (λ k. t.released k j) start ticks * (cost j).run
 from_releases n cost end t j start run below idle zero within =
     let e : start ≡ start + 0 = omega arith in
     let P : ℕ → Type 0 = λ k. (t.before k j).run_left ≡ 0 in
@@ -122,7 +122,7 @@ record FirstEnd (t : Trace) (j release ticks : ℕ) : Type 0 where
   goes_on : (k : ℕ) → release < k → k ≤ release + place → 1 ≤ (t.before k j).run_left
 
 -- so far it has ended, or it is active
-end_or_active : (n : ℕ) (cost : ℕ → Cost) (end : ℕ) (t : Trace) (j release : ℕ) → IsRun n cost end t → j < n → 1 ≤ (t.after release j).run_left → (ticks : ℕ) → release + ticks < end → FirstEnd t j release ticks ⊎ ((k : ℕ) → release < k → k ≤ suc (release + ticks) → 1 ≤ (t.before k j).run_left)
+end_or_active : (n : ℕ) (cost : ℕ → ChargedCost) (end : ℕ) (t : Trace) (j release : ℕ) → IsRun n cost end t → j < n → 1 ≤ (t.after release j).run_left → (ticks : ℕ) → release + ticks < end → FirstEnd t j release ticks ⊎ ((k : ℕ) → release < k → k ≤ suc (release + ticks) → 1 ≤ (t.before k j).run_left)
 end_or_active n cost end t j release run below active zero within =
     let e : release ≡ release + 0 = omega arith in
     let P : ℕ → Type 0 = λ k. 1 ≤ (t.after k j).run_left in

@@ -5,7 +5,7 @@ use Rattle.std.proofs.Math.Dec.{leb, ltb, eqb}
 use Rattle.std.proofs.lemmas.Bool.{and_parts, and_from, or_cases, leb-true, le-leb, ltb-true, eqb-true, eq-eqb, cases_lt, false_from_ne_true}
 use Rattle.sched_response.specs.declared.tasks.Task.{Task}
 use Rattle.sched_response.specs.Demand.{task_at, deadline_at, demand_at, Solves}
-use Rattle.sched_theorem.specs.Charges.{Cost}
+use Rattle.sched_theorem.specs.Charges.{ChargedCost}
 use Rattle.sched_theorem.specs.Stretches.{Life, Trace, IsLife, Opens, Acts, Spaced, flag}
 use Rattle.sched_theorem.specs.Dispatched.{Stay, Dispatch, IsReady, active_rank, TakesOne, KeepsStays}
 use Rattle.sched_theorem.specs.Ranked.{cost_at}
@@ -64,10 +64,10 @@ is_life a ok = record {
 abbrev pub goes_on_ok : Bool → Life → Life → Bool
 goes_on_ok released a b = implies (leb 1 a.run_left) (leb 1 b.run_left) && implies released (leb 1 b.run_left)
 
-abbrev pub opens_ok : Bool → Cost → Life → Life → Bool
+abbrev pub opens_ok : Bool → ChargedCost → Life → Life → Bool
 opens_ok released cost a b = leb b.run_left (a.run_left + flag released * cost.run) && (leb b.suspension_left (a.suspension_left + flag released * cost.susp) && (leb b.waits_left (a.waits_left + flag released * cost.waits) && (leb b.waiting a.waiting && goes_on_ok released a b)))
 
-opens : (released : Bool) (cost : Cost) (a b : Life) → opens_ok released cost a b ≡ true → Opens released cost a b
+opens : (released : Bool) (cost : ChargedCost) (a b : Life) → opens_ok released cost a b ≡ true → Opens released cost a b
 opens released cost a b ok =
     let run = and_le b.run_left (a.run_left + flag released * cost.run) (leb b.suspension_left (a.suspension_left + flag released * cost.susp) && (leb b.waits_left (a.waits_left + flag released * cost.waits) && (leb b.waiting a.waiting && goes_on_ok released a b))) ok in
     let susp = and_le b.suspension_left (a.suspension_left + flag released * cost.susp) (leb b.waits_left (a.waits_left + flag released * cost.waits) && (leb b.waiting a.waiting && goes_on_ok released a b)) run.1 in

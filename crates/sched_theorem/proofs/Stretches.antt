@@ -2,14 +2,14 @@
 use Rattle.std.proofs.Common.{◌≡◌, ℕ, zero, suc, ◌+◌, ◌*◌, ◌<◌, ◌≤◌, ◌⊎◌, inl, inr, arith, subst}
 use Rattle.std.proofs.lemmas.Bool.{cases_lt}
 use Rattle.std.proofs.Math.Nat.{mul-le-mul_right}
-use Rattle.sched_theorem.specs.Charges.{total, Cost, claim, claims}
+use Rattle.sched_theorem.specs.Charges.{total, ChargedCost, claim, claims}
 use Rattle.sched_theorem.specs.Stretches.{Life, Acts, NoneActive, SomeActive, Trace, IsRun, AreCharged, releases, IsStretch, Began}
 use Rattle.sched_theorem.proofs.Totals.{total_mono, total_some, none_of_total}
 use Rattle.sched_theorem.proofs.Counting.{counting}
 use Rattle.sched_theorem.proofs.Accounts.{account_of, paid_of}
 
 -- the ticks of a stretch and the execution that is left are within one stay and what its activations ask for
-pub within_claims : (n : ℕ) (cost : ℕ → Cost) (most end : ℕ) (t : Trace) (stay : ℕ → ℕ) (start ticks : ℕ) → IsRun n cost end t → AreCharged n most end t stay → IsStretch n t start ticks → start + ticks ≤ end → ticks + total n (λ j. (t.before (start + ticks) j).run_left) ≤ most + claims n (λ j. releases (λ k. t.released k j) start ticks) cost most
+pub within_claims : (n : ℕ) (cost : ℕ → ChargedCost) (most end : ℕ) (t : Trace) (stay : ℕ → ℕ) (start ticks : ℕ) → IsRun n cost end t → AreCharged n most end t stay → IsStretch n t start ticks → start + ticks ≤ end → ticks + total n (λ j. (t.before (start + ticks) j).run_left) ≤ most + claims n (λ j. releases (λ k. t.released k j) start ticks) cost most
 within_claims n cost most end t stay start ticks run charged stretch within =
     let a = account_of n cost most end t stay start run charged stretch.clear stretch.busy ticks within stretch.goes_on in
     let count = λ (j : ℕ). releases (λ k. t.released k j) start ticks in
@@ -18,11 +18,11 @@ within_claims n cost most end t stay start ticks run charged stretch within =
     omega (arith, a.many)
 
 -- more activations ask for more
-pub claims_mono : (n : ℕ) (count counts : ℕ → ℕ) (cost : ℕ → Cost) (stay : ℕ) → ((j : ℕ) → j < n → count j ≤ counts j) → claims n count cost stay ≤ claims n counts cost stay
+pub claims_mono : (n : ℕ) (count counts : ℕ → ℕ) (cost : ℕ → ChargedCost) (stay : ℕ) → ((j : ℕ) → j < n → count j ≤ counts j) → claims n count cost stay ≤ claims n counts cost stay
 claims_mono n count counts cost stay each = total_mono n (λ j. count j * claim stay (cost j)) (λ j. counts j * claim stay (cost j)) (λ j below. mul-le-mul_right (claim stay (cost j)) (each j below))
 
 -- where so many ticks are as many as a stay and what is asked for in them, nobody is active after them
-pub cleared : (n : ℕ) (cost : ℕ → Cost) (most end : ℕ) (t : Trace) (stay : ℕ → ℕ) (start ticks : ℕ) (counts : ℕ → ℕ) → IsRun n cost end t → AreCharged n most end t stay → IsStretch n t start ticks → start + ticks ≤ end → ((j : ℕ) → j < n → releases (λ k. t.released k j) start ticks ≤ counts j) → most + claims n counts cost most ≤ ticks → NoneActive n (t.before (start + ticks))
+pub cleared : (n : ℕ) (cost : ℕ → ChargedCost) (most end : ℕ) (t : Trace) (stay : ℕ → ℕ) (start ticks : ℕ) (counts : ℕ → ℕ) → IsRun n cost end t → AreCharged n most end t stay → IsStretch n t start ticks → start + ticks ≤ end → ((j : ℕ) → j < n → releases (λ k. t.released k j) start ticks ≤ counts j) → most + claims n counts cost most ≤ ticks → NoneActive n (t.before (start + ticks))
 cleared n cost most end t stay start ticks counts run charged stretch within few solves =
     let h = within_claims n cost most end t stay start ticks run charged stretch within in
     let m = claims_mono n (λ j. releases (λ k. t.released k j) start ticks) counts cost most few in
@@ -39,7 +39,7 @@ pub not_both : (n : ℕ) (lives : ℕ → Life) → SomeActive n lives → NoneA
 not_both n lives some none = let e = none some.0 some.1 in omega (arith, some.2)
 
 -- so no stretch is longer
-pub no_longer : (n : ℕ) (cost : ℕ → Cost) (most end : ℕ) (t : Trace) (stay : ℕ → ℕ) (start ticks bound : ℕ) (counts : ℕ → ℕ) → IsRun n cost end t → AreCharged n most end t stay → IsStretch n t start ticks → start + ticks ≤ end → 0 < bound → (start + bound ≤ end → (j : ℕ) → j < n → releases (λ k. t.released k j) start bound ≤ counts j) → most + claims n counts cost most ≤ bound → ticks ≤ bound
+pub no_longer : (n : ℕ) (cost : ℕ → ChargedCost) (most end : ℕ) (t : Trace) (stay : ℕ → ℕ) (start ticks bound : ℕ) (counts : ℕ → ℕ) → IsRun n cost end t → AreCharged n most end t stay → IsStretch n t start ticks → start + ticks ≤ end → 0 < bound → (start + bound ≤ end → (j : ℕ) → j < n → releases (λ k. t.released k j) start bound ≤ counts j) → most + claims n counts cost most ≤ bound → ticks ≤ bound
 no_longer n cost most end t stay start ticks bound counts run charged stretch within pos few solves = elim (cases_lt bound ticks) [
   | inr le ↦ le
   | inl lt ↦
@@ -53,7 +53,7 @@ pub active_before_acts : (n : ℕ) (a b : ℕ → Life) → ((j : ℕ) → j < n
 active_before_acts n a b acts some = (some.0, some.1, omega (arith, (acts some.0 some.1).run, some.2))
 
 -- each busy tick belongs to a stretch
-pub began : (n : ℕ) (cost : ℕ → Cost) (end : ℕ) (t : Trace) → IsRun n cost end t → NoneActive n (t.before 0) → (tick : ℕ) → tick < end → SomeActive n (t.after tick) → Began n t tick
+pub began : (n : ℕ) (cost : ℕ → ChargedCost) (end : ℕ) (t : Trace) → IsRun n cost end t → NoneActive n (t.before 0) → (tick : ℕ) → tick < end → SomeActive n (t.after tick) → Began n t tick
 began n cost end t run idle_first zero within busy = record {
   start = 0;
   ticks = 0;

@@ -1,7 +1,7 @@
 -- The demand by a deadline, for earliest deadline first. The run is then that of the activations
 -- with deadlines by the due tick alone, and lower processes are those with later ones.
 use Rattle.std.specs.Prelude.{◌≡◌, ◌≤◌, ◌<◌, ◌+◌, ◌-◌, ◌/◌, ℕ, true, cond, nat_lt}
-use Rattle.sched_theorem.specs.Charges.{Cost, claims}
+use Rattle.sched_theorem.specs.Charges.{ChargedCost, claims}
 use Rattle.sched_theorem.specs.Stretches.{Trace, Spaced, IsStretch}
 
 -- how many releases a frame apart, from a start on, have their deadlines within so many ticks of it
@@ -16,7 +16,7 @@ pub record IsDueBy (n : ℕ) (frame deadline : ℕ → ℕ) (end due : ℕ) (t :
 
 -- a stretch lasts until the due tick, and one stay with what the activations due by then ask for is
 -- more than its length
-pub record AsksMore (n : ℕ) (cost : ℕ → Cost) (frame deadline : ℕ → ℕ) (most due : ℕ) (t : Trace) : Type 0 where
+pub record AsksMore (n : ℕ) (cost : ℕ → ChargedCost) (frame deadline : ℕ → ℕ) (most due : ℕ) (t : Trace) : Type 0 where
   pub start : ℕ
   pub ticks : ℕ
   pub here : start + ticks ≡ due

@@ -47,8 +47,8 @@ abbrev pub dispatch_of : Run → Dispatch
 dispatch_of r = record { picked = λ k. (tick_at r k).picked; inside = λ k p. stay_of (process_at r k p).inside }
 
 -- the rank of a place
-abbrev pub rank_of : Run → ℕ → ℕ
-rank_of r p = slice_index_or r.ranks p 0
+abbrev pub example_rank_of : Run → ℕ → ℕ
+example_rank_of r p = slice_index_or r.ranks p 0
 
 -- the place of a rank
 abbrev pub place_of : Run → ℕ → ℕ
@@ -63,7 +63,7 @@ pub record Blocks (r : Run) : Type 0 where
   pub tick : ℕ
   pub lower : ℕ
   pub higher : ℕ
-  pub ranked : rank_of r higher < rank_of r lower
+  pub ranked : example_rank_of r higher < example_rank_of r lower
   pub inside : (s : Stay) × ((dispatch_of r).inside tick lower ≡ Some s)
   pub runs : (dispatch_of r).picked tick ≡ Some lower
   pub held_up : IsReady ((trace_of r).after tick higher)
@@ -90,7 +90,7 @@ pub record ShowsEach (r : Run) : Type 0 where
 pub record ReachesBound (r : Run) (p : ℕ) : Type 0 where
   pub release : ℕ
   pub tick : ℕ
-  pub last : suc tick ≡ release + bound_of r (rank_of r p)
+  pub last : suc tick ≡ release + bound_of r (example_rank_of r p)
   pub released : (trace_of r).released release p ≡ true
   pub ends : EndsAt (trace_of r) p tick
 

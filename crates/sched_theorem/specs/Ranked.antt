@@ -3,11 +3,11 @@
 use Rattle.std.specs.Prelude.{◌≡◌, ◌≤◌, ◌<◌, ◌+◌, ℕ, suc, List, length}
 use Rattle.sched_response.specs.declared.tasks.Task.{Task}
 use Rattle.sched_response.specs.Demand.{task_at}
-use Rattle.sched_theorem.specs.Charges.{Cost}
+use Rattle.sched_theorem.specs.Charges.{ChargedCost}
 use Rattle.sched_theorem.specs.Stretches.{Trace, IsRun, AreCharged, Spaced}
 
 -- the most that one activation of a rank takes
-abbrev pub cost_at : List Task → ℕ → Cost
+abbrev pub cost_at : List Task → ℕ → ChargedCost
 cost_at ts j = record { run = (task_at ts j).run; susp = (task_at ts j).susp; waits = (task_at ts j).waits }
 
 -- at first all are idle, releases stand a frame apart, and at each level each busy tick has a

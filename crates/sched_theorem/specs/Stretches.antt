@@ -1,7 +1,7 @@
 -- A run, seen by tick and process as the numbers that the timing argument needs, and its busy
 -- stretches. The processes stand in the order of their ranks.
 use Rattle.std.specs.Prelude.{◌≡◌, ◌≤◌, ◌<◌, ◌+◌, ◌*◌, ℕ, zero, suc, Bool, true, false}
-use Rattle.sched_theorem.specs.Charges.{Charge, Execution, Suspension, Blocking, Cost}
+use Rattle.sched_theorem.specs.Charges.{Charge, Execution, Suspension, Blocking, ChargedCost}
 
 -- what is left of an activation: ticks of execution (0 exactly in an idle process), ticks of
 -- suspension, waits that it may still begin; and 1 while it waits, else 0
@@ -24,7 +24,7 @@ flag false = 0
 
 -- the start events of a tick, for a process that is a before them and b after them: a release gives
 -- at most the cost of an activation; a wait may end, and none begins; nobody ends
-pub record Opens (released : Bool) (cost : Cost) (a b : Life) : Type 0 where
+pub record Opens (released : Bool) (cost : ChargedCost) (a b : Life) : Type 0 where
   pub run : b.run_left ≤ a.run_left + flag released * cost.run
   pub susp : b.suspension_left ≤ a.suspension_left + flag released * cost.susp
   pub waits : b.waits_left ≤ a.waits_left + flag released * cost.waits
@@ -80,7 +80,7 @@ pub record Trace : Type 0 where
   pub released : ℕ → ℕ → Bool
 
 -- no activation takes more than its cost, in the ticks below an end and for the ranks below n
-pub record IsRun (n : ℕ) (cost : ℕ → Cost) (end : ℕ) (t : Trace) : Type 0 where
+pub record IsRun (n : ℕ) (cost : ℕ → ChargedCost) (end : ℕ) (t : Trace) : Type 0 where
   pub whole : (k j : ℕ) → k ≤ end → j < n → IsLife (t.before k j)
   pub opens : (k j : ℕ) → k < end → j < n → Opens (t.released k j) (cost j) (t.before k j) (t.after k j)
   pub acts : (k j : ℕ) → k < end → j < n → Acts (t.after k j) (t.before (suc k) j)

@@ -1,7 +1,7 @@
 //! A run that meets the premises of the timing argument, as data, so that none of them is empty:
 //! two processes share a monitor, and the lower one also waits.
 
-ghost use Rattle.sched_theorem.specs.Example.{bound_of, dispatch_of, place_of, rank_of, trace_of, ReachesBounds, ShowsEach};
+ghost use Rattle.sched_theorem.specs.Example.{bound_of, dispatch_of, place_of, example_rank_of, trace_of, ReachesBounds, ShowsEach};
 ghost use Rattle.sched_theorem.specs.InTime.{AreBounds};
 ghost use Rattle.sched_theorem.specs.Placed.{AreRanks, IsInTimeAt, IsPlaced, MeetsDeadlinesAt};
 ghost use Rattle.sched_response.specs.Demand.{AreTasks};
@@ -172,8 +172,9 @@ macro_rules! tick {
 pub fn example() -> Run
     ensures tasks { AreTasks result.tasks }
     ensures bounds { AreBounds result.tasks (bound_of result) }
-    ensures ranks { AreRanks 2 (rank_of result) (place_of result) }
-    ensures run { IsPlaced result.tasks (rank_of result) 18 (trace_of result) (dispatch_of result) }
+    ensures ranks { AreRanks 2 (example_rank_of result) (place_of result) }
+    ensures run { IsPlaced result.tasks (example_rank_of result) 18 (trace_of result)
+        (dispatch_of result) }
     ensures shows { ShowsEach result }
     ensures reached { ReachesBounds result }
 {
@@ -211,10 +212,10 @@ pub fn example() -> Run
 /// longer than its bound, no release finds its process unfinished, and each activation ends within
 /// its bound and so within its deadline.
 pub fn example_is_in_time() -> Run
-    ensures in_time { IsInTimeAt result.tasks (rank_of result) (place_of result)
+    ensures in_time { IsInTimeAt result.tasks (example_rank_of result) (place_of result)
         (bound_of result) 18
         (trace_of result) }
-    ensures deadlines { MeetsDeadlinesAt result.tasks (rank_of result) (bound_of result) 18
+    ensures deadlines { MeetsDeadlinesAt result.tasks (example_rank_of result) (bound_of result) 18
         (trace_of result) }
     ensures shows { ShowsEach result }
     ensures reached { ReachesBounds result }

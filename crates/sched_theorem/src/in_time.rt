@@ -6,7 +6,7 @@
 //! immediate priority ceilings with the processes in the order of their ranks, and the same with
 //! the processes in any order.
 
-ghost use Rattle.sched_theorem.specs.Charges.{claim, claims, Charge, Cost, Paid};
+ghost use Rattle.sched_theorem.specs.Charges.{claim, claims, Charge, ChargedCost, Paid};
 ghost use Rattle.sched_theorem.specs.Deadlines.{AsksMore, IsDueBy};
 ghost use Rattle.sched_theorem.specs.Dispatched.{AreApart, Dispatch, IsDispatched, KeepsStays, RunsAbove, Stay};
 ghost use Rattle.sched_theorem.specs.InTime.{AreBounds, IsInTime, MeetsDeadlines};
@@ -26,7 +26,7 @@ ghost use Rattle.std.specs.Prelude.{◌+◌, ◌<◌, ◌≡◌, ◌≤◌, leng
 /// between waits are at most one more than the waits: each wait claims one stay, and one is left
 /// over.
 pub fn charges_are_claimed()
-    ensures { (n : ℕ) (count : ℕ → ℕ) (cost : ℕ → Cost) (stay pieces left : ℕ)
+    ensures { (n : ℕ) (count : ℕ → ℕ) (cost : ℕ → ChargedCost) (stay pieces left : ℕ)
         (charges : List Charge)
         → Paid n count cost stay pieces left charges
         → length charges + left ≤ stay + claims n count cost stay }
@@ -39,7 +39,7 @@ pub fn charges_are_claimed()
 /// `counts j` is any number that the releases of rank j in these ticks do not pass, where the run
 /// goes on for so long.
 pub fn stretches_are_claimed()
-    ensures { (n : ℕ) (cost : ℕ → Cost) (most end : ℕ) (t : Trace) (stay : ℕ → ℕ)
+    ensures { (n : ℕ) (cost : ℕ → ChargedCost) (most end : ℕ) (t : Trace) (stay : ℕ → ℕ)
         (start ticks bound : ℕ) (counts : ℕ → ℕ)
         → IsRun n cost end t
         → AreCharged n most end t stay
@@ -54,7 +54,7 @@ pub fn stretches_are_claimed()
 
 /// Each busy tick is in a stretch, where at first nobody is active.
 pub fn busy_ticks_are_in_stretches()
-    ensures { (n : ℕ) (cost : ℕ → Cost) (end : ℕ) (t : Trace) (tick : ℕ)
+    ensures { (n : ℕ) (cost : ℕ → ChargedCost) (end : ℕ) (t : Trace) (tick : ℕ)
         → IsRun n cost end t
         → NoneActive n (t.before 0)
         → tick < end
@@ -78,7 +78,7 @@ pub fn releases_are_few()
 /// This is the step of the processor-demand test for earliest deadline first: a missed deadline
 /// asks for more.
 pub fn missed_deadlines_ask_more()
-    ensures { (n : ℕ) (cost : ℕ → Cost) (frame deadline : ℕ → ℕ) (most end due : ℕ)
+    ensures { (n : ℕ) (cost : ℕ → ChargedCost) (frame deadline : ℕ → ℕ) (most end due : ℕ)
         (t : Trace) (stay : ℕ → ℕ)
         → IsRun n cost end t
         → AreCharged n most end t stay

@@ -13,7 +13,7 @@ use Rattle.machine_safety_spec.specs.Waits.{Suspends, is_waiting}
 use Rattle.machine_safety.proofs.Suspending.{IsWoken}
 use Rattle.sched_response.specs.declared.tasks.Task.{Task}
 use Rattle.sched_response.specs.Demand.{task_at}
-use Rattle.sched_theorem.specs.Charges.{Cost as Claim}
+use Rattle.sched_theorem.specs.Charges.{ChargedCost as Claim}
 use Rattle.sched_theorem.specs.Stretches.{Life, IsLife, Opens, Acts, Spaced, flag}
 use Rattle.sched_theorem.specs.Ranked.{cost_at}
 use Rattle.valid_image.specs.Tasks.{task_of, tasks_of}

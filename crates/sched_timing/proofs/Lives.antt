@@ -7,7 +7,7 @@ use Rattle.machine_semantics.specs.State.{Job, Thread, Idle, Ready, Waiting, Sta
 use Rattle.machine_semantics.specs.Effect.{Outcome, Goes, Does, Signals, Broadcasts, Waits, Raises, Ends, Stuck}
 use Rattle.machine_semantics.specs.Tick.{owned_of, outcome_at, tick}
 use Rattle.machine_semantics.specs.Run.{at_start, state_at}
-use Rattle.machine_safety_spec.specs.Walk.{Where, Cost}
+use Rattle.machine_safety_spec.specs.Walk.{Where, WalkCost}
 use Rattle.machine_safety_spec.specs.Safe.{Parts, ImageFits, ReadyFits, TickFits, own_of, part_of}
 use Rattle.machine_safety_spec.specs.Whole.{StateFits}
 use Rattle.machine_safety_spec.specs.Work.{HasLeft, Owes, IsBusy, Works, runs, worst_of, activation, work_of}
@@ -51,7 +51,7 @@ suspends_next e ps s u t k n w false false was is x = suspends_more e ps u (t + 
 
 -- ---- who is not idle owes something
 
-fits_some : (e : Where) (p : Process) (ps : Parts) (job : Job) (owned words : List ℤ) (left : Cost) (out : Outcome) → TickFits e p ps job owned words left out → 1 ≤ left.run
+fits_some : (e : Where) (p : Process) (ps : Parts) (job : Job) (owned words : List ℤ) (left : WalkCost) (out : Outcome) → TickFits e p ps job owned words left out → 1 ≤ left.run
 fits_some e p ps job owned words left (Goes q) f = omega (arith, f.less)
 fits_some e p ps job owned words left (Does a q) f = omega (arith, f.less)
 fits_some e p ps job owned words left (Signals c q) f = omega (arith, f.less)
@@ -63,7 +63,7 @@ fits_some e p ps job owned words left Stuck f = absurd f
 
 module _ (e : Where) (ps : ℕ → Parts) (image_fits : ImageFits e ps) where
   -- its next tick would be one in a state in which all monitors are free
-  pub ready_some : (s : State) (k : ℕ) (p : Process) (job : Job) (owned : List ℤ) (left : Cost) → StateFits e ps s → slice_get e.image.processes k ≡ Some p → ReadyFits e p (ps k) job owned s.shared left → 1 ≤ left.run
+  pub ready_some : (s : State) (k : ℕ) (p : Process) (job : Job) (owned : List ℤ) (left : WalkCost) → StateFits e ps s → slice_get e.image.processes k ≡ Some p → ReadyFits e p (ps k) job owned s.shared left → 1 ≤ left.run
   ready_some s k p job owned left fits process has =
       let free : State = record s { threads = [] } in
       fits_some e p (ps k) job owned s.shared left (outcome_at e.image free job owned (slice_get e.image.code job.place))

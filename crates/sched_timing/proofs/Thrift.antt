@@ -3,7 +3,7 @@ use Rattle.std.proofs.Common.{◌≤◌, ◌+◌, ◌*◌, ℕ, zero, suc, Optio
 use Rattle.std.specs.Prelude.{min, ◌/◌}
 use Rattle.machine_semantics.specs.Trees.{Seg, Segs, Line, Fork, Rep, Call, Stay, Wait, Exit, Nil, Cons}
 use Rattle.machine_semantics.specs.Image.{Process, Routine}
-use Rattle.machine_safety_spec.specs.Walk.{Where, Cost, Covers, Reaches, IsLine, Walk, Walks, within}
+use Rattle.machine_safety_spec.specs.Walk.{Where, WalkCost, Covers, Reaches, IsLine, Walk, Walks, within}
 use Rattle.machine_safety_spec.specs.Job.{RoutineFits}
 use Rattle.machine_safety_spec.specs.Safe.{Parts, HandlerFits, ProcessFits, ImageFits}
 use Rattle.machine_safety.proofs.Working.{times_le}
@@ -12,7 +12,7 @@ use Rattle.machine_safety.proofs.Working.{times_le}
 abbrev pub thrifty : (waits run : ℕ) → ℕ
 thrifty waits run = min waits (run / 10)
 
-abbrev pub thrift : Cost → Cost
+abbrev pub thrift : WalkCost → WalkCost
 thrift c = record { run = c.run; susp = c.susp; waits = thrifty c.waits c.run; leave = c.leave }
 
 thrifty_le : (w r : ℕ) → thrifty w r ≤ w
@@ -25,7 +25,7 @@ thrifty_most : (x w r : ℕ) → x ≤ w → 10 * x ≤ r → x ≤ thrifty w r
 thrifty_most x w r le tenth = omega (arith, le, tenth)
 
 -- a cost that covers so much covers it with fewer waits
-fewer : (c : Cost) (r s w l v : ℕ) → Covers c r s w l → v ≤ w → 10 * v ≤ r → Covers (thrift c) r s v l
+fewer : (c : WalkCost) (r s w l v : ℕ) → Covers c r s w l → v ≤ w → 10 * v ≤ r → Covers (thrift c) r s v l
 fewer c r s w l v covers le tenth =
     record { run = covers.run; susp = covers.susp; waits = thrifty_most v c.waits c.run (omega (arith, covers.waits, le)) (omega (arith, covers.run, tenth)); leave = covers.leave }
 
@@ -35,7 +35,7 @@ thrift_in e = record e { costs = λ r. thrift (e.costs r) }
 reaches : (e : Where) (m : ℕ) → Reaches e m → Reaches (thrift_in e) m
 reaches e m r = record { monitor = r.monitor; there = r.there; low = r.low }
 
-line : (e : Where) (base n at next h k : ℕ) (c : Cost) → IsLine e base n at next h k c → IsLine (thrift_in e) base n at next h k (thrift c)
+line : (e : Where) (base n at next h k : ℕ) (c : WalkCost) → IsLine e base n at next h k c → IsLine (thrift_in e) base n at next h k (thrift c)
 line e base zero at next h k c l = l
 line e base (suc n) at next h k c l = record {
   instr = l.instr;
@@ -50,7 +50,7 @@ line e base (suc n) at next h k c l = record {
 }
 
 mutual
-  walk : (e : Where) (out held : Option ℕ) (base : ℕ) (seg : Seg) (at next h k : ℕ) (c : Cost) → Walk e out held base seg at next h k c → Walk (thrift_in e) out held base seg at next h k (thrift c)
+  walk : (e : Where) (out held : Option ℕ) (base : ℕ) (seg : Seg) (at next h k : ℕ) (c : WalkCost) → Walk e out held base seg at next h k c → Walk (thrift_in e) out held base seg at next h k (thrift c)
   walk e out held base (Line zero) at next h k c w = w
   walk e out held base (Line (suc n)) at next h k c w = (w.0, line e base (suc n) at next h k c w.1)
   walk e out held base (Fork first second) at next h k c w = record {
@@ -140,7 +140,7 @@ mutual
     covers = fewer c 3 0 0 3 0 w.covers (omega arith) (omega arith);
   }
 
-  walks : (e : Where) (out held : Option ℕ) (base : ℕ) (segs : Segs) (at next h k : ℕ) (c : Cost) → Walks e out held base segs at next h k c → Walks (thrift_in e) out held base segs at next h k (thrift c)
+  walks : (e : Where) (out held : Option ℕ) (base : ℕ) (segs : Segs) (at next h k : ℕ) (c : WalkCost) → Walks e out held base segs at next h k c → Walks (thrift_in e) out held base segs at next h k (thrift c)
   walks e out held base Nil at next h k c w = w
   walks e out held base (Cons head rest) at next h k c w = record {
     mid = w.mid;
@@ -191,8 +191,8 @@ image_fits_thriftily e ps f = record {
 }
 
 -- what is thrifty takes ten times as many ticks as waits
-pub tenth : (c : Cost) → 10 * (thrift c).waits ≤ (thrift c).run
+pub tenth : (c : WalkCost) → 10 * (thrift c).waits ≤ (thrift c).run
 tenth c = thrifty_tenth c.waits c.run
 
-pub no_more : (c : Cost) → (thrift c).waits ≤ c.waits
+pub no_more : (c : WalkCost) → (thrift c).waits ≤ c.waits
 no_more c = thrifty_le c.waits c.run

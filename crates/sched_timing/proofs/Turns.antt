@@ -10,7 +10,7 @@ use Rattle.machine_semantics.specs.State.{Job, Thread, Idle, Ready, Waiting, Sta
 use Rattle.machine_semantics.specs.Effect.{Own, Outcome, Goes, Does, Signals, Broadcasts, Waits, Raises, Ends, Stuck}
 use Rattle.machine_semantics.specs.Starts.{raised, queue_of, starts}
 use Rattle.machine_semantics.specs.Tick.{Candidate, least, pick, first, settle, outcome, owned_of, run_thread, run_picked, tick}
-use Rattle.machine_safety_spec.specs.Walk.{Where, Cost}
+use Rattle.machine_safety_spec.specs.Walk.{Where, WalkCost}
 use Rattle.machine_safety_spec.specs.Safe.{Parts, ImageFits, ReadyFits, Ticks, TickFits, part_of}
 use Rattle.machine_safety_spec.specs.Whole.{ThreadFits, StateFits}
 use Rattle.machine_safety_spec.specs.Work.{is_chosen}
@@ -30,7 +30,7 @@ Turn t k job (Some Idle) es = es ≡ record { tick = t; proc = k; act = act.End 
 Turn t k job None es = ⊥
 
 module _ (e : Where) (ps : ℕ → Parts) (image_fits : ImageFits e ps) where
-  settle_turn : (t : ℕ) (s : State) (k : ℕ) (p : Process) (job : Job) (left : Cost) (out : Outcome) → slice_get s.threads k ≡ Some (Ready job) → TickFits e p (ps k) job (owned_of (slice_get s.owned k)) s.shared left out
+  settle_turn : (t : ℕ) (s : State) (k : ℕ) (p : Process) (job : Job) (left : WalkCost) (out : Outcome) → slice_get s.threads k ≡ Some (Ready job) → TickFits e p (ps k) job (owned_of (slice_get s.owned k)) s.shared left out
       → Turn t k job (slice_get (settle e.image t k p job s out).state.threads k) (settle e.image t k p job s out).events
   settle_turn t s k p job left out at fits = by out fits where
     own : List ℤ
@@ -83,7 +83,7 @@ module _ (e : Where) (ps : ℕ → Parts) (image_fits : ImageFits e ps) where
         own : List ℤ
         own = owned_of (slice_get s.owned k)
 
-        by_burn : slice_get s.threads k ≡ Some (Ready ch.job) → (left : Cost) → ReadyFits e ch.p (ps k) ch.job own s.shared left → (b : ℕ) → ch.job.dispatch_ticks ≡ b
+        by_burn : slice_get s.threads k ≡ Some (Ready ch.job) → (left : WalkCost) → ReadyFits e ch.p (ps k) ch.job own s.shared left → (b : ℕ) → ch.job.dispatch_ticks ≡ b
             → Turn t k ch.job (slice_get (settle e.image t k ch.p ch.job s (outcome e.image s ch.job own b)).state.threads k) (settle e.image t k ch.p ch.job s (outcome e.image s ch.job own b)).events
         by_burn at left has zero is =
             let index : ch.index ≡ k = omega (arith, ch.place, same) in

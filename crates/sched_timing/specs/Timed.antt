@@ -9,7 +9,7 @@ use Rattle.machine_semantics.specs.Tick.{tick}
 use Rattle.machine_semantics.specs.State.{State}
 use Rattle.machine_semantics.specs.Run.{state_at, events}
 use Rattle.source_semantics.specs.Source.{EndsWithin}
-use Rattle.machine_safety_spec.specs.Walk.{Where, Cost}
+use Rattle.machine_safety_spec.specs.Walk.{Where, WalkCost}
 use Rattle.machine_safety_spec.specs.Safe.{Parts, ImageFits, part_of}
 use Rattle.machine_safety_spec.specs.Work.{worst_of, activation}
 use Rattle.machine_safety_spec.specs.Waits.{IsRanked}
@@ -20,7 +20,7 @@ use Rattle.sched_timing.specs.Views.{during, is_due, is_idle}
 
 -- the declared numbers of a process cover what an activation takes, where numbers above the limit
 -- count as one above it
-pub record IsCovered (over : ℕ) (c : Cost) (p : Process) : Type 0 where
+pub record IsCovered (over : ℕ) (c : WalkCost) (p : Process) : Type 0 where
   pub run : cap (activation over c) ≤ p.run
   pub susp : cap c.susp ≤ p.susp
   pub waits : cap c.waits ≤ p.waits

@@ -8,7 +8,8 @@ use Rattle.std.proofs.lemmas.Cmp.{nat_list_eq_equiv}
 use Rattle.std.proofs.lemmas.Slice.Eq.{bytes_eq-Decides}
 use Rattle.image.specs.declared.names.ImageNames.{ImageNames}
 use Rattle.script.specs.Scripts.{same_name, event_number}
-use Rattle.script.specs.Reading.{number_in, or_else, AddsNumber, AreNumbers}
+use Rattle.image.specs.NameMaps.{number_in}
+use Rattle.script.specs.Reading.{or_else, AddsNumber, AreNumbers}
 
 pub none_of : (o : Option ℕ) → is_some o ≡ false → o ≡ None
 none_of None e = refl

@@ -2,10 +2,10 @@
 use Rattle.std.specs.Prelude.{◌≡◌, ◌&&◌, not, ◌≤◌, ◌<◌, ℕ, List, [], ◌∷◌, length, Option, Some, None, All, codes, if◌then◌else◌, slice_index_or}
 use Rattle.std.specs.Fmt.{signed_decimal}
 use Rattle.std.specs.Borrow.{Bor}
-use Rattle.std.specs.Map.{lookup}
 use Rattle.text_fields.specs.Fields.{spaced}
 use Rattle.image.specs.declared.names.ImageNames.{ImageNames}
 use Rattle.image.specs.declared.names.DeviceName.{DeviceName}
+use Rattle.image.specs.NameMaps.{number_in}
 use Rattle.script.specs.declared.line.Line.{Line}
 use Rattle.script.specs.declared.line.Line.TheVariants as line_is
 use Rattle.script.specs.declared.script.ScriptLine.{ScriptLine}
@@ -43,10 +43,6 @@ pub record IsTimed (tick : ℕ) (bytes : List ℕ) (said : Said) : Type 0 where
 pub record Says (line : List ℕ) (said : Said) : Type 0 where
   pub form : IsInForm said
   pub text : line ≡ spelled said
-
--- the number of a name in a map
-abbrev pub number_in : List (Bor (List ℕ) × ℕ) → List ℕ → Option ℕ
-number_in entries name = lookup (λ key. same_name name key.now) entries
 
 abbrev pub or_else : Option ℕ → Option ℕ → Option ℕ
 or_else None other = other

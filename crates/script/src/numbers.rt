@@ -1,7 +1,8 @@
 //! Numbers of devices and events by their names.
 
 ghost use Rattle.std.specs.Prelude.{◌≡◌, ◌≤◌, ◌^◌, length, IfOk, OnOk};
-ghost use Rattle.script.specs.Reading.{AddsDevice, AddsNumber, AreNumbers, number_in};
+ghost use Rattle.image.specs.NameMaps.{number_in};
+ghost use Rattle.script.specs.Reading.{AddsDevice, AddsNumber, AreNumbers};
 ghost use Rattle.script.specs.Scripts.{in_device, event_number};
 
 use image::{DeviceName, ImageNames};

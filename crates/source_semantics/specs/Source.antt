@@ -21,16 +21,16 @@ abbrev pub released : ℕ → Process → Job → Job
 released t p j = record { vars = j.vars; doing = active t; calls = call_of p.body ∷ []; handling = false }
 
 -- one of the constants is the number
-abbrev pub lists : Program → ℕ → List Constant → Bool
-lists g n [] = false
-lists g n (c ∷ cs) = cond (nat_eq (count_value g c) n) true (lists g n cs)
+abbrev pub lists_constant : Program → ℕ → List Constant → Bool
+lists_constant g n [] = false
+lists_constant g n (c ∷ cs) = cond (nat_eq (count_value g c) n) true (lists_constant g n cs)
 
 -- what remains after a raise: the handler where it lists the number and does not run yet, else the
 -- end alone
 abbrev pub job_after_raise : Program → ℕ → Option Handler → Job → Job
 job_after_raise g n None j = record { vars = j.vars; doing = active (released_of j.doing); calls = []; handling = j.handling }
 job_after_raise g n (Some h) j =
-    cond (lists g n h.numbers && not j.handling)
+    cond (lists_constant g n h.numbers && not j.handling)
     (record { vars = j.vars; doing = active (released_of j.doing); calls = call_of h.body ∷ []; handling = true })
     (record { vars = j.vars; doing = active (released_of j.doing); calls = []; handling = j.handling })
 

@@ -43,17 +43,17 @@ no_process g = at_none g.place (processes g.decls)
 -- ---- words of variables
 
 -- an array has its length in words, none where its bounds are crossed
-abbrev pub kind_words : Worth → Kind Place → ℕ
-kind_words worth (scalar s) = 1
-kind_words worth (array low high s) = up_to (worth high -ℤ worth low)
+abbrev pub placed_kind_size : Worth → Kind Place → ℕ
+placed_kind_size worth (scalar s) = 1
+placed_kind_size worth (array low high s) = up_to (worth high -ℤ worth low)
 
 abbrev pub vars_words : Worth → List (Var Place) → ℕ
 vars_words worth [] = 0
-vars_words worth (v ∷ vs) = kind_words worth v.kind + vars_words worth vs
+vars_words worth (v ∷ vs) = placed_kind_size worth v.kind + vars_words worth vs
 
 abbrev pub members_words : Worth → List (Member Place) → ℕ
 members_words worth [] = 0
-members_words worth (variable_member v ∷ ms) = kind_words worth v.kind + members_words worth ms
+members_words worth (variable_member v ∷ ms) = placed_kind_size worth v.kind + members_words worth ms
 members_words worth (condition_member name p ∷ ms) = members_words worth ms
 
 -- the words of the variables of processes and monitors

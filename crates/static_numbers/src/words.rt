@@ -4,7 +4,7 @@ ghost use Rattle.std.specs.Prelude.{◌≡◌, ◌+◌, List, ◌∷◌, map};
 ghost use Rattle.syntax_tree.specs.Placed.{Decl as SpecDecl, Member as SpecMember, placed, placed_kind, placed_var, placed_member, placed_decl};
 ghost use Rattle.syntax_tree.specs.declared.place.Place.{Place as SpecPlace};
 ghost use Rattle.static_declarations.specs.Values.{value};
-ghost use Rattle.static_numbers.specs.Counts.{kind_words, vars_words, members_words, words as words_of, too_many_words};
+ghost use Rattle.static_numbers.specs.Counts.{placed_kind_size, vars_words, members_words, words as words_of, too_many_words};
 ghost use Rattle.static_numbers.specs.Seen.{held};
 
 use static_declarations::Declarations;
@@ -15,7 +15,7 @@ const MOST_WORDS: u64 = 1_048_576;
 
 /// The words of a variable: of an array its length.
 fn of_kind(declarations: &Declarations<'_>, kind: &Type) -> u64
-    ensures { result ≡ kind_words (value (placed declarations.now)) (placed_kind kind.now) }
+    ensures { result ≡ placed_kind_size (value (placed declarations.now)) (placed_kind kind.now) }
 {
     match kind {
         Type::Scalar(_) => 1,

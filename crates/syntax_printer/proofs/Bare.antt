@@ -20,7 +20,7 @@ scalar_bare int = refl
 scalar_bare boolean = refl
 scalar_bare (subrange low high) = λ i. constant_bare low i ++ w.RANGE ∷ constant_bare high i
 
-kind_bare : {P : Type 0} (x : Kind P) → c.kind_words (bare_kind x) ≡ c.kind_words x
+kind_bare : {P : Type 0} (x : Kind P) → c.kind_line (bare_kind x) ≡ c.kind_line x
 kind_bare (scalar s) = scalar_bare s
 kind_bare (array low high s) = λ i. w.ARRAY ∷ (constant_bare low i ++ w.RANGE ∷ (constant_bare high i ++ w.OF ∷ scalar_bare s i))
 

@@ -51,7 +51,7 @@ module _ {P : Type 0} where
   scalar-says boolean ws = refl
   scalar-says (subrange low high) ws = after _ _ (c.constant_words low) (g.constant_words low) (constant-says low) (ap (λ v. w.RANGE ∷ v) (constant-says high ws))
 
-  kind-says : (x : Kind P) → Says (c.kind_words x) (g.kind_words x)
+  kind-says : (x : Kind P) → Says (c.kind_line x) (g.kind_words x)
   kind-says (scalar s) ws = scalar-says s ws
   kind-says (array low high s) ws =
       ap (λ v. w.ARRAY ∷ v) (after _ _ (c.constant_words low) (g.constant_words low) (constant-says low)

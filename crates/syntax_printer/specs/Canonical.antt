@@ -53,9 +53,9 @@ scalar_words int = w.INT ∷ []
 scalar_words boolean = w.BOOLEAN ∷ []
 scalar_words (subrange low high) = constant_words low ++ w.RANGE ∷ constant_words high
 
-abbrev pub kind_words : {P : Type 0} → Kind P → Line
-kind_words (scalar s) = scalar_words s
-kind_words (array low high s) = w.ARRAY ∷ (constant_words low ++ w.RANGE ∷ (constant_words high ++ w.OF ∷ scalar_words s))
+abbrev pub kind_line : {P : Type 0} → Kind P → Line
+kind_line (scalar s) = scalar_words s
+kind_line (array low high s) = w.ARRAY ∷ (constant_words low ++ w.RANGE ∷ (constant_words high ++ w.OF ∷ scalar_words s))
 
 abbrev mutual
   pub expr_words : {P : Type 0} → Expr P → Line
@@ -137,7 +137,7 @@ abbrev pub end_line : List ℕ → Line
 end_line n = w.END ∷ named n ∷ []
 
 abbrev pub var_lines : {P : Type 0} → Var P → List Line
-var_lines v = (w.VAR ∷ named v.name ∷ w.COLON ∷ kind_words v.kind) ∷ []
+var_lines v = (w.VAR ∷ named v.name ∷ w.COLON ∷ kind_line v.kind) ∷ []
 
 abbrev pub param_words : {P : Type 0} → Param P → Line
 param_words v = named v.name ∷ w.COLON ∷ scalar_words v.kind

@@ -6,7 +6,7 @@ ghost use Rattle.syntax_tree.specs.Placed.{optional, placed, placed_activation, 
 ghost use Rattle.syntax.specs.Words as w;
 ghost use Rattle.syntax.specs.Grammar.{kind_word, way_word};
 ghost use Rattle.syntax_printer.specs.Pages.{ended, put_lines, puts};
-ghost use Rattle.syntax_printer.specs.Canonical.{activation_words, constant_words, deadline_words, decl_lines, end_line as end_words, entry_lines, first_words, handler_lines, handler_words, header as header_words, kind_words, lines_of, listed, member_lines, monitor_lines, param_words, process_lines, process_words, program_lines, rest_of_routine, result_words, return_lines, routine_lines, scalar_words, var_lines};
+ghost use Rattle.syntax_printer.specs.Canonical.{activation_words, constant_words, deadline_words, decl_lines, end_line as end_words, entry_lines, first_words, handler_lines, handler_words, header as header_words, kind_line, lines_of, listed, member_lines, monitor_lines, param_words, process_lines, process_words, program_lines, rest_of_routine, result_words, return_lines, routine_lines, scalar_words, var_lines};
 
 use crate::page::{Page, tri};
 use std::alloc::AllocError;
@@ -80,7 +80,7 @@ impl Page {
     }
 
     fn kind(&mut self, kind: &Type) -> Result<(), AllocError>
-        ensures { OnOk result (self.new ≡ puts self.old (kind_words (placed_kind kind.now))) }
+        ensures { OnOk result (self.new ≡ puts self.old (kind_line (placed_kind kind.now))) }
     {
         match kind {
             Type::Scalar(scalar) => self.scalar(scalar),

@@ -5,30 +5,18 @@ use Rattle.std.proofs.lemmas.Bool.{false≢true}
 use Rattle.std.proofs.lemmas.List.Elements.{All-nil}
 use Rattle.table_format.specs.declared.table.TaskLine.{TaskLine}
 use Rattle.table_format.specs.declared.table.TaskTable.{TaskTable}
-use Rattle.table_format.specs.Spelling.{Word, SaidLine, said, first_line, process_line, last_line, lines_before_end, table_bytes}
-use Rattle.table_format.specs.Rules.{IsName, names_of_line, names_of_tasks, names_of_monitors, IsInRanges, CanBeMet, IsSmall, IsOneActivation, IsTaskLine, IsBegun, IsTable, longest_text}
+use Rattle.table_format.specs.Spelling.{Word, SaidLine, said, first_line, process_line, lines_before_end, table_bytes}
+use Rattle.table_format.specs.Rules.{IsName, names_of_line, IsInRanges, CanBeMet, IsSmall, IsOneActivation, IsTaskLine, IsBegun, longest_text}
 use Rattle.table_format.specs.Faults.{meant, with_line, HasTakenName, Breaks, IsLeast, IsTableWord, IsFormed, BeginsWithFirst, BeginsWithProcess, BeginsWithLast, IsTableFault, too_long, of_first, no_first, no_name}
 use Rattle.table_reader.specs.declared.fault.TableFault.{TableFault}
 use Rattle.table_reader.specs.declared.fault.TableFault.TheVariants.{Bad, Memory}
 use Rattle.table_reader.specs.Judging.{IsNew, IsAdded, IsLineFault}
 use Rattle.table_reader.specs.Answer.{IsFaultOf}
-use Rattle.table_reader.proofs.Grown.{begun_more, no_names, taken, out_of_range, not_met, too_many}
+use Rattle.table_reader.proofs.Grown.{begun_more, not_met, too_many}
 use Rattle.table_reader.proofs.Texts.{form_fault, empty_fault, behind_fault, line_fault, none_yet}
 
 refused : (b : Bool) (P : Type 0) → b ≡ false → (IsTrue b ↔ P) → ¬ P
 refused b P fails means p = false≢true (sym fails ∙ means.1 p)
-
--- ---- a line by its names
-
-pub names_bad : (t : TaskTable) (p : TaskLine) (right : Bool) → right ≡ false → (IsTrue right ↔ All IsName (names_of_line p)) → IsLeast (Breaks t p) 2
-names_bad t p right fails means = no_names t p (refused right (All IsName (names_of_line p)) fails means)
-
-pub names_taken : (t : TaskTable) (p : TaskLine) (right test : Bool) → right ≡ true → (IsTrue right ↔ All IsName (names_of_line p)) → test ≡ true → (IsTrue test ↔ HasTakenName t p) → IsLeast (Breaks t p) 3
-names_taken t p right test so means is says = taken t p (means.0 so) (says.0 is)
-
-pub names_free : (t : TaskTable) (p : TaskLine) (right test : Bool) → right ≡ true → (IsTrue right ↔ All IsName (names_of_line p)) → test ≡ false → (IsTrue test ↔ HasTakenName t p)
-    → All IsName (names_of_line p) × ¬ HasTakenName t p
-names_free t p right test so means fails says = (means.0 so, refused test (HasTakenName t p) fails says)
 
 -- ---- a line by its numbers
 
@@ -37,9 +25,6 @@ HasFreeNames t p = All IsName (names_of_line p) × ¬ HasTakenName t p
 
 abbrev pub IsRanged : SaidLine → TaskLine → Type 0
 IsRanged s p = (p ≡ meant s) × (said p ≡ s) × IsInRanges p
-
-pub unranged : (t : TaskTable) (s : SaidLine) → HasFreeNames t (meant s) → ¬ IsInRanges (meant s) → IsLeast (Breaks t (meant s)) 4
-unranged t s free bad = out_of_range t (meant s) free.0 free.1 bad
 
 pub unmet : (t : TaskTable) (s : SaidLine) (p : TaskLine) (test : Bool) → HasFreeNames t (meant s) → IsRanged s p → test ≡ false → (IsTrue test ↔ CanBeMet p) → IsLeast (Breaks t (meant s)) 5
 unmet t s p test free task fails means =

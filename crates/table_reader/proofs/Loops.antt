@@ -1,5 +1,5 @@
 -- One turn, and the end, of the loops of the reader.
-use Rattle.std.proofs.Common.{◌≡◌, ◌≢◌, ◌⊎◌, inl, inr, ◌<◌, ◌≤◌, ◌+◌, ◌-◌, ℕ, List, [], ◌∷◌, ◌++◌, Option, Some, None, length, map, take, get_or, decimal, refl, ap, sym, subst, ◌∙◌, arith, All}
+use Rattle.std.proofs.Common.{◌≡◌, ◌≢◌, ◌⊎◌, inl, inr, ◌<◌, ◌≤◌, ◌+◌, ◌-◌, ℕ, List, [], ◌∷◌, ◌++◌, length, map, take, get_or, decimal, ap, sym, subst, ◌∙◌, arith, All}
 use Rattle.std.specs.Prelude.{IsTrue, sum_by}
 use Rattle.std.specs.Borrow.{Bor}
 use Rattle.std.specs.Int.{IsInRange}
@@ -10,7 +10,7 @@ use Rattle.text_fields.specs.LineFields.{value}
 use Rattle.table_format.specs.declared.table.Stay.{Stay}
 use Rattle.table_format.specs.declared.table.TaskLine.{TaskLine}
 use Rattle.table_format.specs.Spelling.{Word, SaidStay, said_stay}
-use Rattle.table_format.specs.Rules.{CanBeMet, least_cost}
+use Rattle.table_format.specs.Rules.{CanBeMet}
 use Rattle.table_format.specs.Faults.{stay_meant, is_numeral}
 use Rattle.table_reader.specs.declared.line.StayWords.{StayWords}
 use Rattle.table_reader.specs.Judging.{IsNumber, AreStays}

@@ -9,7 +9,7 @@ use Rattle.text_fields.specs.Fields.{Lacks, spaced}
 use Rattle.text_fields.specs.LineFields.{is_numeral as has_no_leading_zero}
 use Rattle.text_fields.proofs.Cuts.{lacks_both}
 use Rattle.table_format.specs.Spelling.{Word, SaidStay, SaidLine, with_key, stay_words, process_words}
-use Rattle.table_format.specs.Faults.{is_numeral, IsTableWord, IsFormed, stay_meant, meant}
+use Rattle.table_format.specs.Faults.{is_numeral, IsTableWord, IsFormed, stay_meant}
 use Rattle.table_reader.proofs.Splits.{AllLack}
 
 test_lacks : (test : ℕ → Bool) (stop : ℕ) → test stop ≡ false → (bs : List ℕ) → list_all test bs ≡ true → Lacks stop bs

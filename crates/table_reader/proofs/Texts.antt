@@ -1,16 +1,14 @@
 -- What a text is by its lines.
-use Rattle.std.proofs.Common.{◌≡◌, ◌≢◌, ◌<◌, ◌≤◌, ◌+◌, ℕ, List, [], ◌∷◌, ◌++◌, length, map, flat_map, codes, refl, ap, sym, subst, ◌∙◌, arith, length-append}
+use Rattle.std.proofs.Common.{◌≡◌, ◌≢◌, ◌<◌, ◌≤◌, ◌+◌, ℕ, List, [], ◌∷◌, ◌++◌, length, flat_map, codes, refl, ap, sym, ◌∙◌, arith, length-append}
 use Rattle.std.proofs.lemmas.List.{append_assoc, append-nil}
 use Rattle.std.proofs.lemmas.Grind.{flat_map-append}
-use Rattle.std.specs.Prelude.{MatchOption, Option, Some, None}
-use Rattle.std.specs.Borrow.{Bor}
 use Rattle.text_fields.specs.Fields.{Lacks, IsCutAt, spaced}
 use Rattle.text_fields.proofs.Cuts.{cut_once, cut_lacks}
 use Rattle.table_format.specs.declared.table.TaskLine.{TaskLine}
 use Rattle.table_format.specs.declared.table.TaskTable.{TaskTable}
 use Rattle.table_format.specs.Spelling.{Word, SaidLine, said, first_line, process_words, process_line, last_line, lines_before_end, table_bytes}
-use Rattle.table_format.specs.Rules.{IsName, IsBegun, IsTable, longest_text}
-use Rattle.table_format.specs.Faults.{meant, with_line, IsTableWord, IsFormed, BeginsWithFirst, BeginsWithProcess, BeginsWithLast, Breaks, IsLeast, IsFirstLineFault, no_first, no_name, IsNextLineFault, no_form, breaks, no_process, IsTableFault, too_long, of_first, of_next, behind_end}
+use Rattle.table_format.specs.Rules.{IsBegun, IsTable, longest_text}
+use Rattle.table_format.specs.Faults.{meant, with_line, IsFormed, BeginsWithFirst, BeginsWithProcess, BeginsWithLast, Breaks, IsLeast, no_form, breaks, no_process, IsTableFault, of_next, behind_end}
 use Rattle.table_reader.proofs.Plain.{formed_plain, no_feed, table_no_feed}
 
 -- ---- bytes cut at their first LF

@@ -8,7 +8,6 @@ use Rattle.table_reader.specs.declared.line.HeadWords.{HeadWords}
 use Rattle.table_reader.specs.declared.line.LineWords.{LineWords}
 use Rattle.table_reader.specs.declared.line.LineFront.{LineFront}
 use Rattle.table_reader.specs.declared.line.NextStay.{NextStay}
-use Rattle.std.specs.Prelude.{Vec}
 use Rattle.table_reader.specs.Words.{left, split, first_word, after_key, optional}
 
 -- ---- what the words that were read say

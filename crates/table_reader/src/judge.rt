@@ -2,7 +2,7 @@
 
 ghost use Rattle.std.specs.Prelude.{◌≡◌, ◌↔◌, ◌||◌, IfOk, IsTrue};
 ghost use Rattle.std.specs.List.{list_any};
-ghost use Rattle.table_format.specs.Rules.{CanBeMet, IsSmall, names, names_of_monitors, names_of_tasks, same_name, task_names};
+ghost use Rattle.table_format.specs.Rules.{CanBeMet, IsSmall, names, names_of_tasks, same_name, task_names};
 ghost use Rattle.table_format.specs.Faults.{HasTakenName, meant};
 ghost use Rattle.table_reader.specs.Judging.{is_among, is_event_taken, is_task_taken as is_task_name_taken};
 ghost use Rattle.table_reader.specs.Reading.{line_seen};

@@ -1,6 +1,6 @@
 //! Reading a table.
 
-ghost use Rattle.std.specs.Prelude.{◌≡◌, ◌≤◌, ◌<◌, ◌+◌, ◌++◌, ◌^◌, length, All, OnErr, OnOk, MatchOption, IfOk, IfErr, MatchResult};
+ghost use Rattle.std.specs.Prelude.{◌≡◌, ◌≤◌, ◌<◌, ◌+◌, ◌++◌, ◌^◌, length, All, OnOk, MatchOption, IfOk, IfErr, MatchResult};
 ghost use Rattle.table_format.specs.Spelling.{lines_before_end, table_bytes};
 ghost use Rattle.table_format.specs.Rules.{IsBegun, IsName, longest_text, names_of_line};
 ghost use Rattle.table_format.specs.Faults.{Breaks, HasTakenName, IsFormed, IsLeast, meant};

@@ -9,7 +9,7 @@ use Rattle.syntax_tree.specs.Bare.{bare_routine, bare_decl, bare}
 use Rattle.syntax_tree.specs.Parts.{processes, monitors, routines, devices, events}
 use Rattle.static_declarations.specs.Values.{Worth, value}
 use Rattle.static_rule.specs.Parts.{FailsAmong}
-use Rattle.static_numbers.specs.Counts.{process_places, monitor_places, conditions, member_conditions, routine_places, one_too_many, at_none, kind_words, vars_words, members_words, words}
+use Rattle.static_numbers.specs.Counts.{process_places, monitor_places, conditions, member_conditions, routine_places, one_too_many, at_none, placed_kind_size, vars_words, members_words, words}
 use Rattle.static_numbers.specs.Rules.{count_rules}
 use Rattle.table_format.specs.declared.table.TaskLine.{TaskLine}
 use Rattle.table_format.specs.declared.table.TaskTable.{TaskTable}
@@ -149,7 +149,7 @@ module _ (tail : Name) (t : TaskTable) where
       one d (an_event name place) rest = rest
       one d (a_monitor name m is) rest = omega (arith, rest, ap (λ ms. members_words worth ms) is.members)
       one d (a_process line p is) rest =
-          omega (arith, rest, ap (λ (vs : List (Var Place)). vars_words worth vs) is.x.is, ap (λ (k : Kind Place). kind_words worth k) is.x.whole)
+          omega (arith, rest, ap (λ (vs : List (Var Place)). vars_words worth vs) is.x.is, ap (λ (k : Kind Place). placed_kind_size worth k) is.x.whole)
 
 -- ---- the rules
 

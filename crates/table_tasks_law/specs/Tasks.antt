@@ -23,12 +23,12 @@ deadline_at t k = slice_index (map deadline_of_line t.tasks) k
 
 -- line j ranks higher than line k: its deadline is shorter, or as long and it stands earlier in the
 -- table (Leung and Whitehead)
-abbrev pub outranks : TaskTable → (j k : ℕ) → Bool
-outranks t j k = nat_lt (deadline_at t j) (deadline_at t k) || (deadline_at t j == deadline_at t k && nat_lt j k)
+abbrev pub line_outranks : TaskTable → (j k : ℕ) → Bool
+line_outranks t j k = nat_lt (deadline_at t j) (deadline_at t k) || (deadline_at t j == deadline_at t k && nat_lt j k)
 
 -- one more than there are lines that rank higher
 abbrev pub rank_of_line : TaskTable → (k : ℕ) → ℕ
-rank_of_line t k = 1 + count_below (λ j. outranks t j k) (length t.tasks)
+rank_of_line t k = 1 + count_below (λ j. line_outranks t j k) (length t.tasks)
 
 -- ---- ceilings
 

@@ -8,7 +8,7 @@ use Rattle.syntax_tree.specs.declared.place.Place.{Place}
 use Rattle.syntax_tree.specs.Placed.{Routine, Decl, routine, Prog, plain_routine}
 use Rattle.syntax_tree.specs.Bare.{bare_routine}
 use Rattle.code_spec.specs.Layout.{by_process, by_monitor}
-use Rattle.code_size.specs.Rules.{Text, texts_of, texts_from}
+use Rattle.code_size.specs.Rules.{PlacedText, placed_texts_of, placed_texts_from}
 use Rattle.load_text_law.proofs.Plain.{plain-bare}
 use Rattle.table_format.specs.declared.table.TaskTable.{TaskTable}
 use Rattle.table_format.specs.Spending.{Nowhere}
@@ -38,22 +38,22 @@ plain_like r s like =
 -- ---- where routines and entries stand
 
 -- an entry of the table in a monitor
-pub record IsEntryText (tail : Name) (x : Text) : Type 0 where
+pub record IsEntryText (tail : Name) (x : PlacedText) : Type 0 where
   pub monitor : ℕ
   pub is : x.owner ≡ by_monitor monitor
   pub entry : IsSomeEntry tail x.routine
 
 module _ (tail : Name) (t : TaskTable) where
-  of_monitor : (m : ℕ) (rs : List (Routine Place)) → Every (IsSomeEntry tail) rs → Every (IsEntryText tail) (texts_of (by_monitor m) rs)
+  of_monitor : (m : ℕ) (rs : List (Routine Place)) → Every (IsSomeEntry tail) rs → Every (IsEntryText tail) (placed_texts_of (by_monitor m) rs)
   of_monitor m [] are = tt
   of_monitor m (r ∷ rs) are = (record { monitor = m; is = refl; entry = are.0 }, of_monitor m rs are.1)
 
-  pub entries_alone : (k m : ℕ) (ds : List (Decl Place)) → Every (IsDeclOf tail t) ds → Every (IsEntryText tail) (texts_from k m ds)
+  pub entries_alone : (k m : ℕ) (ds : List (Decl Place)) → Every (IsDeclOf tail t) ds → Every (IsEntryText tail) (placed_texts_from k m ds)
   entries_alone k m [] are = tt
   entries_alone k m (d ∷ ds) are = one d are.0 (λ k m. entries_alone k m ds are.1)
     where
-      one : (d : Decl Place) → IsDeclOf tail t d → ((k m : ℕ) → Every (IsEntryText tail) (texts_from k m ds)) → Every (IsEntryText tail) (texts_from k m (d ∷ ds))
+      one : (d : Decl Place) → IsDeclOf tail t d → ((k m : ℕ) → Every (IsEntryText tail) (placed_texts_from k m ds)) → Every (IsEntryText tail) (placed_texts_from k m (d ∷ ds))
       one d (an_event name place) rest = rest k m
       one d (a_monitor name mon is) rest =
-          both (IsEntryText tail) (texts_of (by_monitor m) mon.entries) (texts_from k (suc m) ds) (of_monitor m mon.entries is.entries) (rest k (suc m))
-      one d (a_process line p is) rest = subst (λ rs. Every (IsEntryText tail) (texts_of (by_process k) rs ++ texts_from (suc k) m ds)) (sym is.routines) (rest (suc k) m)
+          both (IsEntryText tail) (placed_texts_of (by_monitor m) mon.entries) (placed_texts_from k (suc m) ds) (of_monitor m mon.entries is.entries) (rest k (suc m))
+      one d (a_process line p is) rest = subst (λ rs. Every (IsEntryText tail) (placed_texts_of (by_process k) rs ++ placed_texts_from (suc k) m ds)) (sym is.routines) (rest (suc k) m)

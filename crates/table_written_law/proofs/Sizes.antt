@@ -11,7 +11,7 @@ use Rattle.syntax_tree.specs.Bare.{bare}
 use Rattle.source_semantics.specs.Names.{processes}
 use Rattle.code_spec.specs.Layout.{by_monitor}
 use Rattle.code_cost_spec.specs.Levels.{code_length, stack_of_process}
-use Rattle.code_size.specs.Rules.{Text, SizeFails, routine_stack, texts_from}
+use Rattle.code_size.specs.Rules.{PlacedText, SizeFails, routine_stack, placed_texts_from}
 use Rattle.code_size.proofs.Parts.{plain_process_at}
 use Rattle.load_text_law.proofs.Plain.{plain-bare}
 use Rattle.table_format.specs.declared.table.TaskLine.{TaskLine}
@@ -57,7 +57,7 @@ module _ (laws : Numbers) (t : TaskTable) (begun : IsBegun t) (g : Prog Place) (
   short : code_length (plain g) ≤ 20544
   short = subst (λ (p : Program). code_length p ≤ 20544) (sym same_program) (laws.short t begun)
 
-  low_entry : (x : Text) → IsEntryText (made_tail t) x → routine_stack (plain g) x.owner (plain_routine x.routine) ≤ 8
+  low_entry : (x : PlacedText) → IsEntryText (made_tail t) x → routine_stack (plain g) x.owner (plain_routine x.routine) ≤ 8
   low_entry x is =
       let entry = stay_entry (made_tail t) is.entry.ticks in
       let fits = is.entry.is.fits in
@@ -77,6 +77,6 @@ module _ (laws : Numbers) (t : TaskTable) (begun : IsBegun t) (g : Prog Place) (
   pub sizes_kept : (number : ℕ) (place : Place) → ¬ SizeFails g number place
   sizes_kept number place (inl (is, long)) = omega (arith, short, long.over)
   sizes_kept number place (inr (is, inl large)) =
-      let entry = of_each (IsEntryText (made_tail t)) (texts_from 0 0 g.decls) (entries_alone (made_tail t) t 0 0 g.decls decls_of) large.text large.listed in
+      let entry = of_each (IsEntryText (made_tail t)) (placed_texts_from 0 0 g.decls) (entries_alone (made_tail t) t 0 0 g.decls decls_of) large.text large.listed in
       omega (arith, low_entry large.text entry, large.over)
   sizes_kept number place (inr (is, inr large)) = omega (arith, low_process large.number large.text large.listed, large.over)

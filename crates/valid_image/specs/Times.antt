@@ -19,12 +19,12 @@ abbrev pub deadline_at : Image → ℕ → ℕ
 deadline_at image k = deadline_of (slice_get image.processes k)
 
 -- process j ranks higher than k: its deadline is shorter, or as long and it stands first
-abbrev pub outranks : Image → (j k : ℕ) → Bool
-outranks image j k = nat_lt (deadline_at image j) (deadline_at image k) || (nat_eq (deadline_at image j) (deadline_at image k) && nat_lt j k)
+abbrev pub process_outranks : Image → (j k : ℕ) → Bool
+process_outranks image j k = nat_lt (deadline_at image j) (deadline_at image k) || (nat_eq (deadline_at image j) (deadline_at image k) && nat_lt j k)
 
 -- one more than there are processes that rank higher: ranks by deadlines (Leung and Whitehead)
 abbrev pub rank_of : Image → ℕ → ℕ
-rank_of image k = 1 + count_below (λ j. outranks image j k) (length image.processes)
+rank_of image k = 1 + count_below (λ j. process_outranks image j k) (length image.processes)
 
 -- ---- ceilings
 

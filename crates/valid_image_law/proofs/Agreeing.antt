@@ -11,7 +11,7 @@ use Rattle.sched_response.proofs.Counted.{are_counted}
 use Rattle.machine_semantics.specs.Image.{Image, Monitor, Process}
 use Rattle.valid_image_law.proofs.Tests.{below}
 use Rattle.valid_image.specs.Tables.{stay_of_process}
-use Rattle.valid_image.specs.Times.{deadline_at, outranks, rank_of, is_some, enters, least_rank, ceiling_of, ticks_of, blocking_stay, longest_blocking, blocking_by, longest_block, needed_block}
+use Rattle.valid_image.specs.Times.{deadline_at, process_outranks, rank_of, is_some, enters, least_rank, ceiling_of, ticks_of, blocking_stay, longest_blocking, blocking_by, longest_block, needed_block}
 use Rattle.valid_image_law.proofs.Ranking.{least_low, rank_high, stay_blocks, process_blocks}
 use Rattle.valid_image_law.specs.Uses.{IsStay, AreUses, shown, AreDeclared, UsesAgree}
 
@@ -41,10 +41,10 @@ any_default (x ∷ xs) (suc i) d e low = any_default xs i d e (omega (arith, low
 module _ (image : Image) (us : List Use) (are : AreUses image us) where
   count_agrees : (k : ℕ) → k < length us → 1 + count_below (λ j. defined.outranks us j k) (length us) ≡ rank_of image k
   count_agrees k low =
-      let same : count_below (λ j. defined.outranks us j k) (length us) ≡ count_below (λ j. outranks image j k) (length us) =
-      same_count (λ j. defined.outranks us j k) (λ j. outranks image j k) (length us)
+      let same : count_below (λ j. defined.outranks us j k) (length us) ≡ count_below (λ j. process_outranks image j k) (length us) =
+      same_count (λ j. defined.outranks us j k) (λ j. process_outranks image j k) (length us)
       (λ j below. same_order (defined.use_at us j).deadline (defined.use_at us k).deadline (deadline_at image j) (deadline_at image k) j k (are.deadlines j below) (are.deadlines k low)) in
-      let many : count_below (λ j. outranks image j k) (length us) ≡ count_below (λ j. outranks image j k) (length image.processes) = ap (λ n. count_below (λ j. outranks image j k) n) are.many in
+      let many : count_below (λ j. process_outranks image j k) (length us) ≡ count_below (λ j. process_outranks image j k) (length image.processes) = ap (λ n. count_below (λ j. process_outranks image j k) n) are.many in
       omega (arith, same, many)
 
   ranks_agree : (all : List ℕ) → defined.AreRanks us all → (k : ℕ) → k < length us → slice_index all k ≡ rank_of image k

@@ -11,7 +11,7 @@ use Rattle.machine_semantics.specs.Trees.{Segs, size}
 use Rattle.machine_semantics.specs.Image.{Image, Routine, Process}
 use Rattle.machine_semantics.specs.Tick.{ceiling}
 use Rattle.machine_safety_spec.specs.Part.{Part}
-use Rattle.machine_safety_spec.specs.Walk.{Where, Cost, Covers, Walks, Reaches}
+use Rattle.machine_safety_spec.specs.Walk.{Where, WalkCost, Covers, Walks, Reaches}
 use Rattle.machine_safety_spec.specs.Job.{RoutineFits}
 use Rattle.valid_image_law.specs.Rules.{AllMayStand, IsKnown, AllKnown, with_leave}
 use Rattle.valid_image_law.proofs.Tests.{passed, below}
@@ -199,7 +199,7 @@ module _ (image : Image) (operands : operand_fault image ≡ None) (shaped : sha
         ends = return_is x.gives (slice_get image.code (x.start + n)) p.0 ∙ ap (λ (y : Instr). Some y) (sym last);
         returns = gives_is x.gives part results last;
         entry = entry_is x (cond (bound_at (reach image) r) 2 0) part monitor level;
-        covers = subst (λ (c : Cost). Covers c (e.s.g.cost.run + 4) e.s.g.cost.susp e.s.g.cost.waits (e.s.g.cost.run + 4)) (sym (ap (λ o. cost_of_row o) e.row)) (record { run = omega arith; susp = omega arith; waits = omega arith; leave = omega arith });
+        covers = subst (λ (c : WalkCost). Covers c (e.s.g.cost.run + 4) e.s.g.cost.susp e.s.g.cost.waits (e.s.g.cost.run + 4)) (sym (ap (λ o. cost_of_row o) e.row)) (record { run = omega arith; susp = omega arith; waits = omega arith; leave = omega arith });
       }
     where
       kind_is : (x : Routine) (m : ℕ) → monitor_of x ≡ Some m → nat_eq x.kind 2 ≡ true

@@ -7,7 +7,7 @@ use Rattle.machine_isa.specs.declared.instr.Instr.{Instr}
 use Rattle.machine_isa.specs.declared.instr.Instr.TheVariants as i
 use Rattle.machine_semantics.specs.Image.{Image, Routine, Process}
 use Rattle.machine_safety_spec.specs.Part.{Part}
-use Rattle.machine_safety_spec.specs.Walk.{Where, Cost, MayCall}
+use Rattle.machine_safety_spec.specs.Walk.{Where, WalkCost, MayCall}
 use Rattle.valid_image_law.specs.Rules.{Callable, with_leave}
 use Rattle.valid_image.specs.Found.{Known, amount}
 use Rattle.valid_image.specs.Operands.{Whose, Area, no_words, whose_routine, words_of_process, own_words, is_open, is_open_some, may_be_inside, may_call}
@@ -24,7 +24,7 @@ abbrev pub depth_of_row : Option Known → ℕ
 depth_of_row None = 0
 depth_of_row (Some k) = k.depth
 
-abbrev pub cost_of_row : Option Known → Cost
+abbrev pub cost_of_row : Option Known → WalkCost
 cost_of_row None = with_leave (amount 0 0 0)
 cost_of_row (Some k) = with_leave k.cost
 

@@ -7,7 +7,7 @@ use Rattle.machine_semantics.specs.Trees.{Segs, size}
 use Rattle.machine_semantics.specs.Image.{Image, Routine, Process, size_some}
 use Rattle.machine_semantics.specs.Starts.{lists}
 use Rattle.machine_safety_spec.specs.Part.{Part}
-use Rattle.machine_safety_spec.specs.Walk.{Where, Cost, Walks, At}
+use Rattle.machine_safety_spec.specs.Walk.{Where, WalkCost, Walks, At}
 use Rattle.machine_safety_spec.specs.Safe.{Parts, IsOwn, ProcessFits, ImageFits}
 use Rattle.valid_image_law.specs.Rules.{AllMayStand, with_leave}
 use Rattle.valid_image_law.proofs.Tests.{passed}
@@ -63,12 +63,12 @@ end_is (Some i.End) is = refl
 end_is _ is = absurd cc
 
 -- a part of a process, with its cost, over the code of a tree
-record Owns (e : Where) (p : Process) (tree : Segs) (at : ℕ) (part : Part) (c : Cost) : Type 0 where
+record Owns (e : Where) (p : Process) (tree : Segs) (at : ℕ) (part : Part) (c : WalkCost) : Type 0 where
   own : IsOwn p part
   code : Walks (record e { part = part }) None None 0 tree at (at + size tree) 0 0 c
   ends : At e (at + size tree) i.End
 
-record Handles (e : Where) (p : Process) (x : Option Segs) (part : Part) (c : Cost) : Type 0 where
+record Handles (e : Where) (p : Process) (x : Option Segs) (part : Part) (c : WalkCost) : Type 0 where
   own : IsOwn p part
   handles : (number : ℕ) → lists p.numbers number ≡ true → (tree : Segs) × Walks (record e { part = part }) None None 0 tree p.handler (p.handler + size_some x) 0 0 c × At e (p.handler + size_some x) i.End
   no_susp : c.susp ≡ 0

@@ -14,7 +14,7 @@ use Rattle.valid_image_law.proofs.Tests.{meet}
 use Rattle.valid_image.specs.Fault.{Fault, or_else, first_of, of_some}
 use Rattle.valid_image.specs.Sizes.{below, other}
 use Rattle.valid_image.specs.Tables.{stay_of_process}
-use Rattle.valid_image.specs.Times.{deadline_at, outranks, rank_of, is_some, enters, least_rank, ceiling_of, ticks_of, blocking_stay, longest_blocking, blocking_by, longest_block, needed_block, rank_fault}
+use Rattle.valid_image.specs.Times.{deadline_at, process_outranks, rank_of, is_some, enters, least_rank, ceiling_of, ticks_of, blocking_stay, longest_blocking, blocking_by, longest_block, needed_block, rank_fault}
 use Rattle.valid_image_law.proofs.Firsts.{neither, none_of_all}
 use Rattle.valid_image_law.proofs.Rows.{at_least_needed, is_due}
 use Rattle.valid_image_law.proofs.Reaching.{limit_low, stay_capped}
@@ -29,13 +29,13 @@ module _ (image : Image) where
   abbrev many : ℕ
   many = length image.processes
 
-  rank_less : (j k : ℕ) → j < many → outranks image j k ≡ true → rank_of image j < rank_of image k
+  rank_less : (j k : ℕ) → j < many → process_outranks image j k ≡ true → rank_of image j < rank_of image k
   rank_less j k below higher =
-      let more = count_lt (λ i. outranks image i j) (λ i. outranks image i k) many j (λ i low before. before_along (due i) (due j) (due k) i j k before higher) below (not_before_itself (due j) j) higher in
+      let more = count_lt (λ i. process_outranks image i j) (λ i. process_outranks image i k) many j (λ i low before. before_along (due i) (due j) (due k) i j k before higher) below (not_before_itself (due j) j) higher in
       omega (arith, more)
 
   pub rank_high : (k : ℕ) → k < many → rank_of image k ≤ many
-  rank_high k below = let less = count_less (λ i. outranks image i k) many k below (not_before_itself (due k) k) in omega (arith, less)
+  rank_high k below = let less = count_less (λ i. process_outranks image i k) many k below (not_before_itself (due k) k) in omega (arith, less)
 
   rank_one : (j k : ℕ) → j < many → k < many → rank_of image j ≡ rank_of image k → j ≡ k
   rank_one j k low_j low_k same = elim (cases_lt j k) [

@@ -7,7 +7,7 @@ use Rattle.machine_isa.specs.declared.instr.Instr.TheVariants as i
 use Rattle.machine_semantics.specs.Trees.{Seg, Segs, Line, Fork, Rep, Call, Stay, Wait, Exit, Nil, Cons, size, size_of}
 use Rattle.machine_isa.specs.Operands.{takes, gives}
 use Rattle.machine_safety_spec.specs.Part.{IsPlain}
-use Rattle.machine_safety_spec.specs.Walk.{Where, Cost, Covers, At, IsLine, Walk, Walks, Reaches}
+use Rattle.machine_safety_spec.specs.Walk.{Where, WalkCost, Covers, At, IsLine, Walk, Walks, Reaches}
 use Rattle.valid_image.specs.Found.{Known, Found, plus, longer, amount, in_line, is_jump_zero, is_jump, is_repeats, is_repeat, is_call, is_enter, is_leave, is_exit, is_reenter, natural, limit_at, chain, line, arms, loop, call, wait, found, founds, entry}
 use Rattle.valid_image_law.specs.Rules.{Callable, Waitable, MayStand, AllMayStand, AllKnown, FoundWalks, with_leave}
 use Rattle.valid_image_law.proofs.Tests.{passed, jump_zero_is, jump_is, repeats_is, repeat_is, call_is, enter_is, leave_is, exit_is, reenter_is, chained, stepped, forked, looped, called, waited, stayed}
@@ -118,7 +118,7 @@ mutual
         room = omega (arith, deep', k.locals, k.depth);
         room_after = omega (arith, deep');
         next_is = is;
-        covers = subst (λ (c : Cost). Covers (with_leave (longer 6 s.known.cost)) (6 + c.run) c.susp c.waits (6 + c.leave)) (sym k.cost) (record { run = omega arith; susp = omega arith; waits = omega arith; leave = omega arith });
+        covers = subst (λ (c : WalkCost). Covers (with_leave (longer 6 s.known.cost)) (6 + c.run) c.susp c.waits (6 + c.leave)) (sym k.cost) (record { run = omega arith; susp = omega arith; waits = omega arith; leave = omega arith });
       })
   seg_walks e known out held base (Stay m body) at h low high next f knows inside may from to is found_is deep = absurd cc
   seg_walks e known out held base Wait at h low high next f knows inside may from to is found_is deep =

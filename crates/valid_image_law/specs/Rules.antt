@@ -6,11 +6,11 @@ use Rattle.machine_semantics.specs.Trees.{Segs, size}
 use Rattle.machine_semantics.specs.Image.{Routine}
 use Rattle.machine_safety_spec.specs.Part.{IsPlain}
 use Rattle.base.specs.declared.capped.Cost as three
-use Rattle.machine_safety_spec.specs.Walk.{Where, Cost, At, Reaches, Walks, MayCall}
+use Rattle.machine_safety_spec.specs.Walk.{Where, WalkCost, At, Reaches, Walks, MayCall}
 use Rattle.valid_image.specs.Found.{Known, Found, founds, in_line}
 
 -- a monitor is left at the end at the latest
-abbrev pub with_leave : three.Cost → Cost
+abbrev pub with_leave : three.Cost → WalkCost
 with_leave c = record { run = c.run; susp = c.susp; waits = c.waits; leave = c.run }
 
 -- what the part may call

@@ -1,21 +1,19 @@
 -- Columns that are over, and the chart that is drawn.
-use Rattle.std.proofs.Common.{◌≡◌, ◌≤◌, ◌<◌, ◌+◌, ◌-◌, ◌*◌, ◌++◌, ℕ, List, [], ◌∷◌, length, map, arith, refl, ap, sym, subst, ◌∙◌}
-use Rattle.std.specs.Prelude.{min, slice_get}
+use Rattle.std.proofs.Common.{◌≡◌, ◌≤◌, ◌<◌, ◌+◌, ◌-◌, ◌*◌, ◌++◌, ℕ, List, [], ◌∷◌, map, arith, ap, sym, subst, ◌∙◌}
+use Rattle.std.specs.Prelude.{min}
 use Rattle.std.specs.Int.{div_ceil}
 use Rattle.std.specs.List.{range_with_len}
 use Rattle.std.proofs.lemmas.Grind.{div_ceil_times}
 use Rattle.std.proofs.lemmas.Simd.{map-map}
 use Rattle.std.proofs.lemmas.List.FromFn.{map-range_with_len_more}
-use Rattle.base.specs.declared.event.Event.{Event}
 use Rattle.run_chart.specs.declared.columns.Columns.{Columns}
 use Rattle.run_chart.specs.declared.letter.Letter.{Letter}
 use Rattle.run_chart.specs.declared.letter.Letter.TheVariants.{Blank}
-use Rattle.run_chart.specs.Chart.{letters}
 use Rattle.run_chart.specs.Letters.{drawn, first_of, letter_at}
-use Rattle.run_chart.specs.Responses.{longest, responses}
-use Rattle.run_chart.specs.Spans.{columns_of, first_tick, shown}
+use Rattle.run_chart.specs.Responses.{longest}
+use Rattle.run_chart.specs.Spans.{first_tick, shown}
 use Rattle.chart_lines.specs.declared.trace.Trace.{Trace}
-use Rattle.chart_lines.specs.Columns.{AreFew, end_of}
+use Rattle.chart_lines.specs.Columns.{end_of}
 use Rattle.chart_lines.specs.Traces.{AreDrawn, Counts, IsDrawn}
 use Rattle.vm_chart.specs.declared.course.Course.{Course}
 use Rattle.vm_chart.specs.Follows.{AreColumns, Drawing, Follows, IsDrawnTo, begins, events_before}

@@ -1,12 +1,12 @@
 -- How many events fall in a run, and how many activations end.
-use Rattle.std.proofs.Common.{◌≡◌, ◌≤◌, ◌+◌, ◌*◌, ◌++◌, ℕ, zero, suc, Bool, true, false, List, [], ◌∷◌, Option, Some, None, length, map, arith, refl, ap, sym, subst, ◌∙◌}
-use Rattle.std.specs.Prelude.{cond, slice_get, slice_set}
+use Rattle.std.proofs.Common.{◌≡◌, ◌≤◌, ◌+◌, ◌*◌, ◌++◌, ℕ, zero, suc, Bool, true, false, List, [], ◌∷◌, Option, Some, None, length, map, arith, refl, ◌∙◌}
+use Rattle.std.specs.Prelude.{slice_get, slice_set}
 use Rattle.std.proofs.lemmas.List.{length-append, length-map, length-set}
 use Rattle.base.specs.declared.event.Event.{Event}
 use Rattle.machine_semantics.specs.Image.{Image, Process, Script}
 use Rattle.machine_semantics.specs.State.{Idle, Job, Ready, State, Thread, Waiting}
 use Rattle.machine_semantics.specs.Effect.{Outcome, Goes, Does, Signals, Broadcasts, Waits, Raises, Ends, Stuck}
-use Rattle.machine_semantics.specs.Run.{at_start, events_from, state_at}
+use Rattle.machine_semantics.specs.Run.{at_start, events_from}
 use Rattle.machine_semantics.specs.Starts.{queue_of, starts}
 use Rattle.machine_semantics.specs.Tick.{Candidate, Ticked, first, outcome, owned_of, pick, run_picked, run_thread, settle, tick, wake, wake_all, wake_first, woken}
 use Rattle.run_chart.specs.Responses.{ends, releases, responses}

@@ -1,8 +1,6 @@
 -- The run and what is kept of its processes, from tick to tick.
-use Rattle.std.proofs.Common.{◌≡◌, ◌≤◌, ◌<◌, ◌+◌, ◌-◌, ◌*◌, ◌^◌, ℕ, List, length, Result, Ok, Err, OnOk, arith, ap, sym, subst, ◌∙◌}
-use Rattle.std.specs.Prelude.{All, min}
+use Rattle.std.proofs.Common.{◌≡◌, ◌≤◌, ◌<◌, ◌+◌, ◌*◌, ◌^◌, ℕ, List, length, Result, Ok, Err, OnOk, arith, ap, sym, subst, ◌∙◌}
 use Rattle.base.specs.declared.event.Event.{Event}
-use Rattle.machine_semantics.specs.Run.{events}
 use Rattle.run_chart.specs.declared.columns.Columns.{Columns}
 use Rattle.run_chart.specs.Spans.{columns_of, first_tick}
 use Rattle.chart_lines.specs.declared.trace.Trace.{Trace}
@@ -12,7 +10,7 @@ use Rattle.vm_runner.specs.Alike.{StayAlike}
 use Rattle.vm_runner.specs.Standing.{StandsIn, events_between}
 use Rattle.vm_chart.specs.declared.course.Course.{Course}
 use Rattle.vm_chart.specs.Follows.{AreColumns, Drawing, Each, Follows, IsDrawnTo, begins, events_before}
-use Rattle.vm_chart.proofs.Ending.{begins_before, next_is}
+use Rattle.vm_chart.proofs.Ending.{begins_before}
 use Rattle.vm_chart.proofs.Few.{before_few}
 use Rattle.vm_chart.proofs.Tracing.{all_alike, still_unseen}
 

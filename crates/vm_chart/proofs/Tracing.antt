@@ -1,28 +1,25 @@
 -- What is kept of each process, and of all.
-use Rattle.std.proofs.Common.{◌≡◌, ◌≤◌, ◌<◌, ◌+◌, ◌-◌, ◌*◌, ◌++◌, ◌⊎◌, inl, inr, ℕ, zero, suc, List, [], ◌∷◌, Some, get_or, length, take, append_assoc, map, arith, refl, ap, sym, subst, ◌∙◌}
+use Rattle.std.proofs.Common.{◌≡◌, ◌≤◌, ◌<◌, ◌+◌, ◌-◌, ◌++◌, inl, inr, ℕ, List, [], ◌∷◌, Some, get_or, length, take, append_assoc, map, arith, refl, ap, sym, subst, ◌∙◌}
 use Rattle.std.specs.Prelude.{All, min, slice_get, slice_set}
 use Rattle.std.specs.List.{range_with_len}
 use Rattle.std.proofs.lemmas.Bool.{cases_lt}
 use Rattle.std.proofs.lemmas.List.{length-append, length-take, take_more}
-use Rattle.std.proofs.lemmas.List.FromFn.{map-range_with_len_more}
 use Rattle.std.proofs.lemmas.Option.{slice_get-get_or, slice_get_within}
 use Rattle.base.proofs.Lists.{all_back, all_front, get_other, get_set, one_of, one_some}
 use Rattle.base.specs.declared.event.Event.{Event}
 use Rattle.machine_semantics.specs.Image.{Image, Script}
-use Rattle.machine_semantics.specs.Run.{at_start, events, events_from, state_at}
-use Rattle.run_chart.specs.declared.columns.Columns.{Columns}
+use Rattle.machine_semantics.specs.Run.{events, events_from, state_at}
 use Rattle.run_chart.specs.declared.letter.Letter.{Letter}
-use Rattle.run_chart.specs.Letters.{drawn, first_of, first_of_two, letter_at, letter_in}
-use Rattle.run_chart.specs.Spans.{first_tick, shown}
+use Rattle.run_chart.specs.Letters.{drawn, first_of, first_of_two, letter_at}
+use Rattle.run_chart.specs.Spans.{shown}
 use Rattle.chart_lines.specs.declared.trace.Trace.{Trace}
-use Rattle.chart_lines.specs.Columns.{end_of}
 use Rattle.chart_lines.specs.Traces.{Counts}
 use Rattle.chart_lines.proofs.Seeing.{seen_to}
 use Rattle.vm_stretch.specs.RowLaws.{begun}
 use Rattle.vm_runner.specs.Alike.{StayAlike}
 use Rattle.vm_runner.specs.Standing.{events_between}
-use Rattle.vm_runner.proofs.Cut.{cut_at, no_events}
-use Rattle.vm_chart.specs.Follows.{Drawing, Each, IsDrawnTo, IsFresh, IsTimely, begins, events_before}
+use Rattle.vm_runner.proofs.Cut.{cut_at}
+use Rattle.vm_chart.specs.Follows.{Drawing, Each, IsBeforeLastTick, IsDrawnTo, IsFresh, begins, events_before}
 use Rattle.vm_chart.proofs.Alike.{same_letter}
 
 -- ---- one after the other
@@ -76,12 +73,12 @@ module _ (image : Image) (script : Script) where
   all_events = refl
 
   -- all that fall up to a tick are timely
-  pub timely_between : (t u : ℕ) → t ≤ u → u ≤ script.end_tick → All IsTimely (events image script) → All IsTimely (events_between image script t u)
+  pub timely_between : (t u : ℕ) → t ≤ u → u ≤ script.end_tick → All IsBeforeLastTick (events image script) → All IsBeforeLastTick (events_between image script t u)
   timely_between t u later within all =
-      let whole : All IsTimely (events_before image script u ++ events_between image script u script.end_tick) =
-      subst (λ (es : List Event). All IsTimely es) (all_events ∙ before_later u script.end_tick within) all in
-      let up : All IsTimely (events_before image script u) = all_front IsTimely (events_before image script u) (events_between image script u script.end_tick) whole in
-      all_back IsTimely (events_before image script t) (events_between image script t u) (subst (λ (es : List Event). All IsTimely es) (before_later t u later) up)
+      let whole : All IsBeforeLastTick (events_before image script u ++ events_between image script u script.end_tick) =
+      subst (λ (es : List Event). All IsBeforeLastTick es) (all_events ∙ before_later u script.end_tick within) all in
+      let up : All IsBeforeLastTick (events_before image script u) = all_front IsBeforeLastTick (events_before image script u) (events_between image script u script.end_tick) whole in
+      all_back IsBeforeLastTick (events_before image script t) (events_between image script t u) (subst (λ (es : List Event). All IsBeforeLastTick es) (before_later t u later) up)
 
 -- the events before and those of a list that were gone over, with the next of these
 pub counts_next : (k first : ℕ) (before es : List Event) (i : ℕ) (d : Event) (trace : Trace) → i < length es → Counts k first ((before ++ take i es) ++ get_or es i d ∷ []) trace → Counts k first (before ++ take (i + 1) es) trace
@@ -94,8 +91,8 @@ few_next before es i n few =
     let some : length (take i es) ≡ min i (length es) = length-take i es in
     omega (arith, both, some, few)
 
-pub timely_next : (es : List Event) (i : ℕ) (d : Event) → All IsTimely es → i < length es → IsTimely (get_or es i d)
-timely_next es i d all low = one_of IsTimely es i (get_or es i d) all (slice_get-get_or es i d low)
+pub timely_next : (es : List Event) (i : ℕ) (d : Event) → All IsBeforeLastTick es → i < length es → IsBeforeLastTick (get_or es i d)
+timely_next es i d all low = one_of IsBeforeLastTick es i (get_or es i d) all (slice_get-get_or es i d low)
 
 -- ---- one process
 

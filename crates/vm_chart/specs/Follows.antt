@@ -15,8 +15,8 @@ use Rattle.vm_runner.specs.Standing.{StandsIn}
 use Rattle.vm_chart.specs.declared.course.Course.{Course}
 
 -- the event falls in a run
-abbrev pub IsTimely : Event → Type 0
-IsTimely e = e.tick < 1000000000
+abbrev pub IsBeforeLastTick : Event → Type 0
+IsBeforeLastTick e = e.tick < 1000000000
 
 -- the events before tick t
 abbrev pub events_before : Image → Script → (t : ℕ) → List Event

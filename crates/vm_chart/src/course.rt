@@ -5,7 +5,7 @@ ghost use Rattle.chart_lines.specs.Columns.{end_of};
 ghost use Rattle.machine_semantics.specs.Image.{Image};
 ghost use Rattle.machine_semantics.specs.Run.{events};
 ghost use Rattle.run_chart.specs.declared.columns.Columns.{Columns as Shown};
-ghost use Rattle.vm_chart.specs.Follows.{AreColumns, Drawing, Follows, IsTimely, begins};
+ghost use Rattle.vm_chart.specs.Follows.{AreColumns, Drawing, Follows, IsBeforeLastTick, begins};
 ghost use Rattle.vm_releases.specs.Begin.{script_of};
 ghost use Rattle.vm_runner.specs.Runnable.{IsRunnable};
 ghost use Rattle.vm_state.specs.Plan.{IsOf};
@@ -54,7 +54,7 @@ impl Course {
         requires plan { IsOf drawing.image plan.now }
         requires script { drawing.script ≡ script_of script.now }
         requires runnable { IsRunnable drawing.image drawing.script }
-        requires timely { All IsTimely (events drawing.image drawing.script) }
+        requires timely { All IsBeforeLastTick (events drawing.image drawing.script) }
         requires first { first ≡ drawing.columns.first }
         requires follows { Follows drawing self.old }
         requires limit { limit ≤ script.now.end }
@@ -78,7 +78,7 @@ impl Course {
         requires plan { IsOf drawing.image plan.now }
         requires script { drawing.script ≡ script_of script.now }
         requires runnable { IsRunnable drawing.image drawing.script }
-        requires timely { All IsTimely (events drawing.image drawing.script) }
+        requires timely { All IsBeforeLastTick (events drawing.image drawing.script) }
         requires first { first ≡ drawing.columns.first }
         requires follows { Follows drawing self.old }
         requires limit { tick ≤ script.now.end }
@@ -99,7 +99,7 @@ impl Course {
         requires plan { IsOf drawing.image plan.now }
         requires script { drawing.script ≡ script_of script.now }
         requires runnable { IsRunnable drawing.image drawing.script }
-        requires timely { All IsTimely (events drawing.image drawing.script) }
+        requires timely { All IsBeforeLastTick (events drawing.image drawing.script) }
         requires first { first ≡ drawing.columns.first }
         requires follows { Follows drawing self.old }
         requires limit { limit ≤ script.now.end }
@@ -131,7 +131,7 @@ impl Course {
         requires plan { IsOf drawing.image plan.now }
         requires script { drawing.script ≡ script_of script.now }
         requires runnable { IsRunnable drawing.image drawing.script }
-        requires timely { All IsTimely (events drawing.image drawing.script) }
+        requires timely { All IsBeforeLastTick (events drawing.image drawing.script) }
         requires columns { AreColumns drawing.columns }
         requires column { drawing.column < drawing.columns.count }
         requires first { first ≡ drawing.columns.first }
@@ -161,7 +161,7 @@ impl Course {
         requires plan { IsOf drawing.image plan.now }
         requires script { drawing.script ≡ script_of script.now }
         requires runnable { IsRunnable drawing.image drawing.script }
-        requires timely { All IsTimely (events drawing.image drawing.script) }
+        requires timely { All IsBeforeLastTick (events drawing.image drawing.script) }
         requires are { AreColumns drawing.columns }
         requires some { drawing.column < drawing.columns.count }
         requires shown { columns.now ≡ drawing.columns }
@@ -188,7 +188,7 @@ impl Course {
         ghost image: { Image }
         requires plan { IsOf image plan.now }
         requires runnable { IsRunnable image (script_of script.now) }
-        requires timely { All IsTimely (events image (script_of script.now)) }
+        requires timely { All IsBeforeLastTick (events image (script_of script.now)) }
         requires columns { AreColumns columns.now }
         requires limit { columns.now.end ≤ script.now.end }
         requires follows { Follows (record {

@@ -4,7 +4,7 @@ ghost use Rattle.std.specs.Prelude.{◌≡◌, ◌≤◌, All, IfOk};
 ghost use Rattle.image.specs.Raw.{image_of, named_of};
 ghost use Rattle.machine_semantics.specs.Run.{events};
 ghost use Rattle.run_chart.specs.Chart.{chart_in, chart_text};
-ghost use Rattle.vm_chart.specs.Follows.{AreColumns, Drawing, IsTimely};
+ghost use Rattle.vm_chart.specs.Follows.{AreColumns, Drawing, IsBeforeLastTick};
 ghost use Rattle.vm_releases.specs.Begin.{script_of};
 ghost use Rattle.vm_runner.specs.Runnable.{IsRunnable};
 ghost use Rattle.vm_state.specs.Plan.{IsOf};
@@ -36,7 +36,7 @@ fn chart_in(
     } }
     requires plan { IsOf (image_of image.now) plan.now }
     requires runnable { IsRunnable (image_of image.now) (script_of script.now) }
-    requires timely { All IsTimely (events (image_of image.now) (script_of script.now)) }
+    requires timely { All IsBeforeLastTick (events (image_of image.now) (script_of script.now)) }
     requires columns { AreColumns columns.now }
     requires limit { columns.now.end ≤ script.now.end }
     ensures { IfOk result (λ text. text ≡
@@ -61,7 +61,7 @@ pub fn chart(
 ) -> Result<Text, AllocError>
     requires plan { IsOf (image_of image.now) plan.now }
     requires runnable { IsRunnable (image_of image.now) (script_of script.now) }
-    requires timely { All IsTimely (events (image_of image.now) (script_of script.now)) }
+    requires timely { All IsBeforeLastTick (events (image_of image.now) (script_of script.now)) }
     requires short { script.now.end ≤ 1000000000 }
     ensures { IfOk result (λ text. text ≡
         chart_text (named_of image.now) (script_of script.now) first end) }

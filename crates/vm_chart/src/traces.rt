@@ -4,10 +4,8 @@ ghost use Rattle.std.specs.Prelude.{◌≡◌, ◌≤◌, ◌<◌, ◌+◌, ◌-
 ghost use Rattle.base.specs.declared.event.Event.{Event as Fell};
 ghost use Rattle.chart_lines.specs.Columns.{end_of};
 ghost use Rattle.chart_lines.specs.Traces.{Counts};
-ghost use Rattle.vm_chart.specs.Follows.{AreColumns, Drawing, Each, IsDrawnTo, IsFresh, IsTimely, Passing, begins, events_before};
-ghost use Rattle.vm_releases.specs.Begin.{script_of};
-ghost use Rattle.vm_runner.specs.Runnable.{IsRunnable};
-ghost use Rattle.vm_runner.specs.Standing.{HasBegun, events_between};
+ghost use Rattle.vm_chart.specs.Follows.{AreColumns, Drawing, Each, IsBeforeLastTick, IsDrawnTo, IsFresh, Passing, begins, events_before};
+ghost use Rattle.vm_runner.specs.Standing.{events_between};
 ghost use Rattle.vm_state.specs.Board.{IsBoardOf, state_of};
 ghost use Rattle.vm_state.specs.Plan.{IsOf};
 ghost use Rattle.vm_stretch.specs.RowLaws.{begun};
@@ -36,7 +34,7 @@ fn note_if(trace: &mut Trace, process: usize, first: u64, event: &Event)
     ghost before: { List Fell }
     requires counts { Counts process first before trace.old }
     requires few { length before < 2 ^ 63 }
-    requires timely { IsTimely event.now }
+    requires timely { IsBeforeLastTick event.now }
     ensures counts { Counts process first (before ++ event.now ∷ []) trace.new }
     ensures row { trace.new.row ≡ trace.old.row }
     ensures letter { trace.new.letter ≡ trace.old.letter }
@@ -53,7 +51,7 @@ fn note_at(trace: &mut Trace, process: usize, first: u64, events: &[Event], at: 
     requires counts { Counts process first before trace.old }
     requires few { length before < 2 ^ 63 }
     requires at { at < length events.now }
-    requires timely { All IsTimely events.now }
+    requires timely { All IsBeforeLastTick events.now }
     ensures counts { (event : Fell) → slice_get events.now at ≡ Some event →
         Counts process first (before ++ event ∷ []) trace.new }
     ensures row { trace.new.row ≡ trace.old.row }
@@ -67,7 +65,7 @@ fn note_of(trace: &mut Trace, process: usize, first: u64, events: &[Event])
     ghost before: { List Fell }
     requires counts { Counts process first before trace.old }
     requires few { length before + length events.now < 2 ^ 63 }
-    requires timely { All IsTimely events.now }
+    requires timely { All IsBeforeLastTick events.now }
     ensures counts { Counts process first (before ++ events.now) trace.new }
     ensures row { trace.new.row ≡ trace.old.row }
     ensures letter { trace.new.letter ≡ trace.old.letter }
@@ -85,7 +83,7 @@ pub(crate) fn note_all(traces: &mut Vec<Trace>, first: u64, events: &[Event], fr
     requires events { events.now ≡ events_between passing.drawing.image passing.drawing.script from to }
     requires later { from ≤ to }
     requires few { length (events_before passing.drawing.image passing.drawing.script to) < 2 ^ 63 }
-    requires timely { All IsTimely events.now }
+    requires timely { All IsBeforeLastTick events.now }
     requires each { Each (IsDrawnTo passing.drawing to from) traces.old.items }
     requires begin { from ≡ passing.from }
     ensures each { Each (IsDrawnTo passing.drawing to to) traces.new.items }

@@ -84,20 +84,20 @@ meant c x =
 -- ---- sorts
 
 -- whole numbers and subranges are numbers
-abbrev pub sort_of : Scalar → Sort
-sort_of int = sort_is.Number
-sort_of boolean = sort_is.Truth
-sort_of (subrange low high) = sort_is.Number
+abbrev pub scalar_sort : Scalar → Sort
+scalar_sort int = sort_is.Number
+scalar_sort boolean = sort_is.Truth
+scalar_sort (subrange low high) = sort_is.Number
 
 -- the sort of a variable of one word
 abbrev pub kind_sort : Kind → Option Sort
-kind_sort (scalar s) = Some (sort_of s)
+kind_sort (scalar s) = Some (scalar_sort s)
 kind_sort (array low high s) = None
 
 -- the sort of the elements of an array
 abbrev pub kind_element : Kind → Option Sort
 kind_element (scalar s) = None
-kind_element (array low high s) = Some (sort_of s)
+kind_element (array low high s) = Some (scalar_sort s)
 
 -- the sort of what stands for one word
 abbrev pub word_sort : Meant → Option Sort

@@ -5,7 +5,7 @@ use Rattle.static_declarations.specs.declared.sort.Sort.{Sort}
 use Rattle.static_declarations.specs.declared.sort.Sort.TheVariants as sort_is
 use Rattle.static_declarations.specs.Sorts.{gives, takes}
 use Rattle.source_semantics.specs.Run.{Found, routine_named, entry_named}
-use Rattle.wellformed.specs.Here.{Here, meant, sort_of, word_sort, element_sort, is_assignable}
+use Rattle.wellformed.specs.Here.{Here, meant, scalar_sort, word_sort, element_sort, is_assignable}
 
 -- the greatest literal is the greatest word
 abbrev pub greatest_word : ℕ
@@ -14,7 +14,7 @@ greatest_word = 2147483647
 -- the sort of what a routine answers; a procedure answers nothing
 abbrev pub answer_sort : Option Found → Option Sort
 answer_sort None = None
-answer_sort (Some f) = option_map (λ a. sort_of a.kind) f.routine.answers
+answer_sort (Some f) = option_map (λ a. scalar_sort a.kind) f.routine.answers
 
 -- the routine's parameters, where there is a routine of that name
 abbrev pub params_of : Option Found → Option (List Param)
@@ -45,7 +45,7 @@ abbrev mutual
   AreArguments c (Some []) no_exprs = Unit {0}
   AreArguments c (Some []) (exprs e es) = ⊥
   AreArguments c (Some (v ∷ vs)) no_exprs = ⊥
-  AreArguments c (Some (v ∷ vs)) (exprs e es) = IsOf c (sort_of v.kind) e × AreArguments c (Some vs) es
+  AreArguments c (Some (v ∷ vs)) (exprs e es) = IsOf c (scalar_sort v.kind) e × AreArguments c (Some vs) es
 
 -- one word of this sort that may be assigned to
 abbrev pub IsTarget : Here → Sort → Ref → Type 0

@@ -7,7 +7,7 @@ use Rattle.source_semantics.specs.Names.{constants, constant_among, device_in, e
 use Rattle.source_semantics.specs.Store.{up_to}
 use Rattle.source_semantics.specs.Run.{Home, of_program, of_process, of_monitor}
 use Rattle.source_semantics.specs.Nesting.{Levels}
-use Rattle.wellformed.specs.Here.{Here, sort_of, in_routine, in_process}
+use Rattle.wellformed.specs.Here.{Here, scalar_sort, in_routine, in_process}
 use Rattle.wellformed.specs.Typed.{IsOf}
 use Rattle.wellformed.specs.Statements.{IsConstant, IsWithin, AllFit}
 
@@ -49,7 +49,7 @@ ParamFits g v = ScalarFits g v.kind
 
 abbrev pub AnswersFit : Program → Here → Option Answers → Type 0
 AnswersFit g c None = Unit {0}
-AnswersFit g c (Some a) = ScalarFits g a.kind × IsOf c (sort_of a.kind) a.value
+AnswersFit g c (Some a) = ScalarFits g a.kind × IsOf c (scalar_sort a.kind) a.value
 
 -- a routine where it stands, as the process calls it
 pub record RoutineFits (g : Program) (p : Process) (home : Home) (r : Routine) : Type 0 where
@@ -119,12 +119,12 @@ is_event_of e (at_event n frame deadline) = bytes_eq n e
 abbrev pub EventsFit : Program → Type 0
 EventsFit g = (e : Name) → Contains g.decls (event e) → count_by (λ p. is_event_of e p.activation) (processes g) ≡ 1
 
-abbrev pub kind_words : Program → Kind → ℕ
-kind_words g (scalar s) = 1
-kind_words g (array low high s) = up_to (constant_among (constants g) high -ℤ constant_among (constants g) low)
+abbrev pub kind_size : Program → Kind → ℕ
+kind_size g (scalar s) = 1
+kind_size g (array low high s) = up_to (constant_among (constants g) high -ℤ constant_among (constants g) low)
 
 abbrev pub vars_words : Program → List Var → ℕ
-vars_words g vs = sum_by (λ v. kind_words g v.kind) vs
+vars_words g vs = sum_by (λ v. kind_size g v.kind) vs
 
 -- the words of the variables of processes and monitors
 abbrev pub words : Program → ℕ

@@ -17,7 +17,7 @@ use Rattle.static_types.specs.Sorts.{asked, call_agrees}
 use Rattle.static_types.specs.Sorts as sorts
 use Rattle.static_types.specs.Conduct.{is_function, is_function_kind, is_procedure, exprs_stray}
 use Rattle.source_semantics.specs.Run.{Home, Found, of_monitor, routine_named, entry_named}
-use Rattle.wellformed.specs.Here.{Here, is_monitor, sort_of}
+use Rattle.wellformed.specs.Here.{Here, is_monitor, scalar_sort}
 use Rattle.wellformed.specs.Typed.{answer_sort, params_of, AreArguments}
 use Rattle.wellformed.specs.Statements.{IsCondition, may_call}
 use Rattle.static_semantics.specs.Written.{ExprsWritten, ResultWritten}
@@ -98,7 +98,7 @@ module _ (g : Prog Place) (p : Process Place) (at : Option Place) (site : Site) 
 -- ---- what a call answers
 
 abbrev answers_of : Option (Scalar Place) → Option (Expr Place) → Option Sort
-answers_of result value = option_map (λ (a : plain_of.Answers). sort_of a.kind) (plain_answers result value)
+answers_of result value = option_map (λ (a : plain_of.Answers). scalar_sort a.kind) (plain_answers result value)
 
 function_answers : (k : RoutineKind) (result : Option (Scalar Place)) (value : Option (Expr Place)) → ResultWritten k result value → is_function_kind k ≡ true
     → (s : Sort) × (option_map things.sort_of result ≡ Some s) × (answers_of result value ≡ Some s)

@@ -20,7 +20,7 @@ use Rattle.static_types.specs.Sorts as by_form
 use Rattle.static_types.specs.Sorts.{is_array}
 use Rattle.static_types.specs.Conduct.{is_function_kind, is_barred}
 use Rattle.source_semantics.specs.Run.{Home, routine_named}
-use Rattle.wellformed.specs.Here.{Here, Meant, turn, own_variable, outer_variable, value, meant, sort_of, word_sort, element_sort}
+use Rattle.wellformed.specs.Here.{Here, Meant, turn, own_variable, outer_variable, value, meant, scalar_sort, word_sort, element_sort}
 use Rattle.wellformed.specs.Typed.{answer_sort}
 use Rattle.static_semantics.specs.Written.{ResultWritten}
 use Rattle.static_semantics.specs.Places.{IsFound}
@@ -29,7 +29,7 @@ use Rattle.static_semantics.specs.Judged.{IsKept, AreNames}
 
 -- ---- sorts
 
-pub sorts_same : (s : Scalar Place) → thing.sort_of s ≡ sort_of (plain_scalar s)
+pub sorts_same : (s : Scalar Place) → thing.sort_of s ≡ scalar_sort (plain_scalar s)
 sorts_same int = refl
 sorts_same boolean = refl
 sorts_same (subrange low high) = refl
@@ -109,7 +109,7 @@ module _ (g : Prog Place) (p : Process Place) (at : Option Place) (c : Here) (x 
 
 -- a function has the type of its result, which its answer has in the meaning
 answers_same : (kind : RoutineKind) (result : Option (Scalar Place)) (given : Option (Expr Place)) → ResultWritten kind result given → not (is_function_kind kind) ≡ false
-    → (s : Sort) × (option_map thing.sort_of result ≡ Some s) × (option_map (λ a. sort_of a.kind) (plain_answers result given) ≡ Some s)
+    → (s : Sort) × (option_map thing.sort_of result ≡ Some s) × (option_map (λ a. scalar_sort a.kind) (plain_answers result given) ≡ Some s)
 answers_same procedure result given w h = absurd (true≢false h)
 answers_same function (Some s) (Some e) w h = (thing.sort_of s, refl, ap Some (sym (sorts_same s)))
 answers_same function (Some s) None w h = absurd w

@@ -10,7 +10,7 @@ ghost use Rattle.static_names.specs.Reach.{Site};
 ghost use Rattle.static_names.specs.Occurrences.{expr_names, stmts_names};
 ghost use Rattle.static_declarations.specs.declared.home.Where.{Where};
 ghost use Rattle.static_declarations.specs.Parts.{answer, stmts_parts, parts};
-ghost use Rattle.wellformed.specs.Here.{Here, sort_of};
+ghost use Rattle.wellformed.specs.Here.{Here, scalar_sort};
 ghost use Rattle.wellformed.specs.Typed.{IsOf};
 ghost use Rattle.wellformed.specs.Statements.{AllFit};
 ghost use Rattle.static_semantics.specs.Written.{ExprWritten, StmtsWritten};
@@ -22,7 +22,7 @@ pub fn answers_fit()
     ensures { (g : Prog Place) (p : Process Place) (at : Option Place) (site : Site) (c : Here)
         (name : Place) (s : Scalar Place) (e : Expr Place) → IsKept g → Mirrors g p at site c
         → ExprWritten e → AreNames g (expr_names site e []) → Contains (parts g) (answer name s e) →
-        IsOf c (sort_of (plain_scalar s)) (plain_expr e) }
+        IsOf c (scalar_sort (plain_scalar s)) (plain_expr e) }
 {}
 
 /// The statements of a text fit.

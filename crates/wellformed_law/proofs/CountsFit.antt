@@ -13,7 +13,7 @@ use Rattle.syntax_tree.specs.Parts.{processes, events}
 use Rattle.syntax_tree.specs.Parts as tree
 use Rattle.static_numbers.specs.Counts as limit
 use Rattle.source_semantics.specs.Names.{device_in, event_in, monitor_in, process_in, variable_in, condition_in, conditions_of, condition_count, routines_in}
-use Rattle.wellformed.specs.WellFormed.{kind_words, vars_words, CountsFit}
+use Rattle.wellformed.specs.WellFormed.{kind_size, vars_words, CountsFit}
 use Rattle.wellformed_law.proofs.Lists.{sum_cons}
 use Rattle.wellformed_law.proofs.WellformedLaw.{Laws}
 use Rattle.wellformed_law.proofs.Standing.{plain_processes}
@@ -82,19 +82,19 @@ routines_of (process p ∷ ds) = let h = routines_of ds in sum_cons routines_in 
 module _ (g : Prog Place) where
   -- ---- words
 
-  same_kind_words : (k : Kind Place) → kind_words (plain g) (plain_kind k) ≡ limit.kind_words (value g) k
+  same_kind_words : (k : Kind Place) → kind_size (plain g) (plain_kind k) ≡ limit.placed_kind_size (value g) k
   same_kind_words (scalar s) = refl
   same_kind_words (array low high s) = refl
 
   same_vars_words : (vs : List (Var Place)) → vars_words (plain g) (map plain_var vs) ≡ limit.vars_words (value g) vs
   same_vars_words [] = refl
   same_vars_words (v ∷ vs) = let e = same_kind_words v.kind in let h = same_vars_words vs in
-      sum_cons (λ w. kind_words (plain g) w.kind) (plain_var v) (map plain_var vs) ∙ omega (arith, e, h)
+      sum_cons (λ w. kind_size (plain g) w.kind) (plain_var v) (map plain_var vs) ∙ omega (arith, e, h)
 
   same_members_words : (ms : List (Member Place)) → vars_words (plain g) (filter_map variable_in (map plain_member ms)) ≡ limit.members_words (value g) ms
   same_members_words [] = refl
   same_members_words (variable_member v ∷ ms) = let e = same_kind_words v.kind in let h = same_members_words ms in
-      sum_cons (λ w. kind_words (plain g) w.kind) (plain_var v) (filter_map variable_in (map plain_member ms)) ∙ omega (arith, e, h)
+      sum_cons (λ w. kind_size (plain g) w.kind) (plain_var v) (filter_map variable_in (map plain_member ms)) ∙ omega (arith, e, h)
   same_members_words (condition_member name p ∷ ms) = same_members_words ms
 
   abbrev of_processes : List plain_of.Process → ℕ

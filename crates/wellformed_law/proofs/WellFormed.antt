@@ -13,7 +13,7 @@ use Rattle.static_calls.specs.Reaching.{ReachesItself}
 use Rattle.static_semantics.specs.Static.{IsChecked}
 use Rattle.wellformed_calls_law.specs.Levels.{HasPlaceLevels}
 use Rattle.source_semantics.specs.Nesting.{Levels}
-use Rattle.wellformed.specs.Here.{Here, sort_of}
+use Rattle.wellformed.specs.Here.{Here, scalar_sort}
 use Rattle.wellformed.specs.Typed.{IsOf}
 use Rattle.wellformed.specs.Statements.{AllFit}
 use Rattle.wellformed.specs.WellFormed.{IsWellFormed}
@@ -48,7 +48,7 @@ pub record RuleLaws : Type 0 where
   pub all_parts : (g : Prog Place) → PartsListed g
   pub mirrored : (g : Prog Place) → StandApart g → IsWritten g → NamesFound g → NamesListed g → ThingsKnown g → (p : Process Place) → Contains g.decls (process p) → AreMirrored g p
   pub answers : (g : Prog Place) (p : Process Place) (at : Option Place) (site : Site) (c : Here) (name : Place) (s : Scalar Place) (e : Expr Place) → IsKept g → Mirrors g p at site c
-      → ExprWritten e → AreNames g (expr_names site e []) → Contains (parts g) (answer name s e) → IsOf c (sort_of (plain_scalar s)) (plain_expr e)
+      → ExprWritten e → AreNames g (expr_names site e []) → Contains (parts g) (answer name s e) → IsOf c (scalar_sort (plain_scalar s)) (plain_expr e)
   pub bodies : (g : Prog Place) (p : Process Place) (at : Option Place) (site : Site) (c : Here) (w : Where) (ss : Stmts Place) → IsKept g → Mirrors g p at site c → IsPlaced w at c
       → StmtsWritten ss → AreNames g (stmts_names site ss []) → AreParts g (stmts_parts w ss []) → AllFit c (plain_stmts ss)
   pub falling : (g : Prog Place) → ((place : Place) → ¬ ReachesItself g place) → HasPlaceLevels g

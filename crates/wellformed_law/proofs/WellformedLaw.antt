@@ -11,7 +11,7 @@ use Rattle.static_declarations.specs.Parts.{answer, stmts_parts, parts}
 use Rattle.static_types.specs.Rules.{StatementFails}
 use Rattle.source_semantics.specs.Names.{constants}
 use Rattle.source_semantics.specs.Nesting.{Levels}
-use Rattle.wellformed.specs.Here.{Here, sort_of}
+use Rattle.wellformed.specs.Here.{Here, scalar_sort}
 use Rattle.wellformed.specs.Typed.{IsOf}
 use Rattle.wellformed.specs.Statements.{IsConstant, AllFit}
 use Rattle.static_semantics.specs.Places.{StandApart, NamesFound}
@@ -31,7 +31,7 @@ pub record Laws (g : Prog Place) : Type 0 where
   pub all_parts : PartsListed g
   pub mirrored : (p : Process Place) → Contains g.decls (process p) → AreMirrored g p
   pub answers : (p : Process Place) (at : Option Place) (site : Site) (c : Here) (name : Place) (s : Scalar Place) (e : Expr Place) → IsKept g → Mirrors g p at site c
-      → ExprWritten e → AreNames g (expr_names site e []) → Contains (parts g) (answer name s e) → IsOf c (sort_of (plain_scalar s)) (plain_expr e)
+      → ExprWritten e → AreNames g (expr_names site e []) → Contains (parts g) (answer name s e) → IsOf c (scalar_sort (plain_scalar s)) (plain_expr e)
   pub bodies : (p : Process Place) (at : Option Place) (site : Site) (c : Here) (w : Where) (ss : Stmts Place) → IsKept g → Mirrors g p at site c → IsPlaced w at c
       → StmtsWritten ss → AreNames g (stmts_names site ss []) → AreParts g (stmts_parts w ss []) → AllFit c (plain_stmts ss)
   pub levels : (p : Process Place) → Contains g.decls (process p) → (level : Name → ℕ) × Levels (plain g) (plain_process p) level

@@ -3,7 +3,7 @@ use Rattle.command_answers.specs.Acts.{number_of}
 use Rattle.command_answers.specs.Files.{listed, sources_of, target_of}
 use Rattle.command_answers.proofs.Caused.{reached_is_named}
 use Rattle.command.proofs.Tried.{performed_reads, performed_writes}
-use Rattle.command.proofs.Went.{performed, performed_cause, read_failed}
+use Rattle.command.proofs.Went.{performed, performed_cause}
 use Rattle.command.proofs.carry.carry.Goals as goal
 
 pub returns-in-Ok-clause-went : goal.returns-in-Ok-clause-went

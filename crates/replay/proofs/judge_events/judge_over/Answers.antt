@@ -9,11 +9,11 @@ use Rattle.source_semantics.specs.Verdicts.{Allowed}
 use Rattle.replay.proofs.ReplayingLemmas.{allowed_all, allowed_here, refused_at_end, refused_here, run_from, some_event}
 use Rattle.std.specs.Borrow.{Bor}
 use Rattle.script.specs.declared.script.Script as code_script
-use Rattle.replay_due_events.specs.Timings.{script_of}
+use Rattle.script_meaning.specs.Script.{said}
 use Rattle.replay.proofs.judge_events.judge_over.Goals as goal
 
 abbrev script_at : Bor code_script.Script → Script
-script_at b = script_of b.now.lines b.now.end
+script_at b = said b.now.lines b.now.end
 
 pub returns-then-not-branch : goal.returns-then-not-branch
 returns-then-not-branch c =

@@ -1,6 +1,6 @@
 use Rattle.std.proofs.Common.{◌≡◌, ℕ, List, subst}
 use Rattle.std.specs.Prelude.{IfOk}
-use Rattle.command_due.specs.Script.{said}
+use Rattle.script_meaning.specs.Script.{said}
 use Rattle.command_answers.specs.Acting.{puts}
 use Rattle.command_answers.specs.Contents.{IsContent}
 use Rattle.base.specs.declared.event.Event.{Event}

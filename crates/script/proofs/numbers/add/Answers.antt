@@ -1,5 +1,5 @@
 use Rattle.std.proofs.Common.{◌≡◌, ◌∙◌, sym, ap, None, true, is_some}
-use Rattle.script.specs.Reading.{number_in}
+use Rattle.image.specs.NameMaps.{number_in}
 use Rattle.script.proofs.Lookups.{adds_kept, adds_new, none_of}
 use Rattle.script.proofs.numbers.add.Goals as goal
 

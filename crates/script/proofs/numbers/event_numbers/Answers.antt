@@ -1,6 +1,7 @@
 use Rattle.std.proofs.Common.{Some, None, cond, ap, ◌∙◌}
 use Rattle.script.specs.Scripts.{same_name}
-use Rattle.script.specs.Reading.{number_in, or_else}
+use Rattle.image.specs.NameMaps.{number_in}
+use Rattle.script.specs.Reading.{or_else}
 use Rattle.script.proofs.Lookups.{numbers_more}
 use Rattle.script.proofs.numbers.event_numbers.Goals as goal
 

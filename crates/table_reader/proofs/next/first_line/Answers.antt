@@ -1,4 +1,4 @@
-use Rattle.std.proofs.Common.{List, ℕ, Some, codes, refl, sym, subst}
+use Rattle.std.proofs.Common.{Some, codes, refl, sym, subst}
 use Rattle.std.specs.Prelude.{nat_eq}
 use Rattle.std.specs.Cmp.{unsigned_Decides}
 use Rattle.std.proofs.lemmas.Bool.{false≢true}

@@ -1,4 +1,4 @@
-use Rattle.std.proofs.Common.{◌+◌, ◌∙◌, sym, arith}
+use Rattle.std.proofs.Common.{◌+◌, arith}
 use Rattle.table_reader.specs.Reading.{line_seen}
 use Rattle.table_reader.proofs.Answered.{added, crowded}
 use Rattle.table_reader.proofs.Blamed.{blamed}

@@ -1,5 +1,5 @@
-use Rattle.std.proofs.Common.{◌≡◌, ◌≤◌, ◌+◌, ◌*◌, ℕ, IfOk, List, length, map, arith, refl, ap, sym, subst, ◌∙◌}
-use Rattle.std.specs.Prelude.{All, min}
+use Rattle.std.proofs.Common.{◌≡◌, ◌+◌, ◌*◌, IfOk, List, length, map, arith, refl, ap, sym, subst}
+use Rattle.std.specs.Prelude.{All}
 use Rattle.std.proofs.lemmas.List.{length-map}
 use Rattle.image.specs.Raw.{image_of, named_of, process_of}
 use Rattle.machine_semantics.specs.Image.{Image, Script}
@@ -10,7 +10,7 @@ use Rattle.chart_lines.specs.declared.trace.Trace.{Trace}
 use Rattle.vm_releases.specs.Begin.{script_of}
 use Rattle.vm_runner.specs.Runnable.{IsRunnable}
 use Rattle.vm_state.specs.Plan.{IsOf}
-use Rattle.vm_chart.specs.Follows.{Drawing, Follows, IsTimely, begins}
+use Rattle.vm_chart.specs.Follows.{Drawing, Follows, IsBeforeLastTick, begins}
 use Rattle.vm_chart.proofs.Ending.{all_drawn}
 use Rattle.vm_chart.proofs.drawing.chart_in.Goals as goal
 
@@ -37,7 +37,7 @@ go_to-requires g c =
         (
           subst (λ (d : Drawing). IsRunnable d.image d.script) back c.requires.1.1.0,
           (
-            subst (λ (d : Drawing). All IsTimely (events d.image d.script)) back c.requires.1.1.1.0,
+            subst (λ (d : Drawing). All IsBeforeLastTick (events d.image d.script)) back c.requires.1.1.1.0,
             (
               ap (λ (d : Drawing). d.columns.first) back,
               (
@@ -65,7 +65,7 @@ draw-requires g c =
       (
         subst (λ (d : Drawing). IsRunnable d.image run) back c.requires.1.1.0,
         (
-          subst (λ (d : Drawing). All IsTimely (events d.image run)) back c.requires.1.1.1.0,
+          subst (λ (d : Drawing). All IsBeforeLastTick (events d.image run)) back c.requires.1.1.1.0,
           (
             c.requires.1.1.1.1.0,
             (

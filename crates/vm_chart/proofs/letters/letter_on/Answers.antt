@@ -5,7 +5,6 @@ use Rattle.base.proofs.Lists.{map_get}
 use Rattle.machine_semantics.specs.State.{Thread}
 use Rattle.machine_semantics.specs.Tick.{pick}
 use Rattle.run_chart.specs.Letters.{is_picked, letter_of}
-use Rattle.vm_state.specs.Board.{state_of}
 use Rattle.vm_state.specs.Threads.{thread_of, threads_of}
 use Rattle.vm_state.specs.declared.threads.ControlBlock.{ControlBlock}
 use Rattle.vm_stretch.specs.Stretch.{place_of}

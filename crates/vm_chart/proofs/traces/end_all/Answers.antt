@@ -1,4 +1,4 @@
-use Rattle.std.proofs.Common.{◌≡◌, ◌<◌, ◌+◌, length, arith, refl, ◌∙◌}
+use Rattle.std.proofs.Common.{◌<◌, ◌+◌, length, arith, refl, ◌∙◌}
 use Rattle.std.proofs.lemmas.List.{length-set}
 use Rattle.chart_lines.specs.Columns.{end_of}
 use Rattle.vm_chart.specs.Follows.{IsDrawnTo}

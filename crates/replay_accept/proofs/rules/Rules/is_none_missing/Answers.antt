@@ -2,7 +2,7 @@ use Rattle.std.proofs.Common.{◌≡◌, ◌≤◌, ◌∙◌, ap, sym, arith}
 use Rattle.std.specs.Prelude.{IsTrue}
 use Rattle.std.proofs.lemmas.List.{length-map}
 use Rattle.replay_state.specs.View.{config_of, job_of}
-use Rattle.replay_due_events.specs.Timings.{script_of}
+use Rattle.script_meaning.specs.Script.{said}
 use Rattle.replay_accept.specs.Cursors.{script_in}
 use Rattle.replay_accept.proofs.Passing.{missing_alike}
 use Rattle.replay_accept.proofs.rules.Rules.is_none_missing.Goals as goal
@@ -14,6 +14,6 @@ is_none_missing_before-requires g c =
 pub returns : goal.returns
 returns g c =
     let s = c.args.script.now in
-    missing_alike g.program (config_of c.args.config.now) (script_of c.up_to.result.now s.script.now.end) (script_in s) c.args.until (IsTrue c.is_none_missing_before.result)
+    missing_alike g.program (config_of c.args.config.now) (said c.up_to.result.now s.script.now.end) (script_in s) c.args.until (IsTrue c.is_none_missing_before.result)
     (λ u low high. c.up_to.ensures.due g.program (config_of c.args.config.now) u (omega (arith, low, c.requires.1.1.1.1.0.reached)) (omega (arith, high)))
     (c.is_none_missing_before.ensures s.script.now.end)

@@ -1,4 +1,4 @@
-use Rattle.std.proofs.Common.{◌≡◌, ◌≤◌, ◌<◌, ◌+◌, ◌*◌, ℕ, arith, refl, ap, sym, subst, ◌∙◌}
+use Rattle.std.proofs.Common.{◌≡◌, ◌<◌, ℕ, arith, refl, ap, subst, ◌∙◌}
 use Rattle.std.specs.Prelude.{min}
 use Rattle.run_chart.specs.Spans.{first_tick}
 use Rattle.vm_releases.specs.Begin.{script_of}

@@ -1,4 +1,4 @@
-use Rattle.std.proofs.Common.{◌≡◌, ◌<◌, ℕ, arith, ap, sym, subst, ◌∙◌}
+use Rattle.std.proofs.Common.{◌≡◌, ℕ, arith, ap, sym, subst, ◌∙◌}
 use Rattle.run_chart.specs.declared.columns.Columns.{Columns}
 use Rattle.chart_lines.specs.Columns.{AreFew, end_of}
 use Rattle.vm_chart.proofs.Following.{on_ok_both}

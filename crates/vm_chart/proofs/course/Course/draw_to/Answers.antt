@@ -1,4 +1,4 @@
-use Rattle.std.proofs.Common.{◌≡◌, ◌≤◌, ◌<◌, ◌+◌, length, arith, sym, ◌∙◌}
+use Rattle.std.proofs.Common.{◌≡◌, ◌+◌, length, arith, ◌∙◌}
 use Rattle.chart_lines.specs.Columns.{end_of}
 use Rattle.vm_chart.specs.declared.course.Course.{Course}
 use Rattle.vm_chart.specs.Follows.{Each, Follows, IsDrawnTo}

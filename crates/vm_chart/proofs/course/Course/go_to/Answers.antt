@@ -1,4 +1,4 @@
-use Rattle.std.proofs.Common.{◌≤◌, arith}
+use Rattle.std.proofs.Common.{arith}
 use Rattle.vm_chart.proofs.course.Course.go_to.Goals as goal
 
 pub row-requires : goal.row-requires

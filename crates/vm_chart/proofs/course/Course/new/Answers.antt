@@ -1,4 +1,4 @@
-use Rattle.std.proofs.Common.{◌≡◌, length, arith, refl}
+use Rattle.std.proofs.Common.{arith, refl}
 use Rattle.base.proofs.Lists.{one_of}
 use Rattle.vm_releases.proofs.Boards.{as_many}
 use Rattle.vm_releases.specs.Begin.{script_of}

@@ -1,8 +1,8 @@
-use Rattle.std.proofs.Common.{◌≡◌, ◌≤◌, ◌<◌, ◌+◌, ◌++◌, List, arith, refl, ap, sym, subst, ◌∙◌}
+use Rattle.std.proofs.Common.{◌≡◌, ◌≤◌, List, arith, refl, sym, subst, ◌∙◌}
 use Rattle.std.specs.Prelude.{All}
 use Rattle.base.specs.declared.event.Event.{Event}
 use Rattle.vm_runner.specs.Standing.{events_between}
-use Rattle.vm_chart.specs.Follows.{IsTimely, begins}
+use Rattle.vm_chart.specs.Follows.{IsBeforeLastTick, begins}
 use Rattle.vm_chart.proofs.Following.{each_at, each_unseen, fell_between, few_events, follows_to}
 use Rattle.vm_chart.proofs.Tracing.{timely_between}
 use Rattle.vm_chart.proofs.course.Course.row.Goals as goal
@@ -34,7 +34,7 @@ note_all-requires g c =
           (
             few_events d to c.requires.1.1.0.ranks c.requires.0.few short,
             (
-              subst (λ (es : List Event). All IsTimely es) (sym fell) (timely_between d.image d.script from to later within c.requires.1.1.1.0),
+              subst (λ (es : List Event). All IsBeforeLastTick es) (sym fell) (timely_between d.image d.script from to later within c.requires.1.1.1.0),
               (each_unseen d from to old.traces.items early also (each_at d from old (sym begin) c.requires.1.1.1.1.1.0), refl),
             ),
           ),

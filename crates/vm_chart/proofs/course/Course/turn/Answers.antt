@@ -1,4 +1,4 @@
-use Rattle.std.proofs.Common.{◌≡◌, ◌≤◌, ◌<◌, ◌+◌, ◌++◌, ℕ, List, arith, refl, ap, sym, subst, ◌∙◌}
+use Rattle.std.proofs.Common.{◌≡◌, ◌≤◌, ◌<◌, ℕ, List, arith, refl, ap, sym, subst, ◌∙◌}
 use Rattle.std.specs.Prelude.{All}
 use Rattle.base.specs.declared.event.Event.{Event}
 use Rattle.machine_semantics.specs.Image.{Script}
@@ -7,7 +7,7 @@ use Rattle.vm_runner.specs.Standing.{events_between}
 use Rattle.vm_state.specs.Board.{IsBoardOf, state_of}
 use Rattle.vm_state.specs.declared.machine_state.MachineState.{MachineState}
 use Rattle.vm_stretch.specs.RowLaws.{begun}
-use Rattle.vm_chart.specs.Follows.{IsTimely, begins}
+use Rattle.vm_chart.specs.Follows.{IsBeforeLastTick, begins}
 use Rattle.vm_chart.proofs.Following.{each_alike, each_at, fell_between, few_events, follows_to}
 use Rattle.vm_chart.proofs.Tracing.{timely_between}
 use Rattle.vm_chart.proofs.course.Course.turn.Goals as goal
@@ -61,7 +61,7 @@ note_all-requires g c =
           (
             few_events d to c.requires.1.1.0.ranks c.requires.0.few short,
             (
-              subst (λ (es : List Event). All IsTimely es) (sym fell) (timely_between d.image d.script from to later within c.requires.1.1.1.0),
+              subst (λ (es : List Event). All IsBeforeLastTick es) (sym fell) (timely_between d.image d.script from to later within c.requires.1.1.1.0),
               (each_alike d from to c.see_all.new.traces.items began passed alike c.see_all.ensures.each, refl),
             ),
           ),
