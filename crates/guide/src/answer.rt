@@ -1,6 +1,6 @@
 //! What a command puts.
 
-use command::rte;
+use command::whole_call;
 use outside::{MemorySink, RealFiles};
 use std::alloc::{AllocError, Global};
 use std::{fs, io};
@@ -17,7 +17,8 @@ fn words_of(alloc: Global, line: &str) -> Result<Vec<String>, AllocError> {
     Ok(words)
 }
 
-/// What `rte` puts for these words, over the files of the system. Its status goes to `status`.
+/// What `rte` puts for these words, over the files of the system, and then what it tells a person. Its
+/// status goes to `status`.
 pub fn of_rte<R: std::rt::Files + AllocGlobal>(
     rt: &R,
     words: &str,
@@ -26,9 +27,13 @@ pub fn of_rte<R: std::rt::Files + AllocGlobal>(
     let alloc = rt.alloc();
     let words = words_of(alloc, words)?;
     let mut files = RealFiles::new(alloc, rt);
-    let mut out = MemorySink::new(alloc, ROOM, Vec::new(alloc))?;
-    *status = rte(alloc, words.as_slice(), &mut files, &mut out).code();
-    Ok(String::from_utf8_lossy(alloc, out.bytes())?)
+    let out = MemorySink::new(alloc, ROOM, Vec::new(alloc))?;
+    let mut err = MemorySink::new(alloc, ROOM, Vec::new(alloc))?;
+    let (ended, out) = whole_call(alloc, words.as_slice(), &mut files, out, &mut err);
+    *status = ended.code();
+    let mut all = String::from_utf8_lossy(alloc, out.bytes())?;
+    all.push_str(String::from_utf8_lossy(alloc, err.bytes())?.as_str())?;
+    Ok(all)
 }
 
 /// The lines of a text that the call keeps, each with its end.

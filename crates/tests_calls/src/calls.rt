@@ -6,7 +6,7 @@ use std::alloc::Global;
 use std::test::Fail;
 
 /// The bytes that the sink of a call takes.
-const ROOM: usize = 1_048_576;
+pub(crate) const ROOM: usize = 1_048_576;
 
 /// What a call came to: its status, the bytes and the pieces that it put, and what P, S, I and J
 /// hold.
@@ -36,7 +36,7 @@ pub const NO_FAILURES: Failures = Failures {
 };
 
 /// The words of a line, which has one space between them; an empty line has none.
-fn words_of(alloc: Global, line: &str) -> Result<Vec<String>, Fail> {
+pub(crate) fn words_of(alloc: Global, line: &str) -> Result<Vec<String>, Fail> {
     let mut words = Vec::new(alloc);
     if line.is_empty() {
         return Ok(words);
@@ -229,7 +229,7 @@ impl CallResult {
     }
 }
 
-fn failing(alloc: Global, failures: Failures) -> Result<MemoryFiles, Fail> {
+pub(crate) fn failing(alloc: Global, failures: Failures) -> Result<MemoryFiles, Fail> {
     let reads = vec![in alloc; failures.read]?;
     let writes = vec![in alloc; failures.write]?;
     Ok(MemoryFiles::new(alloc, reads, writes))

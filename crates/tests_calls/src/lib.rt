@@ -4,12 +4,13 @@
 //! top through `answers` and its like, which compare what a call answers and puts with what it has
 //! to; or, where the files are looked at too, through `call`, `call_with`, `call_beside` and
 //! `call_on_image`, which give the status, what was put and what the files hold then as a
-//! `CallResult`.
+//! `CallResult`. `told` gives what a call tells a person.
 #![tactic(auto)]
 
 mod calls;
 mod known;
 mod programs;
+mod told;
 
 pub use calls::{
     CallResult, Expected, Failures, Left, NO_FAILURES, answers, answers_on_image, answers_with,
@@ -17,3 +18,4 @@ pub use calls::{
 };
 pub use known::{IDLE_FIRST, IDLE_SECOND, VALVE, VALVE_FIRST, VALVE_SECOND, with_byte};
 pub use programs::{GoCase, MINE, MINE_LOG, MINE_REPORT, Put, ROWS};
+pub use told::told;
