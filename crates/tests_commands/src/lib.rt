@@ -12,6 +12,7 @@ mod commands;
 mod devices;
 #[cfg(test)]
 mod earliest;
+#[cfg(test)]
 mod messages;
 #[cfg(test)]
 mod stops;
