@@ -11,4 +11,5 @@ pub mod Loads
 mod Settling
 mod Calls
 mod Clauses
+mod Tabled
 mod Tried

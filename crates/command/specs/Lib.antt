@@ -6,3 +6,4 @@ pub mod Targets
 pub mod Settled
 pub mod Tried
 pub mod Told
+pub mod Tabled

@@ -4,6 +4,7 @@ ghost use Rattle.std.specs.Prelude.{◌≡◌, ◌≢◌, ◌<◌, ◌↔◌, �
 ghost use Rattle.std.specs.Bool.{OnTrue};
 ghost use Rattle.outside.specs.Outside.{outside, AllStay};
 ghost use Rattle.command_words.specs.Calls.{Call, Load};
+ghost use Rattle.command_words.specs.Calls as call;
 ghost use Rattle.command_words.specs.Words.{IsCommand, IsMake};
 ghost use Rattle.command_answers.specs.Acts.{number_of};
 ghost use Rattle.command_answers.specs.Files.{IsDue};
@@ -14,6 +15,7 @@ ghost use Rattle.command.specs.Made.{Made};
 ghost use Rattle.command.specs.Targets.{IsNoTarget};
 ghost use Rattle.command.specs.Tried.{HasEnded, HasRead, HasWritten};
 ghost use Rattle.command.specs.Settled.{CauseStands, HasTakenNothing, IsSettled};
+ghost use Rattle.command.specs.Tabled.{TellsTable};
 ghost use Rattle.command.specs.Told.{HasTold};
 
 use crate::rte;
@@ -21,6 +23,11 @@ use crate::telling::tell;
 use command_answers::Status;
 use outside::{Buffered, Files, Sink};
 use std::alloc::Global;
+use table_law::table_costs;
+use table_tasks_law::agree_law::{
+    table_blocks, table_bounds, table_ceilings, table_in_time, table_ranks,
+};
+use table_written_law::table_text_is_written;
 
 /// Whether the status says that nothing was put.
 fn puts_nothing(status: Status<'_>) -> bool
@@ -114,11 +121,24 @@ pub fn whole_call<'a, F: Files, S: Sink, E: Sink>(
         OnTrue F.tells (number_of result.0 ≡ 0 → HasDone call
         (outside (F.state files.old) (S.state sink))
         (outside (F.state files.new) (S.state result.1))) }
+    // Status 0 of `table`: what is stored is the canonical text of a program, with the ranks, ceilings,
+    // blocks and bounds of the table, told of the table alone.
+    ensures numbers { (tasks program : List ℕ) → IsCommand words.now (call.table tasks program) →
+        OnTrue F.tells (number_of result.0 ≡ 0 → TellsTable tasks program
+        (outside (F.state files.old) (S.state sink))
+        (outside (F.state files.new) (S.state result.1))) }
     // Status 3 as of `rte`.
     ensures late { (call : Call) → IsCommand words.now call → OnTrue F.tells (number_of result.0 < 6 →
         (number_of result.0 ≡ 3) ↔ IsRefusedForTime call
         (outside (F.state files.old) (S.state sink))) }
 {
+    table_costs();
+    table_ranks();
+    table_ceilings();
+    table_blocks();
+    table_in_time();
+    table_bounds();
+    table_text_is_written();
     let mut out = Buffered::new(alloc, sink);
     let status = rte(alloc, words, files, &mut out);
     let (status, sink) = settle(status, out);

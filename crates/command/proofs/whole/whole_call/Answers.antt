@@ -2,6 +2,8 @@ use Rattle.std.proofs.Common.{inl, inr, ◌∙◌, subst, ◌<◌}
 use Rattle.command.proofs.Complete.{completes}
 use Rattle.command.proofs.Calls.{quiet_settled, read_settled, status_settled, written_settled}
 use Rattle.command.proofs.Clauses.{went_whole, made_whole, usage_whole, done_whole, late_whole, cause_whole}
+use Rattle.command_words.specs.Calls as call
+use Rattle.command.proofs.Tabled.{tells_numbers}
 use Rattle.command.proofs.whole.whole_call.Goals as goal
 
 pub returns-clause-went : goal.returns-clause-went
@@ -54,3 +56,20 @@ returns-clause-writes g c = written_settled _ _ _ _ _ _ _ c.rte-status.ensures.w
 pub returns-clause-cause : goal.returns-clause-cause
 returns-clause-cause g c =
     cause_whole _ _ _ _ _ _ _ _ c.new-out.ensures.taken c.new-out.ensures.faults c.settle.ensures.cause c.args.words.now c.rte-status.ensures.quiet c.rte-status.ensures.cause
+
+pub returns-clause-numbers : goal.returns-clause-numbers
+returns-clause-numbers g c = λ tasks program is.
+    let asked = call.table tasks program in
+    tells_numbers
+    (record {
+      processes = c.table_costs.ensures.processes;
+      costs = c.table_costs.ensures.costs;
+      ranks = c.table_ranks.ensures;
+      ceilings = c.table_ceilings.ensures;
+      blocks = c.table_blocks.ensures;
+      in_time = c.table_in_time.ensures;
+      bounds = c.table_bounds.ensures;
+      written = c.table_text_is_written.ensures;
+    })
+    g.F.Files.tells tasks program _ _ _
+    (done_whole _ _ _ _ _ _ _ _ c.new-out.ensures.taken c.new-out.ensures.faults c.requires.nothing c.settle.ensures.settled g.F.Files.tells asked (c.rte-status.ensures.went asked is) (c.rte-status.ensures.done asked is))
