@@ -22,7 +22,7 @@ use Rattle.command_programs.specs.Formats.{report_call, shown}
 use Rattle.command_answers.specs.Prepared.{IsPrepared, IsReadError, Prepares}
 use Rattle.command_answers.specs.Scripted as scripted
 use Rattle.command_programs.specs.Scripted.{IsBuiltRunDue, bytes_for}
-use Rattle.command_answers.proofs.Held.{of_held, acted, script_unread}
+use Rattle.command_answers.proofs.Held.{of_held, acted, first_unread, script_unread}
 
 pub reported : (tells : Bool) (format : Format) (program : List ℕ) (over : ℕ) (before : FilesState) (act : PreparedCall) (P : List ℕ → Type 0)
     → IsQuiet act → OnTrue tells (IsSomeAnd (before.held program) P) → ((text : List ℕ) → P text → IsReportDue (shown format) over text (outcome_of act))
@@ -31,6 +31,11 @@ reported tells format.Text program over before act P quiet is due =
     acted tells (call.check program over) before act (quiet None) (of_held tells (before.held program) P (λ text. IsReportDue report_text over text (outcome_of act)) is due)
 reported tells format.Json program over before act P quiet is due =
     acted tells (call.json program over) before act (quiet None) (of_held tells (before.held program) P (λ text. IsReportDue report_json over text (outcome_of act)) is due)
+
+pub report_unread : (tells : Bool) (format : Format) (program : List ℕ) (over : ℕ) (before now : FilesState) (why : PrepareError)
+    → IsReadError program before now why → Prepares tells (report_call format program over) before now (Err why)
+report_unread tells format.Text program over before now why error = first_unread tells (call.check program over) program before now why refl error
+report_unread tells format.Json program over before now why error = first_unread tells (call.json program over) program before now why refl error
 
 -- ---- `go`
 

@@ -190,7 +190,7 @@ fn compile_act<'a>(
 }
 
 /// `check` and `json`, by the format of the report.
-#[tactic(auto, using(command_answers::proofs::Held::first_unread, command_answers::proofs::Trying::tried_last))]
+#[tactic(auto, using(crate::proofs::Read::report_unread, command_answers::proofs::Trying::tried_last))]
 pub fn prepare_report<'a, F: Files>(
     alloc: Global,
     format: Format,
