@@ -33,6 +33,7 @@ fn message(alloc: Global, words: &[String], status: Status<'_>) -> Result<Text, 
 }
 
 /// Puts a piece by one put, unless it is empty. What the put answers is not looked at.
+#[tactic(auto, using(crate::proofs::Settling::nothing_front, crate::proofs::Settling::put_front))]
 fn put<E: Sink>(piece: &[u8], err: &mut E)
     ensures { AppendsFront (E.state err.old).taken (E.state err.new).taken piece.now }
 {
