@@ -23,12 +23,8 @@ fn message(alloc: Global, words: &[String], status: Status<'_>) -> Result<Text, 
         Status::Unwritten(name) => cannot_write(alloc, name),
         Status::Unput => Text::from_bytes(alloc, cannot_put()),
         Status::Memory => Text::from_bytes(alloc, out_of_memory()),
-        Status::Done
-        | Status::Text
-        | Status::Late
-        | Status::Image
-        | Status::Script
-        | Status::Log => Ok(Text::new(alloc)),
+        Status::Done | Status::Text | Status::Late | Status::Image | Status::Script | Status::Log =>
+            Ok(Text::new(alloc)),
     }
 }
 
