@@ -180,5 +180,5 @@ performed_cause call b m n o o' s answer at reads writes cause =
     (more_targets [] (targets s) (sources_of call) (listed (target_of call)) (outside m o) (outside n o') answer
     (λ name is. absurd (none_named name is)) (λ name is. target_is_named call s name at is) cause)
   where
-    none_named : (name : List ℕ) → Contains {List ℕ} [] name → ⊥
+    none_named : (name : List ℕ) → Contains {X = List ℕ} [] name → ⊥
     none_named name (k, low, is) = omega (arith, low)

@@ -73,9 +73,9 @@ module _ (tells : Bool) (g : Prog Place) (names : ImageNames) (same : names ≡ 
   log_error : (lines : List ScriptLine) (end : ℕ) (why : PrepareError) → OnTrue tells (IsSomeAnd (before.held script) P) → ((text : List ℕ) → P text → IsScript names text lines end)
       → NoneFell before.read_faults mid.read_faults → IsReadError log mid now why → IsLaterError tells g before now script log why
   log_error lines end (unready.Unread name) is right fell (at, failed) = (
-      subst (Failed before now) (sym at) (rose_since (before.read_faults log) (mid.read_faults log) (now.read_faults log) (fell log) failed),
-      inr (at, of_held tells (before.held script) P (IsScriptFor g) is (λ text p. (lines, end, is_for text lines end (right text p)))),
-    )
+    subst (Failed before now) (sym at) (rose_since (before.read_faults log) (mid.read_faults log) (now.read_faults log) (fell log) failed),
+    inr (at, of_held tells (before.held script) P (IsScriptFor g) is (λ text p. (lines, end, is_for text lines end (right text p)))),
+  )
   log_error lines end unready.Memory is right fell failed = tt
 
   pub log_failed : (lines : List ScriptLine) (end : ℕ) (result : Result PreparedCall PrepareError) → OnTrue tells (IsSomeAnd (before.held script) P)
@@ -129,18 +129,18 @@ module _ (tells : Bool) (program script log : List ℕ) (before mid now : FilesS
       → AllStay before.held mid.held → NoneFell before.read_faults mid.read_faults → IsLaterError tells g mid now script log why
       → Prepares tells (call.replay program script log) before now (Err why)
   later_failed g (unready.Unread name) is written stays fell (failed, of) = (
-      rose_since (before.read_faults name.now) (mid.read_faults name.now) (now.read_faults name.now) (fell name.now) failed,
-      elim of [
-        | inl at ↦ inr (inl (
-            ap (λ (n : List ℕ). Some n) (sym at),
-            of_held tells (before.held program) P (λ text. (h : Prog Place) × IsWritten text h) is (λ text p. (g, written text p)),
-          ))
-        | inr (at, right) ↦ inr (inr (
-            ap (λ (n : List ℕ). Some n) (sym at),
-            recorded tells (before.held program) (mid.held script) (before.held script) g is written right (stays script),
-          ))
-      ],
-    )
+    rose_since (before.read_faults name.now) (mid.read_faults name.now) (now.read_faults name.now) (fell name.now) failed,
+    elim of [
+      | inl at ↦ inr (inl (
+        ap (λ (n : List ℕ). Some n) (sym at),
+        of_held tells (before.held program) P (λ text. (h : Prog Place) × IsWritten text h) is (λ text p. (g, written text p)),
+      ))
+      | inr (at, right) ↦ inr (inr (
+        ap (λ (n : List ℕ). Some n) (sym at),
+        recorded tells (before.held program) (mid.held script) (before.held script) g is written right (stays script),
+      ))
+    ],
+  )
   later_failed g unready.Memory is written stays fell error = tt
 
   pub replay_prepares : (g : Prog Place) (result : Result PreparedCall PrepareError) → OnTrue tells (IsSomeAnd (before.held program) P) → ((text : List ℕ) → P text → IsWritten text g)

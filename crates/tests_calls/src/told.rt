@@ -7,12 +7,7 @@ use std::alloc::Global;
 use std::test::Fail;
 
 /// What the call of the words of the line tells a person, where P holds the program.
-pub fn told(
-    alloc: Global,
-    line: &str,
-    program: &str,
-    failures: Failures,
-) -> Result<String, Fail> {
+pub fn told(alloc: Global, line: &str, program: &str, failures: Failures) -> Result<String, Fail> {
     let words = words_of(alloc, line)?;
     let mut files = failing(alloc, failures)?;
     files.place("P", program.as_bytes())?;
