@@ -243,13 +243,30 @@ fn put_instruction(bytes: &mut Vec<u8>, number: u8, operand: u32) -> Result<(), 
     put_numbers(bytes, [operand, 0, 0].as_slice())
 }
 
-/// The image of one process of these loops, in the first version: each is one REPS and one REP, and
-/// an operand on the stack.
-fn nest_image(alloc: Global, nest: Nest) -> Result<Vec<u8>, Fail> {
-    let depth = nest.depth;
-    let length = depth.saturating_mul(2).saturating_add(1);
-    let mut bytes = hex::decode(alloc, "525445550001000100000000000000000000")?;
-    put_numbers(&mut bytes, [length].as_slice())?;
+/// Puts the tree of these loops: one inside the other, with nothing inside the last.
+fn put_tree(bytes: &mut Vec<u8>, nest: Nest) -> Result<(), Fail> {
+    for _ in 0..nest.depth {
+        bytes.extend_from_slice([0, 0, 0, 1, 3].as_slice())?;
+        put_numbers(bytes, [nest.turns].as_slice())?;
+    }
+    put_numbers(bytes, [0].as_slice())
+}
+
+/// Puts the code of these loops: each is one REPS and one REP.
+fn put_code(bytes: &mut Vec<u8>, nest: Nest) -> Result<(), Fail> {
+    for _ in 0..nest.depth {
+        put_instruction(bytes, 32, nest.turns)?;
+    }
+    for outer in (0..nest.depth).rev() {
+        put_instruction(bytes, 33, outer.saturating_add(1))?;
+    }
+    put_instruction(bytes, 48, 0)
+}
+
+/// Puts what an image of one process of these loops has behind its counts.
+fn put_nest(bytes: &mut Vec<u8>, nest: Nest) -> Result<(), Fail> {
+    let length = nest.depth.saturating_mul(2).saturating_add(1);
+    put_numbers(bytes, [length].as_slice())?;
     bytes.extend_from_slice(b"\x01a\x01p\x00".as_slice())?;
     let numbers = [
         1_000_000_000,
@@ -261,25 +278,21 @@ fn nest_image(alloc: Global, nest: Nest) -> Result<Vec<u8>, Fail> {
         0,
         nest.bound,
         0,
-        depth,
+        nest.depth,
         0,
         0,
         0,
     ];
-    put_numbers(&mut bytes, numbers.as_slice())?;
+    put_numbers(bytes, numbers.as_slice())?;
     bytes.extend_from_slice([0, 0].as_slice())?;
-    for _ in 0..depth {
-        bytes.extend_from_slice([0, 0, 0, 1, 3].as_slice())?;
-        put_numbers(&mut bytes, [nest.turns].as_slice())?;
-    }
-    put_numbers(&mut bytes, [0].as_slice())?;
-    for _ in 0..depth {
-        put_instruction(&mut bytes, 32, nest.turns)?;
-    }
-    for outer in (0..depth).rev() {
-        put_instruction(&mut bytes, 33, outer.saturating_add(1))?;
-    }
-    put_instruction(&mut bytes, 48, 0)?;
+    put_tree(bytes, nest)?;
+    put_code(bytes, nest)
+}
+
+/// The image of one process of these loops, in the first version: each has an operand on the stack.
+fn nest_image(alloc: Global, nest: Nest) -> Result<Vec<u8>, Fail> {
+    let mut bytes = hex::decode(alloc, "525445550001000100000000000000000000")?;
+    put_nest(&mut bytes, nest)?;
     Ok(bytes)
 }
 

@@ -12,36 +12,67 @@ fn push_times(text: &mut String, part: &str, times: u64) -> Result<(), Fail> {
     Ok(())
 }
 
+/// Puts a number between two texts at the end.
+fn push_number(
+    alloc: Global,
+    text: &mut String,
+    front: &str,
+    number: u64,
+    back: &str,
+) -> Result<(), Fail> {
+    let part = format!(in alloc; "{front}{number}{back}")?;
+    Ok(text.push_str(part.as_str())?)
+}
+
+/// Puts a procedure that calls nothing, with 60 parentheses around one number.
+fn push_flat(alloc: Global, text: &mut String, number: u64) -> Result<(), Fail> {
+    push_number(
+        alloc,
+        text,
+        " procedure f",
+        number,
+        "() var x : int begin x := ",
+    )?;
+    push_times(text, "(", 60)?;
+    text.push_str("1")?;
+    push_times(text, ")", 60)?;
+    push_number(alloc, text, " end f", number, "")
+}
+
+/// Puts a procedure that calls the one before it within 30 nested statements.
+fn push_link(alloc: Global, text: &mut String, number: u64) -> Result<(), Fail> {
+    push_number(alloc, text, " procedure f", number, "() begin")?;
+    push_times(text, " if true then", 30)?;
+    push_number(alloc, text, " f", number.saturating_sub(1), "()")?;
+    push_times(text, " end if", 30)?;
+    push_number(alloc, text, " end f", number, "")
+}
+
+fn push_flats(alloc: Global, text: &mut String) -> Result<(), Fail> {
+    for number in 0..300 {
+        push_flat(alloc, text, number)?;
+    }
+    Ok(text.push_str(" process p : periodic frame 10000 begin f0() end p end d")?)
+}
+
+fn push_links(alloc: Global, text: &mut String) -> Result<(), Fail> {
+    for number in 1..512 {
+        push_link(alloc, text, number)?;
+    }
+    Ok(text.push_str(" process p : periodic frame 10000 begin f511() end p end d")?)
+}
+
 /// A program of 300 procedures that call nothing, with 60 parentheses around one number each.
 fn flat_program(alloc: Global) -> Result<String, Fail> {
     let mut text = String::from_str(alloc, "program d")?;
-    for number in 0_u64..300 {
-        let head = format!(in alloc; " procedure f{number}() var x : int begin x := ")?;
-        text.push_str(head.as_str())?;
-        push_times(&mut text, "(", 60)?;
-        text.push_str("1")?;
-        push_times(&mut text, ")", 60)?;
-        let end = format!(in alloc; " end f{number}")?;
-        text.push_str(end.as_str())?;
-    }
-    text.push_str(" process p : periodic frame 10000 begin f0() end p end d")?;
+    push_flats(alloc, &mut text)?;
     Ok(text)
 }
 
 /// A program of 512 procedures, each of which calls the one before it within 30 nested statements.
 fn chain_program(alloc: Global) -> Result<String, Fail> {
     let mut text = String::from_str(alloc, "program d procedure f0() begin end f0")?;
-    for number in 1_u64..512 {
-        let head = format!(in alloc; " procedure f{number}() begin")?;
-        text.push_str(head.as_str())?;
-        push_times(&mut text, " if true then", 30)?;
-        let called = format!(in alloc; " f{}()", number.saturating_sub(1))?;
-        text.push_str(called.as_str())?;
-        push_times(&mut text, " end if", 30)?;
-        let end = format!(in alloc; " end f{number}")?;
-        text.push_str(end.as_str())?;
-    }
-    text.push_str(" process p : periodic frame 10000 begin f511() end p end d")?;
+    push_links(alloc, &mut text)?;
     Ok(text)
 }
 
