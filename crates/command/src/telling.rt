@@ -14,8 +14,8 @@ use syntax_tree::Text;
 
 /// The message of the status of a call of these words; empty where there is none.
 fn message(alloc: Global, words: &[String], status: Status<'_>) -> Result<Text, AllocError>
-    ensures text { IfOk result (λ text. text ≡ message_of words.now status) }
-    ensures some { IfErr result (λ why. HasMessage status) }
+    ensures text { IfOk result (λ text. text ≡ message_of words.now status.entry) }
+    ensures some { IfErr result (λ why. HasMessage status.entry) }
 {
     match status {
         Status::Usage => usage(alloc, words),
@@ -51,7 +51,7 @@ pub fn words_are_short<E: Sink>(err: &mut E) -> Status<'static>
 /// Puts the message of the status, by one put; where there is not enough memory for it, the one that
 /// says so. Where there is none nothing is put.
 pub fn tell<E: Sink>(alloc: Global, words: &[String], status: Status<'_>, err: &mut E)
-    ensures { HasTold words.now status (E.state err.old) (E.state err.new) }
+    ensures { HasTold words.now status.entry (E.state err.old) (E.state err.new) }
 {
     match message(alloc, words, status) {
         Ok(text) => put(text.as_bytes(), err),

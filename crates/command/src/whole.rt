@@ -31,8 +31,8 @@ use table_written_law::table_text_is_written;
 
 /// Whether the status says that nothing was put.
 fn puts_nothing(status: Status<'_>) -> bool
-    ensures yes { result ≡ true → (number_of status ≡ 6) ⊎ (number_of status ≡ 8) }
-    ensures no { result ≡ false → (number_of status ≢ 6) × (number_of status ≢ 8) }
+    ensures yes { result ≡ true → (number_of status.entry ≡ 6) ⊎ (number_of status.entry ≡ 8) }
+    ensures no { result ≡ false → (number_of status.entry ≢ 6) × (number_of status.entry ≢ 8) }
 {
     matches!(status, Status::Unread(_) | Status::Memory)
 }
@@ -41,9 +41,9 @@ fn puts_nothing(status: Status<'_>) -> bool
 /// Where nothing was put, nothing waits.
 fn settle<'a, S: Sink>(status: Status<'a>, out: Buffered<S>) -> (Status<'a>, S)
     ensures settled { IsSettled (⟦<Buffered<S> as Sink>⟧.state out) (S.state result.1)
-        (number_of status) (number_of result.0) }
+        (number_of status.entry) (number_of result.0) }
     ensures cause { CauseStands (⟦<Buffered<S> as Sink>⟧.state out) (S.state result.1)
-        status result.0 }
+        status.entry result.0 }
 {
     if puts_nothing(status) {
         return (status, out.into_sink());

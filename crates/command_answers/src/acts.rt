@@ -11,7 +11,7 @@ use syntax_tree::{Place, Text};
 
 /// The act that puts a text, and stores and runs nothing.
 pub fn put<'a>(status: Status<'a>, text: Text) -> PreparedCall<'a>
-    ensures { result ≡ puts status text }
+    ensures { result ≡ puts status.entry text }
 {
     PreparedCall {
         status,

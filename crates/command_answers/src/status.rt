@@ -33,7 +33,7 @@ impl Status<'_> {
 
     /// The exit status of the process.
     pub fn code(self) -> u8
-        ensures { result ≡ number_of self }
+        ensures { result ≡ number_of self.entry }
     {
         match self {
             Status::Done => 0,
