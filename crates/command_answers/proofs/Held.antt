@@ -4,9 +4,8 @@ use Rattle.std.specs.Prelude.{IsSomeAnd}
 use Rattle.std.specs.Bool.{OnTrue}
 use Rattle.outside.specs.Outside.{FilesState, NoneFell, Rose}
 use Rattle.command_words.specs.Calls.{Call}
-use Rattle.command_words.specs.Calls as call
 use Rattle.command_answers.specs.declared.act.PreparedCall.{PreparedCall}
-use Rattle.command_answers.specs.Files.{IsDue, ReachesLog, ReachesScript, log_file_of, script_of, source_of, target_of}
+use Rattle.command_answers.specs.Files.{IsDue, ReachesScript, script_of, source_of, target_of}
 use Rattle.command_answers.specs.Acts.{outcome_of}
 use Rattle.command_answers.specs.Acting.{CanBeDone}
 use Rattle.command_answers.specs.Prepared.{Failed, IsPrepared, IsReadError, Prepares}
