@@ -1,0 +1,7 @@
+use Rattle.std.proofs.Common.{◌≡◌, ◌++◌, drop}
+use Rattle.message_text.specs.Either.{others}
+use Rattle.message_text.proofs.Turns.{seen}
+use Rattle.message_text.proofs.either.add_others.Given as goal
+
+abbrev pub invariant-loop-index : goal.invariant-loop-index
+invariant-loop-index l = l.text ++ others (seen (drop l.index l.others)) ≡ l.fn.text ++ others (seen l.others)

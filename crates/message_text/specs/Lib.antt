@@ -1,0 +1,5 @@
+pub mod Either
+pub mod Nearest
+pub mod Rows
+pub mod Shown
+pub mod Words
