@@ -75,4 +75,4 @@ write_cause (Some s) files files' out answer is rose =
 
 pub some_store : (store : Option Store) (files files' : FilesState) → IsSomeAnd store (λ s. Rose (files.write_faults s.name.now) (files'.write_faults s.name.now)) → IsSome store
 some_store None files files' rose = absurd rose
-some_store (Some s) files files' rose = tt
+some_store (Some s) files files' rose = refl

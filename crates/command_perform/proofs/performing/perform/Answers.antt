@@ -17,5 +17,5 @@ returns-in-Err-Failed-clause-performed g c =
 
 pub returns-in-Err-Failed-clause-cause : goal.returns-in-Err-Failed-clause-cause
 returns-in-Err-Failed-clause-cause g c =
-    write_cause c.args.act.now.store (g.F.Files.state c.args.files.now) (g.F.Files.state c.store.new.files) _ c.unwritten.result c.unwritten.ensures.name
+    write_cause c.args.act.now.store (g.F.Files.state c.args.files.now) (g.F.Files.state c.store.new.files) (g.O.Sink.state c.args.out.now) c.unwritten.result c.unwritten.ensures.name
     (c.in-Err-Failed.ensures.failed (ap Err c.in-Err-Failed.field-0-is))

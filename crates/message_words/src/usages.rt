@@ -1,0 +1,155 @@
+//! The message for words that are no call.
+
+ghost use Rattle.std.specs.Prelude.{◌≡◌, ◌++◌, OnOk, IfOk, bytes_eq, find, map, not, option_map, string_bytes};
+ghost use Rattle.command_words.specs.Words.{is_word};
+ghost use Rattle.message_words.specs.Usage.{hint, rows as all_rows, told, unknown, usage, wrong};
+ghost use Rattle.message_words.specs.Seen.{row_of};
+
+use crate::rows::{Row, rows};
+use crate::tables::add_table;
+use message_text::{add_quoted, nearest};
+use std::alloc::{AllocError, Global};
+use syntax_tree::Text;
+
+/// Whether a word is not empty, and begins with no dash.
+fn is_word(word: &[u8]) -> bool
+    ensures { result ≡ is_word word.now }
+{
+    match word {
+        [] => false,
+        [first, ..] => *first != b'-',
+    }
+}
+
+/// Whether a word is empty or begins with a dash.
+fn is_no_word(word: &String) -> bool
+    ensures { result ≡ not (is_word (string_bytes word.now)) }
+{
+    !is_word(word.as_bytes())
+}
+
+/// The first word that is empty or begins with a dash.
+fn first_no_word(words: &[String]) -> Option<&[u8]>
+    ensures { option_map (λ word. word.now) result ≡
+        find (λ word. not (is_word word)) (map string_bytes words.now) }
+{
+    for word in words {
+        if is_no_word(word) {
+            return Some(word.as_bytes());
+        }
+    }
+    None
+}
+
+/// Puts what is wrong with the words of a command.
+fn add_wrong(text: &mut Text, word: &[u8], words: &[String]) -> Result<(), AllocError>
+    ensures { OnOk result (text.new ≡ text.old ++
+        wrong word.now (find (λ word. not (is_word word)) (map string_bytes words.now))) }
+{
+    match first_no_word(words) {
+        None => {
+            text.extend(b"rte: wrong words for ")?;
+            add_quoted(text, word)?;
+            text.extend(b"\n")
+        }
+        Some(other) => {
+            text.extend(b"rte: no word is empty or begins with `-`: ")?;
+            add_quoted(text, other)?;
+            text.extend(b"\n")
+        }
+    }
+}
+
+/// Puts the nearest command, if there is one.
+fn add_hint(text: &mut Text, nearest: Option<&[u8]>) -> Result<(), AllocError>
+    ensures { OnOk result (text.new ≡ text.old ++ hint (option_map (λ word. word.now) nearest.entry)) }
+{
+    match nearest {
+        None => Ok(()),
+        Some(command) => {
+            text.extend(b"; the nearest is ")?;
+            add_quoted(text, command)
+        }
+    }
+}
+
+/// The commands of these rows.
+fn commands(alloc: Global, rows: &[Row]) -> Result<Vec<&'static [u8]>, AllocError>
+    ensures { IfOk result (λ all.
+        map (λ command. command.now) all.items ≡ map (λ row. row.command) (map row_of rows.now)) }
+{
+    let mut all = Vec::new(alloc);
+    for row in rows {
+        all.push(row.command.as_bytes())?;
+    }
+    Ok(all)
+}
+
+/// Puts what is told of a first word that is no command.
+fn add_unknown(alloc: Global, text: &mut Text, word: &[u8]) -> Result<(), AllocError>
+    ensures { OnOk result (text.new ≡ text.old ++ unknown word.now) }
+{
+    if word == b"help".as_slice() {
+        return Ok(());
+    }
+    let all = commands(alloc, rows())?;
+    let near = nearest(alloc, word, all.as_slice())?;
+    text.extend(b"rte: ")?;
+    add_quoted(text, word)?;
+    text.extend(b" is no command")?;
+    add_hint(text, near)?;
+    text.extend(b"\n")
+}
+
+/// Whether the word is the command of a row.
+fn is_command(row: &Row, word: &[u8]) -> bool
+    ensures { result ≡ bytes_eq row.now.command.now word.now }
+{
+    row.command.as_bytes() == word
+}
+
+/// The row of a command, if the word is one.
+fn row_of_command(rows: &'static [Row], word: &[u8]) -> Option<&'static Row>
+    ensures { option_map (λ row. row_of row.now) result ≡
+        find (λ row. bytes_eq row.command word.now) (map row_of rows.now) }
+{
+    for row in rows {
+        if is_command(row, word) {
+            return Some(row);
+        }
+    }
+    None
+}
+
+/// Puts what is told of these words, whose first is this.
+fn add_told(alloc: Global, text: &mut Text, words: &[String], word: &[u8]) -> Result<(), AllocError>
+    ensures { OnOk result (text.new ≡ text.old ++ told (map string_bytes words.now) word.now
+        (find (λ row. bytes_eq row.command word.now) all_rows)) }
+{
+    match row_of_command(rows(), word) {
+        Some(row) => {
+            add_wrong(text, word, words)?;
+            add_table(text, &[*row])
+        }
+        None => {
+            add_unknown(alloc, text, word)?;
+            add_table(text, rows())
+        }
+    }
+}
+
+/// The message for words that are no call: what is wrong with them; the row of their command, or
+/// all rows; and what the signs in these rows stand for.
+pub fn usage(alloc: Global, words: &[String]) -> Result<Text, AllocError>
+    ensures { IfOk result (λ text. text ≡ usage (map string_bytes words.now)) }
+{
+    let mut text = Text::new(alloc);
+    match words {
+        [] => {
+            text.extend(b"rte: a command is wanted\n")?;
+            add_table(&mut text, rows())?;
+        }
+        [word, ..] => add_told(alloc, &mut text, words, word.as_bytes())?,
+    }
+    Ok(text)
+}
