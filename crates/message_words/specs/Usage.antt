@@ -16,7 +16,7 @@ abbrev pub row : (command places does sign : List ℕ) → Row
 row command places does sign = record { command = command; places = places; does = does; sign = sign }
 
 -- the table: each command once
-abbrev pub rows : List Row
+unfoldable pub rows : List Row
 rows =
     row (codes "go") (codes "P I S [K]") (codes "check P, store its image in I, put report and log over script S") (codes "K")
     ∷ row (codes "check") (codes "P [K]") (codes "check P and put its report") (codes "K")
@@ -50,14 +50,23 @@ row_line r = codes "  rte " ++ (form r ++ (codes " " ++ (r.does ++ codes "\n")))
 abbrev pub explained : List Row → (sign text : List ℕ) → List ℕ
 explained shown sign text = if list_any (λ r. bytes_eq r.sign sign) shown then text else []
 
+-- what the signs stand for
+abbrev pub overhead_line : List Row → List ℕ
+overhead_line shown = explained shown (codes "K") (codes "K: overhead in ticks, 0 to 1000; 0 where it is not given\n")
+
+abbrev pub stop_line : List Row → List ℕ
+stop_line shown = explained shown (codes "T") (codes "T: a tick, 0 to 1000000000; or @A for after address A, 0 to 65534\n")
+
+abbrev pub ticks_line : List Row → List ℕ
+ticks_line shown = explained shown (codes "A B") (codes "A B: ticks, A below B; A to 999999999, B to 1000000000\n")
+
+abbrev pub key_line : List Row → List ℕ
+key_line shown = explained shown (codes "KEY") (codes "KEY: 0 to 18446744073709551615; N: 1 to 64\n")
+
 -- the rows, then a line for each of their signs
 abbrev pub table : List Row → List ℕ
 table shown =
-    flat_map row_line shown
-    ++ (explained shown (codes "K") (codes "K: overhead in ticks, 0 to 1000; 0 where it is not given\n")
-    ++ (explained shown (codes "T") (codes "T: a tick, 0 to 1000000000; or @A for after address A, 0 to 65534\n")
-    ++ (explained shown (codes "A B") (codes "A B: ticks, A below B; A to 999999999, B to 1000000000\n")
-    ++ explained shown (codes "KEY") (codes "KEY: 0 to 18446744073709551615; N: 1 to 64\n"))))
+    flat_map row_line shown ++ (overhead_line shown ++ (stop_line shown ++ (ticks_line shown ++ key_line shown)))
 
 -- what is wrong with the words of a command
 abbrev pub wrong : (word : List ℕ) (no_word : Option (List ℕ)) → List ℕ
@@ -69,18 +78,24 @@ abbrev pub hint : Option (List ℕ) → List ℕ
 hint None = []
 hint (Some command) = codes "; the nearest is " ++ quoted command
 
+-- a word that is no command, and the nearest one
+abbrev pub no_command : (word : List ℕ) (near : Option (List ℕ)) → List ℕ
+no_command word near = codes "rte: " ++ (quoted word ++ (codes " is no command" ++ (hint near ++ codes "\n")))
+
 -- a first word that is no command; `help` is none either, and nothing is said of it
 abbrev pub unknown : List ℕ → List ℕ
-unknown word =
-    if bytes_eq word (codes "help") then []
-    else codes "rte: " ++ (quoted word ++ (codes " is no command" ++ (hint (nearest word (map (λ r. r.command) rows)) ++ codes "\n")))
+unknown word = if bytes_eq word (codes "help") then [] else no_command word (nearest word (map (λ r. r.command) rows))
 
 -- the message for words whose first is this, with the row of the command that it is
 abbrev pub told : (words : List (List ℕ)) (word : List ℕ) (row : Option Row) → List ℕ
 told words word (Some r) = wrong word (find (λ w. not (is_word w)) words) ++ table (r ∷ [])
 told words word None = unknown word ++ table rows
 
+-- without words a command is wanted
+abbrev pub told_of : List (List ℕ) → List ℕ
+told_of [] = codes "rte: a command is wanted\n" ++ table rows
+told_of (word ∷ words) = told (word ∷ words) word (find (λ r. bytes_eq r.command word) rows)
+
 -- the message for words that are no call
 unfoldable pub usage : List (List ℕ) → List ℕ
-usage [] = codes "rte: a command is wanted\n" ++ table rows
-usage (word ∷ words) = told (word ∷ words) word (find (λ r. bytes_eq r.command word) rows)
+usage words = told_of words

@@ -127,6 +127,7 @@ const ROWS: [Row; 18] = [
 ];
 
 /// The table.
+#[tactic(auto, unfolding(crate::specs::Usage::rows))]
 pub(crate) fn rows() -> &'static [Row]
     ensures { map row_of result.now ≡ rows }
 {

@@ -49,12 +49,13 @@ fn add_rows(text: &mut Text, rows: &[Row]) -> Result<(), AllocError>
 fn has_sign(rows: &[Row], sign: &str) -> bool
     ensures { result ≡ list_any (λ row. bytes_eq row.sign.now sign.now) rows.now }
 {
-    rows.iter().any(|row| row.sign.as_bytes() == sign.as_bytes())
+    rows.iter()
+        .any(|row| row.sign.as_bytes() == sign.as_bytes())
 }
 
 /// Puts this, if it is told.
 fn add_if(text: &mut Text, is_told: bool, told: &str) -> Result<(), AllocError>
-    ensures { OnOk result (text.new ≡ text.old ++ if is_told then told.now else []) }
+    ensures { OnOk result (text.new ≡ text.old ++ (if is_told then told.now else [])) }
 {
     if is_told {
         return text.extend(told.as_bytes());

@@ -1,8 +1,9 @@
 //! The message for words that are no call.
 
-ghost use Rattle.std.specs.Prelude.{◌≡◌, ◌++◌, OnOk, IfOk, bytes_eq, find, map, not, option_map, string_bytes};
+ghost use Rattle.std.specs.Prelude.{◌≡◌, ◌++◌, OnOk, IfOk, bytes_eq, codes, find, map, not, option_map, string_bytes};
 ghost use Rattle.command_words.specs.Words.{is_word};
-ghost use Rattle.message_words.specs.Usage.{hint, rows as all_rows, told, unknown, usage, wrong};
+ghost use Rattle.message_text.specs.Nearest.{nearest};
+ghost use Rattle.message_words.specs.Usage.{hint, no_command, rows as all_rows, table, told, told_of, unknown, usage, wrong};
 ghost use Rattle.message_words.specs.Seen.{row_of};
 
 use crate::rows::{Row, rows};
@@ -85,20 +86,43 @@ fn commands(alloc: Global, rows: &[Row]) -> Result<Vec<&'static [u8]>, AllocErro
     Ok(all)
 }
 
-/// Puts what is told of a first word that is no command.
-fn add_unknown(alloc: Global, text: &mut Text, word: &[u8]) -> Result<(), AllocError>
-    ensures { OnOk result (text.new ≡ text.old ++ unknown word.now) }
+/// The nearest command, if one is near.
+fn nearest_command(alloc: Global, word: &[u8]) -> Result<Option<&'static [u8]>, AllocError>
+    ensures { IfOk result (λ found. option_map (λ command. command.now) found ≡
+        nearest word.now (map (λ row. row.command) all_rows)) }
 {
-    if word == b"help".as_slice() {
-        return Ok(());
-    }
     let all = commands(alloc, rows())?;
-    let near = nearest(alloc, word, all.as_slice())?;
+    nearest(alloc, word, all.as_slice())
+}
+
+/// Puts that a word is no command, and the nearest one.
+fn add_no_command(text: &mut Text, word: &[u8], near: Option<&[u8]>) -> Result<(), AllocError>
+    ensures { OnOk result (text.new ≡ text.old ++
+        no_command word.now (option_map (λ command. command.now) near.entry)) }
+{
     text.extend(b"rte: ")?;
     add_quoted(text, word)?;
     text.extend(b" is no command")?;
     add_hint(text, near)?;
     text.extend(b"\n")
+}
+
+/// Whether the word asks for help.
+fn is_help(word: &[u8]) -> bool
+    ensures { result ≡ bytes_eq word.now (codes "help") }
+{
+    word == b"help".as_slice()
+}
+
+/// Puts what is told of a first word that is no command.
+fn add_unknown(alloc: Global, text: &mut Text, word: &[u8]) -> Result<(), AllocError>
+    ensures { OnOk result (text.new ≡ text.old ++ unknown word.now) }
+{
+    if is_help(word) {
+        return Ok(());
+    }
+    let near = nearest_command(alloc, word)?;
+    add_no_command(text, word, near)
 }
 
 /// Whether the word is the command of a row.
@@ -121,35 +145,58 @@ fn row_of_command(rows: &'static [Row], word: &[u8]) -> Option<&'static Row>
     None
 }
 
+/// The row of the table whose command the word is, if it is one.
+fn command_row(word: &[u8]) -> Option<&'static Row>
+    ensures { option_map (λ row. row_of row.now) result ≡
+        find (λ row. bytes_eq row.command word.now) all_rows }
+{
+    row_of_command(rows(), word)
+}
+
+/// Puts the whole table.
+fn add_all(text: &mut Text) -> Result<(), AllocError>
+    ensures { OnOk result (text.new ≡ text.old ++ table all_rows) }
+{
+    add_table(text, rows())
+}
+
 /// Puts what is told of these words, whose first is this.
 fn add_told(alloc: Global, text: &mut Text, words: &[String], word: &[u8]) -> Result<(), AllocError>
     ensures { OnOk result (text.new ≡ text.old ++ told (map string_bytes words.now) word.now
         (find (λ row. bytes_eq row.command word.now) all_rows)) }
 {
-    match row_of_command(rows(), word) {
+    match command_row(word) {
         Some(row) => {
             add_wrong(text, word, words)?;
             add_table(text, &[*row])
         }
         None => {
             add_unknown(alloc, text, word)?;
-            add_table(text, rows())
+            add_all(text)
         }
+    }
+}
+
+/// Puts what is told of these words.
+fn add_usage(alloc: Global, text: &mut Text, words: &[String]) -> Result<(), AllocError>
+    ensures { OnOk result (text.new ≡ text.old ++ told_of (map string_bytes words.now)) }
+{
+    match words {
+        [] => {
+            text.extend(b"rte: a command is wanted\n")?;
+            add_all(text)
+        }
+        [word, ..] => add_told(alloc, text, words, word.as_bytes()),
     }
 }
 
 /// The message for words that are no call: what is wrong with them; the row of their command, or
 /// all rows; and what the signs in these rows stand for.
+#[tactic(auto, unfolding(crate::specs::Usage::usage))]
 pub fn usage(alloc: Global, words: &[String]) -> Result<Text, AllocError>
     ensures { IfOk result (λ text. text ≡ usage (map string_bytes words.now)) }
 {
     let mut text = Text::new(alloc);
-    match words {
-        [] => {
-            text.extend(b"rte: a command is wanted\n")?;
-            add_table(&mut text, rows())?;
-        }
-        [word, ..] => add_told(alloc, &mut text, words, word.as_bytes())?,
-    }
+    add_usage(alloc, &mut text, words)?;
     Ok(text)
 }
