@@ -9,7 +9,8 @@
 #![tactic(auto)]
 
 ghost use Rattle.std.specs.Prelude.{◌≡◌, IfOk};
-ghost use Rattle.message_failure.specs.Failure.{cannot_put, cannot_read, cannot_write, out_of_memory};
+ghost use Rattle.message_failure.specs.Failure.{cannot_put, cannot_read, cannot_write};
+ghost use Rattle.message_failure.specs.Failure.{out_of_memory};
 
 use message_text::add_plain;
 use std::alloc::{AllocError, Global};

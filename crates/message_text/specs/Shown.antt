@@ -1,5 +1,5 @@
 -- A line of a text, as it is shown, with carets below it.
-use Rattle.std.specs.Prelude.{ℕ, Bool, ◌+◌, ◌-◌, ◌++◌, ◌==◌, List, [], ◌∷◌, length, take, drop, min, max, codes, decimal, replicate, nat_lt, if◌then◌else◌}
+use Rattle.std.specs.Prelude.{ℕ, Bool, ◌-◌, ◌++◌, ◌==◌, List, [], ◌∷◌, length, take, drop, min, max, codes, decimal, replicate, nat_lt, if◌then◌else◌}
 use Rattle.std.specs.List.{slice_split, slice_index_or}
 use Rattle.message_text.specs.Words.{plain}
 

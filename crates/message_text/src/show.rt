@@ -1,7 +1,8 @@
 //! A line of a text, with carets below it.
 
 ghost use Rattle.std.specs.Prelude.{◌≡◌, ◌≤◌, ◌-◌, ◌++◌, true, OnOk, length};
-ghost use Rattle.message_text.specs.Shown.{aligned, caret_line, carets, front, left_out, show, show_line, shown, window};
+ghost use Rattle.message_text.specs.Shown.{aligned, caret_line, carets, front, left_out};
+ghost use Rattle.message_text.specs.Shown.{show, show_line, shown, window};
 
 use crate::lines::line;
 use crate::put::add_repeated;

@@ -1,6 +1,6 @@
 -- The message for three words that are no call.
 use Rattle.std.proofs.Common.{refl}
-use Rattle.std.specs.Prelude.{◌≡◌, List, [], ◌∷◌, codes}
+use Rattle.std.specs.Prelude.{◌≡◌, [], ◌∷◌, codes}
 use Rattle.message_words.specs.Usage.{rows, usage}
 
 -- an overhead that is too large

@@ -1,9 +1,11 @@
 //! The message for words that are no call.
 
-ghost use Rattle.std.specs.Prelude.{◌≡◌, ◌++◌, OnOk, IfOk, bytes_eq, codes, find, map, not, option_map, string_bytes};
+ghost use Rattle.std.specs.Prelude.{◌≡◌, ◌++◌, OnOk, IfOk, bytes_eq, codes, find};
+ghost use Rattle.std.specs.Prelude.{map, not, option_map, string_bytes};
 ghost use Rattle.command_words.specs.Words.{is_word};
 ghost use Rattle.message_text.specs.Nearest.{nearest};
-ghost use Rattle.message_words.specs.Usage.{hint, no_command, rows as all_rows, table, told, told_of, unknown, usage, wrong};
+ghost use Rattle.message_words.specs.Usage.{hint, no_command, rows as all_rows, table};
+ghost use Rattle.message_words.specs.Usage.{told, told_of, unknown, usage, wrong};
 ghost use Rattle.message_words.specs.Seen.{row_of};
 
 use crate::rows::{Row, rows};
@@ -63,7 +65,8 @@ fn add_wrong(text: &mut Text, word: &[u8], words: &[String]) -> Result<(), Alloc
 
 /// Puts the nearest command, if there is one.
 fn add_hint(text: &mut Text, nearest: Option<&[u8]>) -> Result<(), AllocError>
-    ensures { OnOk result (text.new ≡ text.old ++ hint (option_map (λ word. word.now) nearest.entry)) }
+    ensures { OnOk result
+        (text.new ≡ text.old ++ hint (option_map (λ word. word.now) nearest.entry)) }
 {
     match nearest {
         None => Ok(()),

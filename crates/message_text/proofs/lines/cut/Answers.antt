@@ -1,4 +1,4 @@
-use Rattle.std.proofs.Common.{◌==◌, take_all, arith}
+use Rattle.std.proofs.Common.{◌==◌, take_all}
 use Rattle.std.proofs.lemmas.List.{take_rest}
 use Rattle.std.proofs.lemmas.List.Splits.{slice_split_none}
 use Rattle.message_text.proofs.Cuts.{lines_cut, before_more}

@@ -1,4 +1,4 @@
-use Rattle.std.proofs.Common.{◌++◌, ◌≤◌, length, get_or, List, [], ℕ, refl, arith}
+use Rattle.std.proofs.Common.{◌≤◌, length, get_or, List, [], ℕ, refl, arith}
 use Rattle.std.proofs.lemmas.List.{get_or_default}
 use Rattle.std.specs.Borrow.{Bor}
 use Rattle.std.specs.List.{concat}

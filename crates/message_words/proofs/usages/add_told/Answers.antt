@@ -1,4 +1,4 @@
-use Rattle.std.proofs.Common.{◌≡◌, ◌++◌, ℕ, List, OnOk, Option, None, map, subst}
+use Rattle.std.proofs.Common.{◌≡◌, ◌++◌, ℕ, List, OnOk, Option, map, subst}
 use Rattle.std.specs.Prelude.{string_bytes}
 use Rattle.message_words.specs.Usage.{Row, rows, table, told, unknown}
 use Rattle.message_words.proofs.Told.{joined}
