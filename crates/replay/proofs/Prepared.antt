@@ -1,5 +1,5 @@
 -- What is due of `replay`, by what files hold.
-use Rattle.std.proofs.Common.{◌≡◌, ◌≢◌, ◌<◌, ◌^◌, ◌⊎◌, ℕ, List, Option, Some, None, Bool, true, false, Ok, Err, inl, inr, arith, refl, subst}
+use Rattle.std.proofs.Common.{◌≡◌, ◌≢◌, ◌<◌, ◌^◌, ◌⊎◌, ℕ, List, Option, Some, None, Bool, true, false, Ok, Err, inl, inr, arith, refl, subst, sym, ap}
 use Rattle.std.specs.Prelude.{Result, IfErr, IfOk, IsSomeAnd}
 use Rattle.std.specs.Bool.{OnTrue}
 use Rattle.syntax_tree.specs.declared.place.Place.{Place}
