@@ -1,5 +1,5 @@
 -- What is prepared and performed went as is due.
-use Rattle.std.proofs.Common.{◌≡◌, ◌≢◌, ◌≤◌, ◌<◌, ◌⊎◌, ◌∙◌, ℕ, List, [], Option, Some, None, Bool, true, false, inl, inr, refl, sym, subst, ap, arith}
+use Rattle.std.proofs.Common.{◌≡◌, ◌≢◌, ◌≤◌, ◌<◌, ◌⊎◌, ◌∙◌, ℕ, List, [], Option, Some, None, Bool, true, false, Err, inl, inr, refl, sym, subst, ap, arith}
 use Rattle.std.specs.Prelude.{Contains, IsSomeAnd, IfSome}
 use Rattle.std.specs.Bool.{OnTrue}
 use Rattle.outside.specs.Outside.{FilesState, SinkState, Outside, outside, Rose, AllStay, NoneFell}
@@ -12,9 +12,12 @@ use Rattle.command_answers.specs.Causes.{HasCause}
 use Rattle.command_answers.specs.Files.{Held, listed, sources_of, target_of}
 use Rattle.command_answers.specs.Acts.{number_of, outcome_of, bytes_due, IsAtTarget}
 use Rattle.command_answers.specs.Went.{IsAnswer, IsStored, Stores, IsWhole, WriteFailed, PutFailed, HasText, IsCut, ReadFailed, Went}
-use Rattle.command_answers.specs.Prepared.{Failed, IsPrepared, IsReached}
+use Rattle.command_answers.specs.Prepared.{Failed, IsPrepared, IsReached, Prepares}
+use Rattle.command_answers.specs.declared.prepare_error.PrepareError.{PrepareError}
+use Rattle.command_answers.specs.declared.prepare_error.PrepareError.TheVariants as unready
+use Rattle.std.specs.Borrow.{Bor}
 use Rattle.command_perform.specs.Performed.{StoresIt, OthersKept, StoreFailed, Performed, targets}
-use Rattle.command_answers.proofs.Caused.{cause_since, more_targets}
+use Rattle.command_answers.proofs.Caused.{cause_since, more_targets, reached_is_named}
 use Rattle.command_answers.proofs.Held.{rose_since}
 
 stay_since : (b m n : Held) → AllStay b m → AllStay m n → AllStay b n
@@ -182,3 +185,10 @@ performed_cause call b m n o o' s answer at reads writes cause =
   where
     none_named : (name : List ℕ) → Contains {X = List ℕ} [] name → ⊥
     none_named name (k, low, is) = omega (arith, low)
+
+-- a read that failed is of a file that the call names
+pub unread_cause : (tells : Bool) (call : Call) (b n : FilesState) (o : SinkState) (why : PrepareError) (name : Bor (List ℕ)) → Prepares tells call b n (Err why) → why ≡ unready.Unread name
+    → HasCause (sources_of call) (listed (target_of call)) (outside b o) (outside n o) (status.Unread name)
+unread_cause tells call b n o why name prepared is =
+    let failed = subst (λ (w : PrepareError). Prepares tells call b n (Err w)) is prepared in
+    (reached_is_named tells call b.held name.now failed.1, failed.0)

@@ -71,5 +71,5 @@ pub returns-in-None-clause-cause : goal.returns-in-None-clause-cause
 returns-in-None-clause-cause g c = record {
   command = λ call is. absurd (c.in-None.ensures.commands call is);
   load = λ load is. absurd (c.in-None.ensures.loads load is);
-  other = λ no no_load. c.usage.ensures.cause _ _;
+  other = λ no no_load. c.usage.ensures.cause (g.F.Files.state c.args.files.now) (g.F.Files.state c.args.files.now);
 }
