@@ -9,13 +9,13 @@
 
 mod calls;
 mod known;
+mod messages;
 mod programs;
-mod told;
 
 pub use calls::{
     CallResult, Expected, Failures, Left, NO_FAILURES, answers, answers_on_image, answers_with,
     call, call_beside, call_on_image, call_with, image_of, lines, put_of,
 };
 pub use known::{IDLE_FIRST, IDLE_SECOND, VALVE, VALVE_FIRST, VALVE_SECOND, with_byte};
+pub use messages::told;
 pub use programs::{GoCase, MINE, MINE_LOG, MINE_REPORT, Put, ROWS};
-pub use told::told;
