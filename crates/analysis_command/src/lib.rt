@@ -14,6 +14,7 @@ pub mod found_law;
 mod goals;
 mod graph;
 mod image_of_program;
+mod late;
 mod levels;
 mod naming;
 mod order;

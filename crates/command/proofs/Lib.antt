@@ -13,3 +13,5 @@ mod Calls
 mod Clauses
 mod Tabled
 mod Tried
+pub mod Putting
+mod Explained

@@ -1,8 +1,8 @@
 -- What is below a buffer, by what the buffer has taken.
-use Rattle.std.proofs.Common.{◌≡◌, ◌≤◌, ◌⊎◌, ◌∙◌, ◌++◌, ◌+◌, ◌-◌, ◌^◌, ◌∷◌, ℕ, List, [], Option, Some, None, Result, Ok, Err, OnErr, OnOk, inl, inr, refl, sym, ap, subst, arith, append_assoc, append-nil}
+use Rattle.std.proofs.Common.{◌≡◌, ◌≤◌, ◌⊎◌, ◌∙◌, ◌++◌, ◌+◌, ◌-◌, ◌^◌, ◌∷◌, ℕ, List, [], Option, Some, None, Result, Ok, Err, OnErr, inl, inr, refl, sym, ap, subst, arith, append_assoc, append-nil}
 use Rattle.std.specs.Prelude.{min}
 use Rattle.std.proofs.Math.Nat.{le-min, min-le_right}
-use Rattle.outside.specs.Outside.{SinkState, Rose, Appends, Appends-nothing, AppendsFront, HasTakenSome}
+use Rattle.outside.specs.Outside.{SinkState, Rose, Appends, AppendsFront, HasTakenSome}
 use Rattle.command_answers.specs.Went.{HasText}
 use Rattle.command.specs.Settled.{HasTakenNothing}
 
@@ -46,15 +46,6 @@ front_below None m None x rest none (front, more, cut, is) below = (front, more,
 -- all that was put is a front of itself
 pub whole_front : (b m : Option (List ℕ)) (x : List ℕ) → Appends b m x → AppendsFront b m x
 whole_front b m x is = (x, [], sym (append-nil x), is)
-
--- nothing is a front of nothing
-pub nothing_front : (b : Option (List ℕ)) → AppendsFront b b []
-nothing_front b = ([], [], refl, Appends-nothing b)
-
--- what a put took is a front of its piece, whatever it answers
-pub put_front : {A E : Type 0} (r : Result A E) (b m : Option (List ℕ)) (x : List ℕ) → OnOk r (Appends b m x) → OnErr r (AppendsFront b m x) → AppendsFront b m x
-put_front (Ok v) b m x whole front = whole_front b m x whole
-put_front (Err e) b m x whole front = front
 
 -- where something was taken, the text was something
 pub text_taken : (b m : Option (List ℕ)) (text : List ℕ) → HasTakenNothing b → HasTakenSome m → Appends b m text → HasText b text

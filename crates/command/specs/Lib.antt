@@ -7,3 +7,5 @@ pub mod Settled
 pub mod Tried
 pub mod Told
 pub mod Tabled
+pub mod Explained
+pub mod Informed

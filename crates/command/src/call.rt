@@ -9,6 +9,8 @@ ghost use Rattle.command_answers.specs.Acts.{number_of};
 ghost use Rattle.command_answers.specs.Files.{IsDue};
 ghost use Rattle.command_answers.specs.Went.{Went, Completes, IsUsage};
 ghost use Rattle.command_due.specs.CommandsDue.{Outcome};
+ghost use Rattle.command.specs.Explained.{IsToldRight};
+ghost use Rattle.command.specs.Told.{IsRefusal};
 ghost use Rattle.command.specs.Made.{Made};
 ghost use Rattle.command_answers.specs.Promise.{HasDone, IsRefusedForTime};
 ghost use Rattle.command.specs.Targets.{IsNoTarget};
@@ -36,6 +38,7 @@ use outside::{Files, Sink};
 use printed_law::printed_programs::printed_trees_are_written;
 use sched_program_law::one_judgement::never_in_time_and_not;
 use std::alloc::Global;
+use syntax_tree::Text;
 use syntax_printer::{reads_back, tokens_are_spelled};
 use table_written_law::table_text_is_written;
 use valid_image_law::validity_law::every_valid_image_is_safe_and_in_time;
@@ -73,12 +76,14 @@ use vm_law::suitable_scripts::scripts_suit;
 /// The answer is the first status that is due in the order of the steps: the words, reading P, I, A
 /// or F, its faults, its time, reading S, its faults, reading L, its faults and the verdict,
 /// storing, putting. `make` reads nothing, and its texts have no fault. The want of memory, 8, may
-/// come at any step.
+/// come at any step. With status 2, 3, 4, 5 and 9 the given message is what a person is to be told;
+/// with another it says nothing.
 pub fn rte<'a, F: Files, O: Sink>(
     alloc: Global,
     words: &'a [String],
     files: &mut F,
     out: &mut O,
+    message: &mut Text,
 ) -> Status<'a>
     // A call of a command went as is due, by what its files hold.
     ensures went { (call : Call) → IsCommand words.now call → Went F.tells call
@@ -125,6 +130,12 @@ pub fn rte<'a, F: Files, O: Sink>(
     // status 0, 7 and 8.
     ensures writes { HasWritten words.now (F.state files.old).writes (F.state files.new).writes
         (number_of result) }
+    // A command that is refused by what a file holds: the message tells the fault whose line, or the
+    // lateness whose report, was put, by the bytes of that file and the name that the words have for
+    // it.
+    ensures told { (call : Call) → IsCommand words.now call → OnTrue F.tells (IsRefusal result →
+        IsToldRight call (outside (F.state files.old) (O.state out.old))
+        (outside (F.state files.new) (O.state out.new)) (number_of result) message.new) }
     // Status 0: of `go`, the text is that of a program that is in time by its text, with these
     // bounds, and the script one, what is stored is the image of the program and holds it, what was
     // put is its report and the log of that image over the script; and over every script for its
@@ -175,5 +186,5 @@ pub fn rte<'a, F: Files, O: Sink>(
     printed_trees_are_written();
     table_text_is_written();
     tokens_are_spelled();
-    carry_out(alloc, words, files, out)
+    carry_out(alloc, message, words, files, out)
 }

@@ -10,6 +10,9 @@ ghost use Rattle.command_answers.specs.Files.{listed, sources_of, target_of};
 ghost use Rattle.command_answers.specs.Tried.{HasTried, HasTriedTarget};
 ghost use Rattle.command_answers.specs.Went.{Went, IsUsage};
 ghost use Rattle.command.specs.Made.{Made};
+ghost use Rattle.std.specs.Bool.{OnTrue};
+ghost use Rattle.command.specs.Explained.{IsToldRight};
+ghost use Rattle.command.specs.Told.{IsRefusal};
 ghost use Rattle.command.specs.Targets.{IsNoTarget};
 ghost use Rattle.command.specs.Tried.{HasEnded, HasRead, HasWritten};
 
@@ -20,6 +23,7 @@ use command_words::words::{no_command_is_a_load, one_command, one_load};
 use command_words::{Command, Request, read_words};
 use outside::{Files, Sink};
 use std::alloc::Global;
+use syntax_tree::Text;
 
 /// Puts the usage.
 fn usage<'a, O: Sink>(out: &mut O) -> Status<'a>
@@ -40,6 +44,7 @@ fn usage<'a, O: Sink>(out: &mut O) -> Status<'a>
 /// Prepares what is due of a command, and performs it.
 fn carry<'a, F: Files, O: Sink>(
     alloc: Global,
+    message: &mut Text,
     command: &Command<'a>,
     files: &mut F,
     out: &mut O,
@@ -56,8 +61,11 @@ fn carry<'a, F: Files, O: Sink>(
         (F.state files.new).reads (number_of result) }
     ensures writes { HasTriedTarget (target_of (call_of command.now)) (F.state files.old).writes
         (F.state files.new).writes (number_of result) }
+    ensures told { OnTrue F.tells (IsRefusal result → IsToldRight (call_of command.now)
+        (outside (F.state files.old) (O.state out.old))
+        (outside (F.state files.new) (O.state out.new)) (number_of result) message.new) }
 {
-    match prepare(alloc, command, files) {
+    match prepare(alloc, message, command, files) {
         Ok(act) => perform(alloc, &act, files, out),
         Err(PrepareError::Unread(name)) => Status::Unread(name),
         Err(PrepareError::Memory) => Status::Memory,
@@ -67,6 +75,7 @@ fn carry<'a, F: Files, O: Sink>(
 /// Does what the words ask.
 pub fn carry_out<'a, F: Files, O: Sink>(
     alloc: Global,
+    message: &mut Text,
     words: &'a [String],
     files: &mut F,
     out: &mut O,
@@ -92,12 +101,15 @@ pub fn carry_out<'a, F: Files, O: Sink>(
         (number_of result) }
     ensures writes { HasWritten words.now (F.state files.old).writes (F.state files.new).writes
         (number_of result) }
+    ensures told { (call : Call) → IsCommand words.now call → OnTrue F.tells (IsRefusal result →
+        IsToldRight call (outside (F.state files.old) (O.state out.old))
+        (outside (F.state files.new) (O.state out.new)) (number_of result) message.new) }
 {
     one_command();
     one_load();
     no_command_is_a_load();
     match read_words(words) {
-        Some(Request::Command(command)) => carry(alloc, &command, files, out),
+        Some(Request::Command(command)) => carry(alloc, message, &command, files, out),
         Some(Request::Load(load)) => make(alloc, &load, files, out),
         None => usage(out),
     }

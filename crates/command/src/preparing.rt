@@ -5,13 +5,14 @@
 //! what each answer of `prepare` means (`Prepares`): an act that comes to what is due, and that the
 //! machine can run; or a read that failed. Nothing is stored or put here.
 
-ghost use Rattle.std.specs.Prelude.{◌≡◌, ◌≤◌};
+ghost use Rattle.std.specs.Prelude.{◌≡◌, ◌≤◌, IfOk};
 ghost use Rattle.outside.specs.Outside.{AllStay, NoneFell};
 ghost use Rattle.command_words.specs.Calls.{over_of};
 ghost use Rattle.command_words.specs.Words.{call_of};
 ghost use Rattle.command_answers.specs.Files.{sources_of};
 ghost use Rattle.command_answers.specs.Prepared.{Prepares};
 ghost use Rattle.command_answers.specs.Tried.{HasTried, status_of};
+ghost use Rattle.command_refusals.specs.Refusals.{IsExplained};
 
 use analysis_command::{prepare_fit, prepare_why};
 use command_answers::{PrepareError, PreparedCall};
@@ -26,10 +27,12 @@ use edf_command::prepare_edf;
 use outside::Files;
 use replay::prepare_replay;
 use std::alloc::Global;
+use syntax_tree::Text;
 use table_command::prepare_table;
 
 /// Reads what the command names, judges it, and makes what is left to be done: what is stored, what
-/// is put, and what is run. An overhead is at most 1,000 ticks.
+/// is put, and what is run. Where it is refused, the message for a person takes the place of the
+/// given one. An overhead is at most 1,000 ticks.
 ///
 /// # Errors
 ///
@@ -38,6 +41,7 @@ use table_command::prepare_table;
 /// `Memory` where there is not enough memory.
 pub fn prepare<'a, F: Files>(
     alloc: Global,
+    message: &mut Text,
     command: &Command<'a>,
     files: &mut F,
 ) -> Result<PreparedCall<'a>, PrepareError<'a>>
@@ -51,6 +55,8 @@ pub fn prepare<'a, F: Files>(
     ensures reads { HasTried (sources_of (call_of command.now)) (F.state files.old).reads
         (F.state files.new).reads (status_of result) }
     ensures writes { (F.state files.new).writes ≡ (F.state files.old).writes }
+    ensures told { IfOk result (IsExplained F.tells (call_of command.now)
+        (F.state files.old).held message.new) }
 {
     match *command {
         Command::Go {
@@ -58,43 +64,43 @@ pub fn prepare<'a, F: Files>(
             image,
             script,
             overhead,
-        } => prepare_go(alloc, program, image, script, overhead, files),
+        } => prepare_go(alloc, message, program, image, script, overhead, files),
         Command::Check { program, overhead } => {
-            prepare_report(alloc, Format::Text, program, overhead, files)
+            prepare_report(alloc, message, Format::Text, program, overhead, files)
         }
         Command::Compile {
             program,
             image,
             overhead,
-        } => prepare_compile(alloc, program, image, overhead, files),
+        } => prepare_compile(alloc, message, program, image, overhead, files),
         Command::Json { program, overhead } => {
-            prepare_report(alloc, Format::Json, program, overhead, files)
+            prepare_report(alloc, message, Format::Json, program, overhead, files)
         }
-        Command::Slack { program, overhead } => prepare_slack(alloc, program, overhead, files),
-        Command::Print { program } => prepare_print(alloc, program, files),
-        Command::Run { image, script } => prepare_run(alloc, image, script, files),
-        Command::Migrate { image, target } => prepare_migrate(alloc, image, target, files),
-        Command::Asm { text, image } => prepare_asm(alloc, text, image, files),
-        Command::Dis { image, text } => prepare_dis(alloc, image, text, files),
+        Command::Slack { program, overhead } => prepare_slack(alloc, message, program, overhead, files),
+        Command::Print { program } => prepare_print(alloc, message, program, files),
+        Command::Run { image, script } => prepare_run(alloc, message, image, script, files),
+        Command::Migrate { image, target } => prepare_migrate(alloc, message, image, target, files),
+        Command::Asm { text, image } => prepare_asm(alloc, message, text, image, files),
+        Command::Dis { image, text } => prepare_dis(alloc, message, image, text, files),
         Command::Watch {
             image,
             script,
             stop,
-        } => prepare_watch(alloc, image, script, stop, files),
+        } => prepare_watch(alloc, message, image, script, stop, files),
         Command::Replay {
             program,
             script,
             log,
-        } => prepare_replay(alloc, program, script, log, files),
-        Command::Edf { program, script } => prepare_edf(alloc, program, script, files),
-        Command::Why { program, overhead } => prepare_why(alloc, program, overhead, files),
-        Command::Fit { program, overhead } => prepare_fit(alloc, program, overhead, files),
+        } => prepare_replay(alloc, message, program, script, log, files),
+        Command::Edf { program, script } => prepare_edf(alloc, message, program, script, files),
+        Command::Why { program, overhead } => prepare_why(alloc, message, program, overhead, files),
+        Command::Fit { program, overhead } => prepare_fit(alloc, message, program, overhead, files),
         Command::Chart {
             image,
             script,
             first,
             end,
-        } => prepare_chart(alloc, image, script, first, end, files),
-        Command::Table { tasks, program } => prepare_table(alloc, tasks, program, files),
+        } => prepare_chart(alloc, message, image, script, first, end, files),
+        Command::Table { tasks, program } => prepare_table(alloc, message, tasks, program, files),
     }
 }

@@ -16,13 +16,14 @@ ghost use Rattle.command.specs.Targets.{IsNoTarget};
 ghost use Rattle.command.specs.Tried.{HasEnded, HasRead, HasWritten};
 ghost use Rattle.command.specs.Settled.{CauseStands, HasTakenNothing, IsSettled};
 ghost use Rattle.command.specs.Tabled.{TellsTable};
-ghost use Rattle.command.specs.Told.{HasTold};
+ghost use Rattle.command.specs.Informed.{HasInformed};
 
 use crate::rte;
 use crate::telling::tell;
 use command_answers::Status;
 use outside::{Buffered, Files, Sink};
 use std::alloc::Global;
+use syntax_tree::Text;
 use table_law::table_costs;
 use table_tasks_law::agree_law::{
     table_blocks, table_bounds, table_ceilings, table_in_time, table_ranks,
@@ -57,8 +58,8 @@ fn settle<'a, S: Sink>(status: Status<'a>, out: Buffered<S>) -> (Status<'a>, S)
 
 /// Does what the words ask, as `rte`, and gives the sink back with the status. What is put
 /// waits in a buffer of 65,536 bytes, and is written at the end; where that fails the status is 7.
-/// The sink has taken nothing yet, where it tells. Last, `err` gets the message for a person, of the
-/// statuses that have one; whether it takes it is not looked at.
+/// The sink has taken nothing yet, where it tells. Last, `err` gets the message for a person, with
+/// every status but 0; whether it takes it is not looked at.
 pub fn whole_call<'a, F: Files, S: Sink, E: Sink>(
     alloc: Global,
     words: &'a [String],
@@ -104,10 +105,12 @@ pub fn whole_call<'a, F: Files, S: Sink, E: Sink>(
     // A file that failed is one that the words let the call read, or write, and the status names it.
     ensures cause { HasEnded words.now (outside (F.state files.old) (S.state sink))
         (outside (F.state files.new) (S.state result.1)) result.0 }
-    // The other sink got the message of the status, or a front of it: for words that are no
-    // command what is wrong with them and the usage, for a file that failed its name. With status 0
-    // nothing was put there.
-    ensures told { HasTold words.now result.0 (E.state err.old) (E.state err.new) }
+    // The other sink got the message of the status: for words that are no command what is wrong with
+    // them and the usage; for what a file holds, that it is refused for, the message of the fault
+    // whose line was put; for a file that failed its name. With status 0 nothing was put there.
+    ensures told { HasInformed F.tells words.now (outside (F.state files.old) (S.state sink))
+        (outside (F.state files.new) (S.state result.1)) result.0 (E.state err.old)
+        (E.state err.new) }
     // Each file that the words name is read at most once, in the order of the steps, and no other;
     // with status 0 all that are to be read.
     ensures reads { HasRead words.now (F.state files.old).reads (F.state files.new).reads
@@ -140,8 +143,9 @@ pub fn whole_call<'a, F: Files, S: Sink, E: Sink>(
     table_bounds();
     table_text_is_written();
     let mut out = Buffered::new(alloc, sink);
-    let status = rte(alloc, words, files, &mut out);
+    let mut refusal = Text::new(alloc);
+    let status = rte(alloc, words, files, &mut out, &mut refusal);
     let (status, sink) = settle(status, out);
-    tell(alloc, words, status, err);
+    tell(alloc, words, refusal, status, err);
     (status, sink)
 }

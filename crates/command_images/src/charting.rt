@@ -12,16 +12,20 @@ ghost use Rattle.command_answers.specs.Prepared.{IsReadError, Prepares};
 ghost use Rattle.command_answers.specs.Tried.{HasTried, status_of};
 ghost use Rattle.command_answers.specs.Runnable.{IsRunnable, RunsRaw};
 ghost use Rattle.command_images.specs.Charted.{IsDrawnDue, IsDrawnOver};
+ghost use Rattle.command_refusals.specs.Refusals.{Explains, IsExplained};
+ghost use Rattle.command_refusals.specs.Told.{IsScriptTold};
 
 use crate::images::{load_content, refuse_image};
 use command_answers::{
     Content, LONGEST_IMAGE, LONGEST_SCRIPT, PrepareError, PreparedCall, Status, judge_script, put,
-    read, refuse_script,
+    read,
 };
+use command_refusals::refuse_script;
 use image::RawImage;
 use outside::Files;
 use script::Script;
 use std::alloc::{AllocError, Global};
+use syntax_tree::Text;
 use vm_chart::chart;
 use vm_plan::plan::plan_of;
 
@@ -45,6 +49,8 @@ fn put_drawn<'a>(
 /// The act of `chart` for what the script's file holds, where the image is a valid one.
 fn chart_act<'a>(
     alloc: Global,
+    message: &mut Text,
+    file: &str,
     raw: &RawImage,
     content: &Content,
     first: u64,
@@ -54,10 +60,12 @@ fn chart_act<'a>(
     ensures due { IfOk result (λ act. (text : List ℕ) → IsContent longest_text content.now text →
         IsDrawnDue first end raw.now text (outcome_of act)) }
     ensures quiet { IfOk result IsQuiet }
+    ensures told { IfOk result (λ act. (text : List ℕ) → IsContent longest_text content.now text →
+        Explains (IsScriptTold raw.now.names file.now text (outcome_of act) message.new) act) }
 {
     match judge_script(alloc, content, &raw.names) {
         Ok(script) => put_drawn(alloc, raw, &script, first, end),
-        Err(fault) => refuse_script(alloc, &fault),
+        Err(fault) => refuse_script(alloc, message, file, content, &raw.names, &fault),
     }
 }
 
@@ -65,6 +73,7 @@ fn chart_act<'a>(
 #[tactic(auto, using(command_answers::proofs::Trying::tried_last))]
 fn chart_on<'a, F: Files>(
     alloc: Global,
+    message: &mut Text,
     raw: &RawImage,
     script: &'a str,
     first: u64,
@@ -85,9 +94,12 @@ fn chart_on<'a, F: Files>(
     ensures reads { HasTried (script.now ∷ []) (F.state files.old).reads
         (F.state files.new).reads (status_of result) }
     ensures writes { (F.state files.new).writes ≡ (F.state files.old).writes }
+    ensures told { IfOk result (λ act. OnTrue F.tells
+        (IsSomeAnd ((F.state files.old).held script.now) (λ text. Explains
+        (IsScriptTold raw.now.names script.now text (outcome_of act) message.new) act))) }
 {
     let content = read(files, script, LONGEST_SCRIPT)?;
-    match chart_act(alloc, raw, &content, first, end) {
+    match chart_act(alloc, message, script, raw, &content, first, end) {
         Ok(act) => Ok(act),
         Err(_) => Err(PrepareError::Memory),
     }
@@ -97,6 +109,7 @@ fn chart_on<'a, F: Files>(
 #[tactic(auto, using(command_answers::proofs::Held::first_unread, command_answers::proofs::Trying::tried_first, command_answers::proofs::Trying::tried_on, command_answers::proofs::Trying::tried_alone))]
 pub fn prepare_chart<'a, F: Files>(
     alloc: Global,
+    message: &mut Text,
     image: &'a str,
     script: &'a str,
     first: u64,
@@ -112,11 +125,13 @@ pub fn prepare_chart<'a, F: Files>(
     ensures reads { HasTried (image.now ∷ script.now ∷ []) (F.state files.old).reads
         (F.state files.new).reads (status_of result) }
     ensures writes { (F.state files.new).writes ≡ (F.state files.old).writes }
+    ensures told { IfOk result (IsExplained F.tells (call.chart image.now script.now first end)
+        (F.state files.old).held message.new) }
 {
     let content = read(files, image, LONGEST_IMAGE)?;
     match load_content(alloc, &content) {
-        Ok(raw) => chart_on(alloc, &raw, script, first, end, files),
-        Err(fault) => match refuse_image(alloc, fault) {
+        Ok(raw) => chart_on(alloc, message, &raw, script, first, end, files),
+        Err(fault) => match refuse_image(alloc, message, image, fault) {
             Ok(act) => Ok(act),
             Err(_) => Err(PrepareError::Memory),
         },

@@ -15,6 +15,8 @@ ghost use Rattle.command_answers.specs.Contents.{IsContent};
 ghost use Rattle.command_answers.specs.Prepared.{Prepares};
 ghost use Rattle.command_answers.specs.Tried.{HasTried, status_of};
 ghost use Rattle.command_answers.specs.Runnable.{IsRunnable};
+ghost use Rattle.command_refusals.specs.Refusals.{Explains, IsExplained};
+ghost use Rattle.command_refusals.specs.Told.{IsImageTold};
 
 use crate::{FileFault, load};
 use command_answers::{
@@ -24,6 +26,7 @@ use command_answers::{
 use image::{RawImage, write_image};
 use image_format::refusal;
 use image_reader_law::images_read_can_be_written;
+use message_image::{image_message, valid_message};
 use outside::Files;
 use std::alloc::{AllocError, Global};
 use syntax_tree::Text;
@@ -60,26 +63,45 @@ pub fn load_content(alloc: Global, content: &Content) -> Result<RawImage, FileFa
     }
 }
 
-/// The line of the fault of bytes that are no valid image.
-fn line_of(alloc: Global, fault: FileFault) -> Result<Text, AllocError>
-    ensures { IfOk result (λ line. (bytes : List ℕ) → Loads bytes (Err fault) →
+/// The line of the fault of bytes that are no valid image, and the message.
+fn line_of(
+    alloc: Global,
+    message: &mut Text,
+    file: &str,
+    fault: FileFault,
+) -> Result<Text, AllocError>
+    ensures due { IfOk result (λ line. (bytes : List ℕ) → Loads bytes (Err fault) →
         IsImageRefused bytes (told 4 line)) }
+    ensures told { IfOk result (λ line. IsImageTold file.now (told 4 line) message.new) }
 {
     match fault {
-        FileFault::Image { number, offset } => image_fault_line(alloc, number, offset),
-        FileFault::Invalid { number, a, b } => valid_fault_line(alloc, number, a, b),
+        FileFault::Image { number, offset } => {
+            *message = image_message(alloc, file, number, offset)?;
+            image_fault_line(alloc, number, offset)
+        }
+        FileFault::Invalid { number, a, b } => {
+            *message = valid_message(alloc, file, number, a, b)?;
+            valid_fault_line(alloc, number, a, b)
+        }
         FileFault::Memory => Err(AllocError),
     }
 }
 
-/// The act for bytes that are no valid image: it puts the line of their fault.
-pub fn refuse_image<'a>(alloc: Global, fault: FileFault) -> Result<PreparedCall<'a>, AllocError>
+/// The act for a file that holds no valid image: it puts the line of the fault, and the message
+/// takes the place of the given one.
+pub fn refuse_image<'a>(
+    alloc: Global,
+    message: &mut Text,
+    file: &str,
+    fault: FileFault,
+) -> Result<PreparedCall<'a>, AllocError>
     ensures due { IfOk result (λ act. (bytes : List ℕ) → Loads bytes (Err fault) →
         IsImageRefused bytes (outcome_of act)) }
     ensures quiet { IfOk result IsQuiet }
     ensures refused { IfOk result (λ act. number_of act.status ≢ 0) }
+    ensures told { IfOk result (λ act. IsImageTold file.now (outcome_of act) message.new) }
 {
-    let line = line_of(alloc, fault)?;
+    let line = line_of(alloc, message, file, fault)?;
     Ok(put(Status::Image, line))
 }
 
@@ -108,16 +130,20 @@ pub fn store_image<'a>(
 /// The act of `migrate` for what the image's file holds.
 fn migrate_act<'a>(
     alloc: Global,
+    message: &mut Text,
+    image: &str,
     content: &Content,
     target: &'a str,
 ) -> Result<PreparedCall<'a>, AllocError>
     ensures due { IfOk result (λ act. (bytes : List ℕ) → IsContent longest content.now bytes →
         IsMigrateDue bytes (outcome_of act)) }
     ensures done { IfOk result (CanBeDone (Some target.now)) }
+    ensures told { IfOk result (λ act.
+        Explains (IsImageTold image.now (outcome_of act) message.new) act) }
 {
     match load_content(alloc, content) {
         Ok(raw) => store_image(alloc, &raw, target),
-        Err(fault) => refuse_image(alloc, fault),
+        Err(fault) => refuse_image(alloc, message, image, fault),
     }
 }
 
@@ -125,6 +151,7 @@ fn migrate_act<'a>(
 #[tactic(auto, using(command_answers::proofs::Held::first_unread, command_answers::proofs::Trying::tried_last))]
 pub fn prepare_migrate<'a, F: Files>(
     alloc: Global,
+    message: &mut Text,
     image: &'a str,
     target: &'a str,
     files: &mut F,
@@ -138,9 +165,11 @@ pub fn prepare_migrate<'a, F: Files>(
     ensures reads { HasTried (image.now ∷ []) (F.state files.old).reads
         (F.state files.new).reads (status_of result) }
     ensures writes { (F.state files.new).writes ≡ (F.state files.old).writes }
+    ensures told { IfOk result (IsExplained F.tells (call.migrate image.now target.now)
+        (F.state files.old).held message.new) }
 {
     let content = read(files, image, LONGEST_IMAGE)?;
-    match migrate_act(alloc, &content, target) {
+    match migrate_act(alloc, message, image, &content, target) {
         Ok(act) => Ok(act),
         Err(_) => Err(PrepareError::Memory),
     }

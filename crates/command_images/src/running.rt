@@ -12,12 +12,15 @@ ghost use Rattle.command_answers.specs.Prepared.{IsReadError, Prepares};
 ghost use Rattle.command_answers.specs.Tried.{HasTried, status_of};
 ghost use Rattle.command_answers.specs.Runnable.{IsRunnable, RunsRaw};
 ghost use Rattle.command_images.specs.Scripted.{IsRawRunDue, raw_run};
+ghost use Rattle.command_refusals.specs.Refusals.{Explains, IsExplained};
+ghost use Rattle.command_refusals.specs.Told.{IsScriptTold};
 
 use crate::images::{load_content, refuse_image};
 use command_answers::{
     Content, Dispatch, LONGEST_IMAGE, LONGEST_SCRIPT, PrepareError, PreparedCall, PreparedRun,
-    Status, judge_script, read, refuse_script,
+    Status, judge_script, read,
 };
+use command_refusals::refuse_script;
 use image::RawImage;
 use outside::Files;
 use script::Script;
@@ -45,6 +48,8 @@ fn run_raw<'a>(alloc: Global, image: RawImage, script: Script) -> PreparedCall<'
 /// The act of `run` for what the script's file holds, where the image is a valid one.
 fn run_act<'a>(
     alloc: Global,
+    message: &mut Text,
+    file: &str,
     raw: RawImage,
     content: &Content,
 ) -> Result<PreparedCall<'a>, AllocError>
@@ -52,10 +57,12 @@ fn run_act<'a>(
     ensures due { IfOk result (λ act. (text : List ℕ) → IsContent longest_text content.now text →
         IsRawRunDue raw text (outcome_of act)) }
     ensures done { IfOk result (CanBeDone None) }
+    ensures told { IfOk result (λ act. (text : List ℕ) → IsContent longest_text content.now text →
+        Explains (IsScriptTold raw.names file.now text (outcome_of act) message.new) act) }
 {
     match judge_script(alloc, content, &raw.names) {
         Ok(script) => Ok(run_raw(alloc, raw, script)),
-        Err(fault) => refuse_script(alloc, &fault),
+        Err(fault) => refuse_script(alloc, message, file, content, &raw.names, &fault),
     }
 }
 
@@ -63,6 +70,7 @@ fn run_act<'a>(
 #[tactic(auto, using(command_answers::proofs::Trying::tried_last))]
 fn run_on<'a, F: Files>(
     alloc: Global,
+    message: &mut Text,
     raw: RawImage,
     script: &'a str,
     files: &mut F,
@@ -81,9 +89,12 @@ fn run_on<'a, F: Files>(
     ensures reads { HasTried (script.now ∷ []) (F.state files.old).reads
         (F.state files.new).reads (status_of result) }
     ensures writes { (F.state files.new).writes ≡ (F.state files.old).writes }
+    ensures told { IfOk result (λ act. OnTrue F.tells
+        (IsSomeAnd ((F.state files.old).held script.now) (λ text. Explains
+        (IsScriptTold raw.names script.now text (outcome_of act) message.new) act))) }
 {
     let content = read(files, script, LONGEST_SCRIPT)?;
-    match run_act(alloc, raw, &content) {
+    match run_act(alloc, message, script, raw, &content) {
         Ok(act) => Ok(act),
         Err(_) => Err(PrepareError::Memory),
     }
@@ -93,6 +104,7 @@ fn run_on<'a, F: Files>(
 #[tactic(auto, using(command_answers::proofs::Held::first_unread, command_answers::proofs::Trying::tried_first, command_answers::proofs::Trying::tried_on, command_answers::proofs::Trying::tried_alone))]
 pub fn prepare_run<'a, F: Files>(
     alloc: Global,
+    message: &mut Text,
     image: &'a str,
     script: &'a str,
     files: &mut F,
@@ -106,11 +118,13 @@ pub fn prepare_run<'a, F: Files>(
     ensures reads { HasTried (image.now ∷ script.now ∷ []) (F.state files.old).reads
         (F.state files.new).reads (status_of result) }
     ensures writes { (F.state files.new).writes ≡ (F.state files.old).writes }
+    ensures told { IfOk result (IsExplained F.tells (call.run image.now script.now)
+        (F.state files.old).held message.new) }
 {
     let content = read(files, image, LONGEST_IMAGE)?;
     match load_content(alloc, &content) {
-        Ok(raw) => run_on(alloc, raw, script, files),
-        Err(fault) => match refuse_image(alloc, fault) {
+        Ok(raw) => run_on(alloc, message, raw, script, files),
+        Err(fault) => match refuse_image(alloc, message, image, fault) {
             Ok(act) => Ok(act),
             Err(_) => Err(PrepareError::Memory),
         },

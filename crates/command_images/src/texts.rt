@@ -18,6 +18,9 @@ ghost use Rattle.asm_format.specs.Text.{text_of};
 ghost use Rattle.outside.specs.Outside.{AllStay, NoneFell};
 ghost use Rattle.command_words.specs.Calls as call;
 ghost use Rattle.command_images.specs.Held.{HasNames};
+ghost use Rattle.command_refusals.specs.Refusals.{Explains, IsExplained};
+ghost use Rattle.command_refusals.specs.Told.{IsBytesTold, IsImageTextTold};
+ghost use Rattle.message_image.specs.Image as message_of;
 
 use crate::images::store_image;
 use crate::{ImageTextFault, load_text};
@@ -31,6 +34,7 @@ use image::RawImage;
 use image_format::refusal;
 use image_reader::{ImageFault, read_image};
 use image_reader_law::images_read_can_be_written;
+use message_image::{image_message, image_text_message, long_text_message, valid_message};
 use outside::Files;
 use std::alloc::{AllocError, Global};
 use syntax_tree::Text;
@@ -65,41 +69,87 @@ fn load_content(alloc: Global, content: &Content) -> Result<RawImage, ImageTextF
     }
 }
 
-/// The line of the fault of a text that is that of no valid image.
-fn line_of_text(alloc: Global, fault: ImageTextFault) -> Result<Text, AllocError>
-    ensures { IfOk result (λ line. (text : List ℕ) → LoadsText text (Err fault) →
+/// The message for a fault of what the file of an image's text holds.
+#[tactic(auto, using(crate::proofs::Long::long_lines))]
+fn message_of_lines(
+    alloc: Global,
+    file: &str,
+    content: &Content,
+    number: u8,
+    line: u32,
+) -> Result<Text, AllocError>
+    ensures { IfOk result (λ message. (text : List ℕ) → IsContent longest_text content.now text →
+        message ≡ message_of.image_text_message file.now text number line) }
+{
+    match content {
+        Content::Bytes(text) => image_text_message(alloc, file, text.as_slice(), number, line),
+        Content::TooLong => long_text_message(alloc, file),
+    }
+}
+
+/// The line of the fault of a text that is that of no valid image, and the message.
+fn line_of_text(
+    alloc: Global,
+    message: &mut Text,
+    file: &str,
+    content: &Content,
+    fault: ImageTextFault,
+) -> Result<Text, AllocError>
+    ensures due { IfOk result (λ line. (text : List ℕ) → LoadsText text (Err fault) →
         IsAsmDue text (told 4 line)) }
+    ensures told { IfOk result (λ line. (text : List ℕ) → IsContent longest_text content.now text →
+        IsImageTextTold file.now text (told 4 line) message.new) }
 {
     match fault {
-        ImageTextFault::Text { number, line } => text_fault_line(alloc, number, line),
-        ImageTextFault::Invalid { number, a, b } => valid_fault_line(alloc, number, a, b),
+        ImageTextFault::Text { number, line } => {
+            *message = message_of_lines(alloc, file, content, number, line)?;
+            text_fault_line(alloc, number, line)
+        }
+        ImageTextFault::Invalid { number, a, b } => {
+            *message = valid_message(alloc, file, number, a, b)?;
+            valid_fault_line(alloc, number, a, b)
+        }
         ImageTextFault::Memory => Err(AllocError),
     }
 }
 
-/// The act for a text that is that of no valid image: it puts the line of its fault.
-fn refuse_text<'a>(alloc: Global, fault: ImageTextFault) -> Result<PreparedCall<'a>, AllocError>
+/// The act for a file whose text is that of no valid image: it puts the line of the fault, and the
+/// message takes the place of the given one.
+fn refuse_text<'a>(
+    alloc: Global,
+    message: &mut Text,
+    file: &str,
+    content: &Content,
+    fault: ImageTextFault,
+) -> Result<PreparedCall<'a>, AllocError>
     ensures due { IfOk result (λ act. (text : List ℕ) → LoadsText text (Err fault) →
         IsAsmDue text (outcome_of act)) }
     ensures quiet { IfOk result IsQuiet }
+    ensures told { IfOk result (λ act. (text : List ℕ) → IsContent longest_text content.now text →
+        IsImageTextTold file.now text (outcome_of act) message.new) }
 {
-    let line = line_of_text(alloc, fault)?;
+    let line = line_of_text(alloc, message, file, content, fault)?;
     Ok(put(Status::Image, line))
 }
 
 /// The act of `asm` for what the text's file holds.
 fn asm_act<'a>(
     alloc: Global,
+    message: &mut Text,
+    text: &str,
     content: &Content,
     image: &'a str,
 ) -> Result<PreparedCall<'a>, AllocError>
-    ensures due { IfOk result (λ act. (text : List ℕ) → IsContent longest_text content.now text →
-        IsAsmDue text (outcome_of act)) }
+    ensures due { IfOk result (λ act. (lines : List ℕ) →
+        IsContent longest_text content.now lines → IsAsmDue lines (outcome_of act)) }
     ensures done { IfOk result (CanBeDone (Some image.now)) }
+    ensures told { IfOk result (λ act. (lines : List ℕ) →
+        IsContent longest_text content.now lines →
+        Explains (IsImageTextTold text.now lines (outcome_of act) message.new) act) }
 {
     match load_content(alloc, content) {
         Ok(raw) => store_image(alloc, &raw, image),
-        Err(fault) => refuse_text(alloc, fault),
+        Err(fault) => refuse_text(alloc, message, text, content, fault),
     }
 }
 
@@ -107,6 +157,7 @@ fn asm_act<'a>(
 #[tactic(auto, using(command_answers::proofs::Held::first_unread, command_answers::proofs::Trying::tried_last))]
 pub fn prepare_asm<'a, F: Files>(
     alloc: Global,
+    message: &mut Text,
     text: &'a str,
     image: &'a str,
     files: &mut F,
@@ -120,9 +171,11 @@ pub fn prepare_asm<'a, F: Files>(
     ensures reads { HasTried (text.now ∷ []) (F.state files.old).reads
         (F.state files.new).reads (status_of result) }
     ensures writes { (F.state files.new).writes ≡ (F.state files.old).writes }
+    ensures told { IfOk result (IsExplained F.tells (call.asm text.now image.now)
+        (F.state files.old).held message.new) }
 {
     let content = read(files, text, LONGEST_IMAGE_TEXT)?;
-    match asm_act(alloc, &content, image) {
+    match asm_act(alloc, message, text, &content, image) {
         Ok(act) => Ok(act),
         Err(_) => Err(PrepareError::Memory),
     }
@@ -180,40 +233,60 @@ fn store_text<'a>(
     })
 }
 
-/// The line of the fault of bytes that are no image.
-fn line_of_bytes(alloc: Global, fault: ImageFault) -> Result<Text, AllocError>
-    ensures { IfOk result (λ line. (bytes : List ℕ) → Tells bytes (Err fault) →
+/// The line of the fault of bytes that are no image, and the message.
+fn line_of_bytes(
+    alloc: Global,
+    message: &mut Text,
+    file: &str,
+    fault: ImageFault,
+) -> Result<Text, AllocError>
+    ensures due { IfOk result (λ line. (bytes : List ℕ) → Tells bytes (Err fault) →
         IsDisDue bytes (told 4 line)) }
+    ensures told { IfOk result (λ line. IsBytesTold file.now (told 4 line) message.new) }
 {
     match fault {
-        ImageFault::Bad { number, offset } => image_fault_line(alloc, number, offset),
+        ImageFault::Bad { number, offset } => {
+            *message = image_message(alloc, file, number, offset)?;
+            image_fault_line(alloc, number, offset)
+        }
         ImageFault::Memory => Err(AllocError),
     }
 }
 
-/// The act for bytes that are no image: it puts the line of their fault.
-fn refuse_bytes<'a>(alloc: Global, fault: ImageFault) -> Result<PreparedCall<'a>, AllocError>
+/// The act for a file that holds no image: it puts the line of the fault, and the message takes the
+/// place of the given one.
+fn refuse_bytes<'a>(
+    alloc: Global,
+    message: &mut Text,
+    file: &str,
+    fault: ImageFault,
+) -> Result<PreparedCall<'a>, AllocError>
     ensures due { IfOk result (λ act. (bytes : List ℕ) → Tells bytes (Err fault) →
         IsDisDue bytes (outcome_of act)) }
     ensures quiet { IfOk result IsQuiet }
+    ensures told { IfOk result (λ act. IsBytesTold file.now (outcome_of act) message.new) }
 {
-    let line = line_of_bytes(alloc, fault)?;
+    let line = line_of_bytes(alloc, message, file, fault)?;
     Ok(put(Status::Image, line))
 }
 
 /// The act of `dis` for what the image's file holds.
 fn dis_act<'a>(
     alloc: Global,
+    message: &mut Text,
+    image: &str,
     content: &Content,
     text: &'a str,
 ) -> Result<PreparedCall<'a>, AllocError>
     ensures due { IfOk result (λ act. (bytes : List ℕ) → IsContent longest content.now bytes →
         IsDisDue bytes (outcome_of act)) }
     ensures done { IfOk result (CanBeDone (Some text.now)) }
+    ensures told { IfOk result (λ act.
+        Explains (IsBytesTold image.now (outcome_of act) message.new) act) }
 {
     match read_content(alloc, content) {
         Ok(raw) => store_text(alloc, &raw, text),
-        Err(fault) => refuse_bytes(alloc, fault),
+        Err(fault) => refuse_bytes(alloc, message, image, fault),
     }
 }
 
@@ -221,6 +294,7 @@ fn dis_act<'a>(
 #[tactic(auto, using(command_answers::proofs::Held::first_unread, command_answers::proofs::Trying::tried_last))]
 pub fn prepare_dis<'a, F: Files>(
     alloc: Global,
+    message: &mut Text,
     image: &'a str,
     text: &'a str,
     files: &mut F,
@@ -234,9 +308,11 @@ pub fn prepare_dis<'a, F: Files>(
     ensures reads { HasTried (image.now ∷ []) (F.state files.old).reads
         (F.state files.new).reads (status_of result) }
     ensures writes { (F.state files.new).writes ≡ (F.state files.old).writes }
+    ensures told { IfOk result (IsExplained F.tells (call.dis image.now text.now)
+        (F.state files.old).held message.new) }
 {
     let content = read(files, image, LONGEST_IMAGE)?;
-    match dis_act(alloc, &content, text) {
+    match dis_act(alloc, message, image, &content, text) {
         Ok(act) => Ok(act),
         Err(_) => Err(PrepareError::Memory),
     }

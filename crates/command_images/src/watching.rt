@@ -12,17 +12,21 @@ ghost use Rattle.command_answers.specs.Prepared.{IsReadError, Prepares};
 ghost use Rattle.command_answers.specs.Tried.{HasTried, status_of};
 ghost use Rattle.command_answers.specs.Runnable.{IsRunnable, RunsRaw};
 ghost use Rattle.command_images.specs.Watched.{IsSeenDue, IsTold};
+ghost use Rattle.command_refusals.specs.Refusals.{Explains, IsExplained};
+ghost use Rattle.command_refusals.specs.Told.{IsScriptTold};
 
 use crate::images::{load_content, refuse_image};
 use command_answers::{
     Content, LONGEST_IMAGE, LONGEST_SCRIPT, PrepareError, PreparedCall, Status, judge_script, put,
-    read, refuse_script,
+    read,
 };
+use command_refusals::refuse_script;
 use command_words::Breakpoint;
 use image::RawImage;
 use outside::Files;
 use script::Script;
 use std::alloc::{AllocError, Global};
+use syntax_tree::Text;
 use vm_watch::watch;
 
 /// The act that puts the state of the run of an image over a script where it stops.
@@ -43,6 +47,8 @@ fn put_seen<'a>(
 /// The act of `watch` for what the script's file holds, where the image is a valid one.
 fn watch_act<'a>(
     alloc: Global,
+    message: &mut Text,
+    file: &str,
     raw: &RawImage,
     content: &Content,
     stop: Breakpoint,
@@ -51,10 +57,12 @@ fn watch_act<'a>(
     ensures due { IfOk result (λ act. (text : List ℕ) → IsContent longest_text content.now text →
         IsSeenDue stop raw.now text (outcome_of act)) }
     ensures quiet { IfOk result IsQuiet }
+    ensures told { IfOk result (λ act. (text : List ℕ) → IsContent longest_text content.now text →
+        Explains (IsScriptTold raw.now.names file.now text (outcome_of act) message.new) act) }
 {
     match judge_script(alloc, content, &raw.names) {
         Ok(script) => put_seen(alloc, raw, &script, stop),
-        Err(fault) => refuse_script(alloc, &fault),
+        Err(fault) => refuse_script(alloc, message, file, content, &raw.names, &fault),
     }
 }
 
@@ -62,6 +70,7 @@ fn watch_act<'a>(
 #[tactic(auto, using(command_answers::proofs::Trying::tried_last))]
 fn watch_on<'a, F: Files>(
     alloc: Global,
+    message: &mut Text,
     raw: &RawImage,
     script: &'a str,
     stop: Breakpoint,
@@ -81,9 +90,12 @@ fn watch_on<'a, F: Files>(
     ensures reads { HasTried (script.now ∷ []) (F.state files.old).reads
         (F.state files.new).reads (status_of result) }
     ensures writes { (F.state files.new).writes ≡ (F.state files.old).writes }
+    ensures told { IfOk result (λ act. OnTrue F.tells
+        (IsSomeAnd ((F.state files.old).held script.now) (λ text. Explains
+        (IsScriptTold raw.now.names script.now text (outcome_of act) message.new) act))) }
 {
     let content = read(files, script, LONGEST_SCRIPT)?;
-    match watch_act(alloc, raw, &content, stop) {
+    match watch_act(alloc, message, script, raw, &content, stop) {
         Ok(act) => Ok(act),
         Err(_) => Err(PrepareError::Memory),
     }
@@ -93,6 +105,7 @@ fn watch_on<'a, F: Files>(
 #[tactic(auto, using(command_answers::proofs::Held::first_unread, command_answers::proofs::Trying::tried_first, command_answers::proofs::Trying::tried_on, command_answers::proofs::Trying::tried_alone))]
 pub fn prepare_watch<'a, F: Files>(
     alloc: Global,
+    message: &mut Text,
     image: &'a str,
     script: &'a str,
     stop: Breakpoint,
@@ -107,11 +120,13 @@ pub fn prepare_watch<'a, F: Files>(
     ensures reads { HasTried (image.now ∷ script.now ∷ []) (F.state files.old).reads
         (F.state files.new).reads (status_of result) }
     ensures writes { (F.state files.new).writes ≡ (F.state files.old).writes }
+    ensures told { IfOk result (IsExplained F.tells (call.watch image.now script.now stop)
+        (F.state files.old).held message.new) }
 {
     let content = read(files, image, LONGEST_IMAGE)?;
     match load_content(alloc, &content) {
-        Ok(raw) => watch_on(alloc, &raw, script, stop, files),
-        Err(fault) => match refuse_image(alloc, fault) {
+        Ok(raw) => watch_on(alloc, message, &raw, script, stop, files),
+        Err(fault) => match refuse_image(alloc, message, image, fault) {
             Ok(act) => Ok(act),
             Err(_) => Err(PrepareError::Memory),
         },

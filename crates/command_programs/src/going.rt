@@ -12,18 +12,22 @@ ghost use Rattle.command_answers.specs.Prepared.{IsReadError, Prepares};
 ghost use Rattle.command_answers.specs.Tried.{HasTried, status_of};
 ghost use Rattle.command_programs.specs.Runnable.{IsRunnableBuilt, RunsBuilt};
 ghost use Rattle.command_programs.specs.Scripted.{IsBuiltRunDue, built_run};
+ghost use Rattle.command_refusals.specs.Refusals.{Explains, IsExplained};
+ghost use Rattle.command_refusals.specs.Told.{IsScriptTold};
 
 use crate::compile_content;
 use crate::programs::{Format, refuse};
 use command_answers::{
     Content, Dispatch, LONGEST_PROGRAM, LONGEST_SCRIPT, PrepareError, PreparedCall, PreparedRun,
-    Status, Store, judge_script, read, refuse_script,
+    Status, Store, judge_script, read,
 };
+use command_refusals::refuse_script;
 use compile::Built;
 use image::write_image;
 use outside::Files;
 use script::Script;
 use std::alloc::{AllocError, Global};
+use syntax_tree::Text;
 
 /// The act that stores the image of a program that is timely, puts the report, and runs the image
 /// over the script.
@@ -56,7 +60,9 @@ fn run_built<'a>(
 /// The act of `go` for what the script's file holds, where the program is timely.
 fn go_act<'a>(
     alloc: Global,
+    message: &mut Text,
     built: Built,
+    script: &str,
     content: &Content,
     image: &'a str,
 ) -> Result<PreparedCall<'a>, AllocError>
@@ -64,10 +70,12 @@ fn go_act<'a>(
     ensures due { IfOk result (λ act. (text : List ℕ) → IsContent longest_text content.now text →
         IsBuiltRunDue built text (outcome_of act)) }
     ensures done { IfOk result (CanBeDone (Some image.now)) }
+    ensures told { IfOk result (λ act. (text : List ℕ) → IsContent longest_text content.now text →
+        Explains (IsScriptTold built.image.names script.now text (outcome_of act) message.new) act) }
 {
     match judge_script(alloc, content, &built.image.names) {
-        Ok(script) => run_built(alloc, built, script, image),
-        Err(fault) => refuse_script(alloc, &fault),
+        Ok(lines) => run_built(alloc, built, lines, image),
+        Err(fault) => refuse_script(alloc, message, script, content, &built.image.names, &fault),
     }
 }
 
@@ -75,6 +83,7 @@ fn go_act<'a>(
 #[tactic(auto, using(command_answers::proofs::Trying::tried_last))]
 fn go_on<'a, F: Files>(
     alloc: Global,
+    message: &mut Text,
     built: Built,
     image: &'a str,
     script: &'a str,
@@ -94,9 +103,12 @@ fn go_on<'a, F: Files>(
     ensures reads { HasTried (script.now ∷ []) (F.state files.old).reads
         (F.state files.new).reads (status_of result) }
     ensures writes { (F.state files.new).writes ≡ (F.state files.old).writes }
+    ensures told { IfOk result (λ act. OnTrue F.tells
+        (IsSomeAnd ((F.state files.old).held script.now) (λ text. Explains
+        (IsScriptTold built.image.names script.now text (outcome_of act) message.new) act))) }
 {
     let content = read(files, script, LONGEST_SCRIPT)?;
-    match go_act(alloc, built, &content, image) {
+    match go_act(alloc, message, built, script, &content, image) {
         Ok(act) => Ok(act),
         Err(_) => Err(PrepareError::Memory),
     }
@@ -106,6 +118,7 @@ fn go_on<'a, F: Files>(
 #[tactic(auto, using(command_answers::proofs::Held::first_unread, command_answers::proofs::Trying::tried_first, command_answers::proofs::Trying::tried_on, command_answers::proofs::Trying::tried_alone))]
 pub fn prepare_go<'a, F: Files>(
     alloc: Global,
+    message: &mut Text,
     program: &'a str,
     image: &'a str,
     script: &'a str,
@@ -122,11 +135,13 @@ pub fn prepare_go<'a, F: Files>(
     ensures reads { HasTried (program.now ∷ script.now ∷ []) (F.state files.old).reads
         (F.state files.new).reads (status_of result) }
     ensures writes { (F.state files.new).writes ≡ (F.state files.old).writes }
+    ensures told { IfOk result (IsExplained F.tells
+        (call.go program.now image.now script.now over) (F.state files.old).held message.new) }
 {
     let content = read(files, program, LONGEST_PROGRAM)?;
     match compile_content(alloc, &content, over) {
-        Ok(built) => go_on(alloc, built, image, script, files),
-        Err(fault) => match refuse(alloc, Format::Text, fault) {
+        Ok(built) => go_on(alloc, message, built, image, script, files),
+        Err(fault) => match refuse(alloc, message, program, &content, over, Format::Text, fault) {
             Ok(act) => Ok(act),
             Err(_) => Err(PrepareError::Memory),
         },

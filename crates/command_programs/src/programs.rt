@@ -11,16 +11,20 @@ ghost use Rattle.command_words.specs.Calls as call;
 ghost use Rattle.command_answers.specs.Acting.{CanBeDone, IsQuiet, puts};
 ghost use Rattle.command_answers.specs.Contents.{IsContent};
 ghost use Rattle.command_programs.specs.Formats.{shown, report_call};
+ghost use Rattle.command_refusals.specs.Refusals.{Explains, IsExplained};
+ghost use Rattle.command_refusals.specs.Told.{IsProgramTold, IsTextTold};
 ghost use Rattle.command_answers.specs.Prepared.{Prepares};
 ghost use Rattle.command_answers.specs.Tried.{HasTried, status_of};
 ghost use Rattle.command_programs.specs.Runnable.{CanBeShown, IsRunnableBuilt, Readies};
 
 use crate::{compile_content, read_content, slack_text};
 use command_answers::{
-    Content, LONGEST_PROGRAM, PrepareError, PreparedCall, Status, Store, put, put_fault, read,
+    Content, LONGEST_PROGRAM, PrepareError, PreparedCall, Status, Store, put, read,
 };
+use command_refusals::refuse_text;
 use compile::{Built, CompileFault, ProgramTextFault};
 use image::{ImageNames, write_image};
+use message_late::late_message;
 use outside::Files;
 use sched_table::Table;
 use std::alloc::{AllocError, Global};
@@ -52,10 +56,14 @@ pub fn report(
     }
 }
 
-/// The act for a text that gave no image: it puts the line of its fault, or the report on its
-/// program, which is late.
+/// The act for a file that gave no image: it puts the line of its fault, or the report on its
+/// program, which is late. The message takes the place of the given one.
 pub fn refuse<'a>(
     alloc: Global,
+    message: &mut Text,
+    file: &str,
+    content: &Content,
+    over: u16,
     format: Format,
     fault: CompileFault,
 ) -> Result<PreparedCall<'a>, AllocError>
@@ -64,10 +72,16 @@ pub fn refuse<'a>(
         IsRefused (shown format) over text (outcome_of act)) }
     ensures quiet { IfOk result IsQuiet }
     ensures refused { IfOk result (λ act. number_of act.status ≢ 0) }
+    ensures told { IfOk result (λ act. (text : List ℕ) → IsContent longest_text content.now text →
+        Compiles over text (Err fault) →
+        IsProgramTold over file.now text (outcome_of act) message.new) }
 {
     match fault {
-        CompileFault::Text { number, place } => put_fault(alloc, number, place),
+        CompileFault::Text { number, place } => {
+            refuse_text(alloc, message, file, content, number, place)
+        }
         CompileFault::Untimely(late) => {
+            *message = late_message(alloc, file, over, &late.names, &late.table)?;
             let text = report(alloc, format, &late.names, &late.program, &late.table)?;
             Ok(put(Status::Late, text))
         }
@@ -93,18 +107,22 @@ fn put_report<'a>(
 /// The act of `check` and `json` for what the program's file holds.
 fn report_act<'a>(
     alloc: Global,
-    format: Format,
+    message: &mut Text,
+    file: &str,
     content: &Content,
     over: u16,
+    format: Format,
 ) -> Result<PreparedCall<'a>, AllocError>
     requires { over ≤ 1000 }
     ensures due { IfOk result (λ act. (text : List ℕ) → IsContent longest_text content.now text →
         IsReportDue (shown format) over text (outcome_of act)) }
     ensures quiet { IfOk result IsQuiet }
+    ensures told { IfOk result (λ act. (text : List ℕ) → IsContent longest_text content.now text →
+        Explains (IsProgramTold over file.now text (outcome_of act) message.new) act) }
 {
     match compile_content(alloc, content, over) {
         Ok(built) => put_report(alloc, format, &built),
-        Err(fault) => refuse(alloc, format, fault),
+        Err(fault) => refuse(alloc, message, file, content, over, format, fault),
     }
 }
 
@@ -122,6 +140,8 @@ fn put_slack<'a>(alloc: Global, built: &Built) -> Result<PreparedCall<'a>, Alloc
 /// The act of `slack` for what the program's file holds.
 fn slack_act<'a>(
     alloc: Global,
+    message: &mut Text,
+    file: &str,
     content: &Content,
     over: u16,
 ) -> Result<PreparedCall<'a>, AllocError>
@@ -129,22 +149,33 @@ fn slack_act<'a>(
     ensures due { IfOk result (λ act. (text : List ℕ) → IsContent longest_text content.now text →
         IsSlackDue over text (outcome_of act)) }
     ensures quiet { IfOk result IsQuiet }
+    ensures told { IfOk result (λ act. (text : List ℕ) → IsContent longest_text content.now text →
+        Explains (IsProgramTold over file.now text (outcome_of act) message.new) act) }
 {
     match compile_content(alloc, content, over) {
         Ok(built) => put_slack(alloc, &built),
-        Err(fault) => refuse(alloc, Format::Text, fault),
+        Err(fault) => refuse(alloc, message, file, content, over, Format::Text, fault),
     }
 }
 
 /// The act of `print` for what the program's file holds.
-fn print_act<'a>(alloc: Global, content: &Content) -> Result<PreparedCall<'a>, AllocError>
+fn print_act<'a>(
+    alloc: Global,
+    message: &mut Text,
+    file: &str,
+    content: &Content,
+) -> Result<PreparedCall<'a>, AllocError>
     ensures due { IfOk result (λ act. (text : List ℕ) → IsContent longest_text content.now text →
         IsPrintDue text (outcome_of act)) }
     ensures quiet { IfOk result IsQuiet }
+    ensures told { IfOk result (λ act. (text : List ℕ) → IsContent longest_text content.now text →
+        Explains (IsTextTold file.now text (outcome_of act) message.new) act) }
 {
     match read_content(alloc, content) {
         Ok(program) => Ok(put(Status::Done, syntax_printer::print(alloc, program.prog())?)),
-        Err(ProgramTextFault::Text { number, place }) => put_fault(alloc, number, place),
+        Err(ProgramTextFault::Text { number, place }) => {
+            refuse_text(alloc, message, file, content, number, place)
+        }
         Err(ProgramTextFault::Memory) => Err(AllocError),
     }
 }
@@ -174,6 +205,8 @@ fn store_built<'a>(
 /// The act of `compile` for what the program's file holds.
 fn compile_act<'a>(
     alloc: Global,
+    message: &mut Text,
+    file: &str,
     content: &Content,
     image: &'a str,
     over: u16,
@@ -182,10 +215,12 @@ fn compile_act<'a>(
     ensures due { IfOk result (λ act. (text : List ℕ) → IsContent longest_text content.now text →
         IsCompileDue over text (outcome_of act)) }
     ensures done { IfOk result (CanBeDone (Some image.now)) }
+    ensures told { IfOk result (λ act. (text : List ℕ) → IsContent longest_text content.now text →
+        Explains (IsProgramTold over file.now text (outcome_of act) message.new) act) }
 {
     match compile_content(alloc, content, over) {
         Ok(built) => store_built(alloc, &built, image),
-        Err(fault) => refuse(alloc, Format::Text, fault),
+        Err(fault) => refuse(alloc, message, file, content, over, Format::Text, fault),
     }
 }
 
@@ -193,6 +228,7 @@ fn compile_act<'a>(
 #[tactic(auto, using(crate::proofs::Read::report_unread, command_answers::proofs::Trying::tried_last))]
 pub fn prepare_report<'a, F: Files>(
     alloc: Global,
+    message: &mut Text,
     format: Format,
     program: &'a str,
     over: u16,
@@ -208,9 +244,11 @@ pub fn prepare_report<'a, F: Files>(
     ensures reads { HasTried (program.now ∷ []) (F.state files.old).reads
         (F.state files.new).reads (status_of result) }
     ensures writes { (F.state files.new).writes ≡ (F.state files.old).writes }
+    ensures told { IfOk result (IsExplained F.tells (report_call format program.now over)
+        (F.state files.old).held message.new) }
 {
     let content = read(files, program, LONGEST_PROGRAM)?;
-    match report_act(alloc, format, &content, over) {
+    match report_act(alloc, message, program, &content, over, format) {
         Ok(act) => Ok(act),
         Err(_) => Err(PrepareError::Memory),
     }
@@ -220,6 +258,7 @@ pub fn prepare_report<'a, F: Files>(
 #[tactic(auto, using(command_answers::proofs::Held::first_unread, command_answers::proofs::Trying::tried_last))]
 pub fn prepare_slack<'a, F: Files>(
     alloc: Global,
+    message: &mut Text,
     program: &'a str,
     over: u16,
     files: &mut F,
@@ -234,9 +273,11 @@ pub fn prepare_slack<'a, F: Files>(
     ensures reads { HasTried (program.now ∷ []) (F.state files.old).reads
         (F.state files.new).reads (status_of result) }
     ensures writes { (F.state files.new).writes ≡ (F.state files.old).writes }
+    ensures told { IfOk result (IsExplained F.tells (call.slack program.now over)
+        (F.state files.old).held message.new) }
 {
     let content = read(files, program, LONGEST_PROGRAM)?;
-    match slack_act(alloc, &content, over) {
+    match slack_act(alloc, message, program, &content, over) {
         Ok(act) => Ok(act),
         Err(_) => Err(PrepareError::Memory),
     }
@@ -246,6 +287,7 @@ pub fn prepare_slack<'a, F: Files>(
 #[tactic(auto, using(command_answers::proofs::Held::first_unread, command_answers::proofs::Trying::tried_last))]
 pub fn prepare_print<'a, F: Files>(
     alloc: Global,
+    message: &mut Text,
     program: &'a str,
     files: &mut F,
 ) -> Result<PreparedCall<'a>, PrepareError<'a>>
@@ -258,9 +300,11 @@ pub fn prepare_print<'a, F: Files>(
     ensures reads { HasTried (program.now ∷ []) (F.state files.old).reads
         (F.state files.new).reads (status_of result) }
     ensures writes { (F.state files.new).writes ≡ (F.state files.old).writes }
+    ensures told { IfOk result (IsExplained F.tells (call.print program.now)
+        (F.state files.old).held message.new) }
 {
     let content = read(files, program, LONGEST_PROGRAM)?;
-    match print_act(alloc, &content) {
+    match print_act(alloc, message, program, &content) {
         Ok(act) => Ok(act),
         Err(_) => Err(PrepareError::Memory),
     }
@@ -270,6 +314,7 @@ pub fn prepare_print<'a, F: Files>(
 #[tactic(auto, using(command_answers::proofs::Held::first_unread, command_answers::proofs::Trying::tried_last))]
 pub fn prepare_compile<'a, F: Files>(
     alloc: Global,
+    message: &mut Text,
     program: &'a str,
     image: &'a str,
     over: u16,
@@ -285,9 +330,11 @@ pub fn prepare_compile<'a, F: Files>(
     ensures reads { HasTried (program.now ∷ []) (F.state files.old).reads
         (F.state files.new).reads (status_of result) }
     ensures writes { (F.state files.new).writes ≡ (F.state files.old).writes }
+    ensures told { IfOk result (IsExplained F.tells (call.compile program.now image.now over)
+        (F.state files.old).held message.new) }
 {
     let content = read(files, program, LONGEST_PROGRAM)?;
-    match compile_act(alloc, &content, image, over) {
+    match compile_act(alloc, message, program, &content, image, over) {
         Ok(act) => Ok(act),
         Err(_) => Err(PrepareError::Memory),
     }

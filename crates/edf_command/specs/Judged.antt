@@ -24,11 +24,15 @@ use Rattle.edf_command.specs.declared.judging.Subject.{Subject}
 
 -- the text is that of a program without waits, this is its image and what the test says of it; each
 -- process has a name, and the names are few enough for a script
-pub record IsSubject (s : Subject) : Type 0 where
-  pub judged : IsJudgedText s.text.items (named_of s.image) s.answer
+pub record IsSubjectOf (text : List ℕ) (s : Subject) : Type 0 where
+  pub judged : IsJudgedText text (named_of s.image) s.answer
   pub named : length s.image.names.processes ≡ length s.image.processes
   pub devices : length s.image.names.devices ≤ 2 ^ 16
   pub events : length s.image.names.events ≤ 2 ^ 16
+
+-- of some text
+abbrev pub IsSubject : Subject → Type 0
+IsSubject s = (text : List ℕ) × IsSubjectOf text s
 
 -- the fault of a text, or that its program waits
 pub data IsStopped (text : List ℕ) (number : ℕ) (place : Place) : Type 0 where

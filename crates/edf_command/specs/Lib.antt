@@ -1,3 +1,4 @@
 pub mod Listed
 pub mod Steps
 pub mod Judged
+pub mod Told

@@ -9,50 +9,43 @@ ghost use Rattle.command_due.specs.EdfDue.{IsEdfDue, IsJudgedText};
 ghost use Rattle.command_due.specs.Waits.{HasNoWait};
 ghost use Rattle.image.specs.Raw.{named_of};
 ghost use Rattle.syntax.specs.Tokens.{longest_text};
-ghost use Rattle.edf_command.specs.Judged.{IsSubject, Stops};
+ghost use Rattle.edf_command.specs.Judged.{IsSubject, IsSubjectOf, Stops};
+ghost use Rattle.command_refusals.specs.Told.{IsTextTold};
 ghost use Rattle.syntax_tree.specs.Placed.{placed};
 
 use crate::{ShapeFault, first_wait, judge_program};
 use checked_law::premises_of_laws::checked_programs_are_ready;
-use command_answers::{Content, PreparedCall, put_fault};
+use command_answers::{Content, PreparedCall};
+use command_refusals::refuse_text;
 use compile::{ProgramTextFault, read_written};
 use image::RawImage;
 use sched_demand::Judgement;
 use static_rule::rule;
 use static_semantics::Checked;
 use std::alloc::{AllocError, Global};
-use syntax_tree::Place;
+use syntax_tree::{Place, Text};
 
 /// Where a fault of a whole text stands.
 const START: Place = Place { line: 1, col: 1 };
 
-/// A program without waits: the text that it was read from, its image, and what the test of the
-/// demand says of it.
+/// A program without waits: its image, and what the test of the demand says of it.
 #[derive(Drop)]
 pub struct Subject {
-    pub text: Vec<u8>,
     pub image: RawImage,
     pub answer: Judgement,
 }
 
 /// A program without waits, judged.
-fn judge_waitless(
-    alloc: Global,
-    text: Vec<u8>,
-    program: &Checked,
-) -> Result<Subject, ProgramTextFault>
-    ghost source: { List ℕ }
-    requires source { text.items ≡ source }
-    requires written { IsWritten source (placed program.now) }
+fn judge_waitless(alloc: Global, program: &Checked) -> Result<Subject, ProgramTextFault>
+    ghost text: { List ℕ }
+    requires written { IsWritten text (placed program.now) }
     requires waitless { HasNoWait (placed program.now) }
-    ensures subject { IfOk result IsSubject }
-    ensures text { IfOk result (λ subject. subject.text.items ≡ text.items) }
-    ensures fault { IfErr result (Stops text.items) }
+    ensures subject { IfOk result (IsSubjectOf text) }
+    ensures fault { IfErr result (Stops text) }
 {
     checked_programs_are_ready();
     match judge_program(alloc, program) {
         Ok(judged) => Ok(Subject {
-            text,
             image: judged.image,
             answer: judged.answer,
         }),
@@ -62,18 +55,14 @@ fn judge_waitless(
 }
 
 /// The program of a text, judged.
-fn judge_written(
-    alloc: Global,
-    text: Vec<u8>,
-    program: &Checked,
-) -> Result<Subject, ProgramTextFault>
-    requires { IsWritten text.items (placed program.now) }
-    ensures subject { IfOk result IsSubject }
-    ensures text { IfOk result (λ subject. subject.text.items ≡ text.items) }
-    ensures fault { IfErr result (Stops text.items) }
+fn judge_written(alloc: Global, program: &Checked) -> Result<Subject, ProgramTextFault>
+    ghost text: { List ℕ }
+    requires { IsWritten text (placed program.now) }
+    ensures subject { IfOk result (IsSubjectOf text) }
+    ensures fault { IfErr result (Stops text) }
 {
     match first_wait(program.prog()) {
-        None => judge_waitless(alloc, text, program),
+        None => judge_waitless(alloc, program),
         Some(place) => Err(ProgramTextFault::Text {
             number: rule::WAITS,
             place,
@@ -82,13 +71,12 @@ fn judge_written(
 }
 
 /// A text, read and judged.
-fn judge_text(alloc: Global, text: Vec<u8>) -> Result<Subject, ProgramTextFault>
-    ensures subject { IfOk result IsSubject }
-    ensures text { IfOk result (λ subject. subject.text.items ≡ text.items) }
-    ensures fault { IfErr result (Stops text.items) }
+fn judge_text(alloc: Global, text: &[u8]) -> Result<Subject, ProgramTextFault>
+    ensures subject { IfOk result (IsSubjectOf text.now) }
+    ensures fault { IfErr result (Stops text.now) }
 {
-    match read_written(alloc, text.as_slice()) {
-        Ok(program) => judge_written(alloc, text, &program),
+    match read_written(alloc, text) {
+        Ok(program) => judge_written(alloc, &program),
         Err(fault) => Err(fault),
     }
 }
@@ -99,16 +87,16 @@ fn judge_text(alloc: Global, text: Vec<u8>) -> Result<Subject, ProgramTextFault>
 ///
 /// As those of `read_written`; 48 at the first wait statement; the fault of a text that is too long
 /// is 4, at its first byte.
-pub fn judge_source(alloc: Global, content: Content) -> Result<Subject, ProgramTextFault>
+pub fn judge_source(alloc: Global, content: &Content) -> Result<Subject, ProgramTextFault>
     ensures subject { IfOk result IsSubject }
     ensures judged { IfOk result (λ subject. (text : List ℕ) →
-        IsContent longest_text content text →
+        IsContent longest_text content.now text →
         IsJudgedText text (named_of subject.image) subject.answer) }
     ensures fault { IfErr result (λ why. (text : List ℕ) →
-        IsContent longest_text content text → Stops text why) }
+        IsContent longest_text content.now text → Stops text why) }
 {
     match content {
-        Content::Bytes(text) => judge_text(alloc, text),
+        Content::Bytes(text) => judge_text(alloc, text.as_slice()),
         Content::TooLong => Err(ProgramTextFault::Text {
             number: rule::LONG_TEXT,
             place: START,
@@ -116,18 +104,26 @@ pub fn judge_source(alloc: Global, content: Content) -> Result<Subject, ProgramT
     }
 }
 
-/// The act for a text that gave no such program: it puts the line of its fault.
+/// The act for a file that gave no such program: it puts the line of the fault, and the message
+/// takes the place of the given one.
 pub fn refuse_source<'a>(
     alloc: Global,
+    message: &mut Text,
+    file: &str,
+    content: &Content,
     fault: ProgramTextFault,
 ) -> Result<PreparedCall<'a>, AllocError>
     ensures due { IfOk result (λ act. (text : List ℕ) (script : Option (List ℕ)) →
         Stops text fault → IsEdfDue (Some text) script (outcome_of act)) }
     ensures quiet { IfOk result IsQuiet }
     ensures refused { IfOk result (λ act. number_of act.status ≢ 0) }
+    ensures told { IfOk result (λ act. (text : List ℕ) → IsContent longest_text content.now text →
+        IsTextTold file.now text (outcome_of act) message.new) }
 {
     match fault {
-        ProgramTextFault::Text { number, place } => put_fault(alloc, number, place),
+        ProgramTextFault::Text { number, place } => {
+            refuse_text(alloc, message, file, content, number, place)
+        }
         ProgramTextFault::Memory => Err(AllocError),
     }
 }

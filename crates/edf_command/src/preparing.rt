@@ -9,6 +9,9 @@ ghost use Rattle.command_answers.specs.Tried.{HasTried, MayHaveTried, status_of}
 ghost use Rattle.image.specs.Raw.{named_of};
 ghost use Rattle.outside.specs.Outside.{AllStay, NoneFell};
 ghost use Rattle.edf_command.specs.Judged.{IsMet, IsScriptDue, IsScriptError, IsSubject, IsSubjectDue};
+ghost use Rattle.command_refusals.specs.Refusals.{Explains, IsExplained};
+ghost use Rattle.command_refusals.specs.Told.{IsScriptTold};
+ghost use Rattle.edf_command.specs.Told.{IsSubjectTold};
 ghost use Rattle.command_words.specs.Calls as call;
 
 use crate::judging::{Subject, judge_source, refuse_source};
@@ -17,11 +20,13 @@ use command_answers::{LONGEST_PROGRAM, LONGEST_SCRIPT, PrepareError, PreparedCal
 use outside::Files;
 use sched_demand::Judgement;
 use std::alloc::Global;
+use syntax_tree::Text;
 
 /// The last part of `edf`: the script of a program whose demand is met.
 #[tactic(auto, using(command_answers::proofs::Trying::tried_last))]
 fn run_on<'a, F: Files>(
     alloc: Global,
+    message: &mut Text,
     subject: Subject,
     script: &'a str,
     files: &mut F,
@@ -41,9 +46,12 @@ fn run_on<'a, F: Files>(
     ensures reads { HasTried (script.now ∷ []) (F.state files.old).reads
         (F.state files.new).reads (status_of result) }
     ensures writes { (F.state files.new).writes ≡ (F.state files.old).writes }
+    ensures told { IfOk result (λ act. OnTrue F.tells
+        (IsSomeAnd ((F.state files.old).held script.now) (λ text. Explains
+        (IsScriptTold subject.image.names script.now text (outcome_of act) message.new) act))) }
 {
     let content = read(files, script, LONGEST_SCRIPT)?;
-    match run_act(alloc, subject, &content) {
+    match run_act(alloc, message, script, subject, &content) {
         Ok(act) => Ok(act),
         Err(_) => Err(PrepareError::Memory),
     }
@@ -52,6 +60,8 @@ fn run_on<'a, F: Files>(
 /// The second part of `edf`, of a program that was judged.
 fn judged_on<'a, F: Files>(
     alloc: Global,
+    message: &mut Text,
+    program: &str,
     subject: Subject,
     script: &'a str,
     files: &mut F,
@@ -69,11 +79,14 @@ fn judged_on<'a, F: Files>(
     ensures reads { MayHaveTried (script.now ∷ []) (F.state files.old).reads
         (F.state files.new).reads (status_of result) }
     ensures writes { (F.state files.new).writes ≡ (F.state files.old).writes }
+    ensures told { IfOk result (λ act. OnTrue F.tells (Explains (IsSubjectTold program.now
+        subject ((F.state files.old).held script.now) script.now (outcome_of act) message.new)
+        act)) }
 {
     if let Judgement::Feasible { .. } = subject.answer {
-        return run_on(alloc, subject, script, files);
+        return run_on(alloc, message, subject, script, files);
     }
-    match refuse_unfit(alloc, &subject) {
+    match refuse_unfit(alloc, message, program, &subject) {
         Ok(act) => Ok(act),
         Err(_) => Err(PrepareError::Memory),
     }
@@ -83,6 +96,7 @@ fn judged_on<'a, F: Files>(
 #[tactic(auto, using(command_answers::proofs::Held::first_unread, command_answers::proofs::Trying::tried_first, command_answers::proofs::Trying::tried_perhaps, command_answers::proofs::Trying::tried_alone))]
 pub fn prepare_edf<'a, F: Files>(
     alloc: Global,
+    message: &mut Text,
     program: &'a str,
     script: &'a str,
     files: &mut F,
@@ -96,11 +110,13 @@ pub fn prepare_edf<'a, F: Files>(
     ensures reads { HasTried (program.now ∷ script.now ∷ []) (F.state files.old).reads
         (F.state files.new).reads (status_of result) }
     ensures writes { (F.state files.new).writes ≡ (F.state files.old).writes }
+    ensures told { IfOk result (IsExplained F.tells (call.edf program.now script.now)
+        (F.state files.old).held message.new) }
 {
     let content = read(files, program, LONGEST_PROGRAM)?;
-    match judge_source(alloc, content) {
-        Ok(subject) => judged_on(alloc, subject, script, files),
-        Err(fault) => match refuse_source(alloc, fault) {
+    match judge_source(alloc, &content) {
+        Ok(subject) => judged_on(alloc, message, program, subject, script, files),
+        Err(fault) => match refuse_source(alloc, message, program, &content, fault) {
             Ok(act) => Ok(act),
             Err(_) => Err(PrepareError::Memory),
         },

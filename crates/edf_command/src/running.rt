@@ -10,24 +10,39 @@ ghost use Rattle.command_due.specs.Report.{edf_report};
 ghost use Rattle.image.specs.Raw.{named_of};
 ghost use Rattle.edf_command.specs.Judged.{IsMet, IsScriptDue, IsSubject};
 ghost use Rattle.script.specs.Scripts.{IsScript, longest_text};
+ghost use Rattle.command_refusals.specs.Refusals.{Explains};
+ghost use Rattle.command_refusals.specs.Told.{IsScriptTold};
+ghost use Rattle.message_late.specs.Message as message_of;
 
 use crate::judging::Subject;
 use crate::report;
 use command_answers::{
-    Content, Dispatch, PreparedCall, PreparedRun, Status, judge_script, put, refuse_script,
+    Content, Dispatch, PreparedCall, PreparedRun, Status, judge_script, put,
 };
+use command_refusals::refuse_script;
 use edf_feasible::edf_ready::edf_images_are_ready;
+use message_late::demand_message;
 use script::Script;
 use std::alloc::{AllocError, Global};
+use syntax_tree::Text;
 
-/// The act for a program whose demand is not met: it puts the report.
-pub fn refuse_unfit<'a>(alloc: Global, subject: &Subject) -> Result<PreparedCall<'a>, AllocError>
+/// The act for a program whose demand is not met: it puts the report, and the message takes the
+/// place of the given one.
+pub fn refuse_unfit<'a>(
+    alloc: Global,
+    message: &mut Text,
+    file: &str,
+    subject: &Subject,
+) -> Result<PreparedCall<'a>, AllocError>
     requires { IsSubject subject.now }
     ensures act { IfOk result (λ act. act ≡
         puts Status.Late (edf_report (named_of subject.now.image) subject.now.answer)) }
     ensures quiet { IfOk result IsQuiet }
     ensures refused { IfOk result (λ act. number_of act.status ≢ 0) }
+    ensures told { IfOk result (λ act.
+        message.new ≡ message_of.demand_message file.now subject.now.answer) }
 {
+    *message = demand_message(alloc, file, &subject.answer)?;
     let text = report(alloc, &subject.image, subject.answer)?;
     Ok(put(Status::Late, text))
 }
@@ -64,6 +79,8 @@ fn run_image<'a>(
 /// The act of `edf` for what the script's file holds, where the demand is met.
 pub fn run_act<'a>(
     alloc: Global,
+    message: &mut Text,
+    file: &str,
     subject: Subject,
     content: &Content,
 ) -> Result<PreparedCall<'a>, AllocError>
@@ -72,9 +89,14 @@ pub fn run_act<'a>(
     ensures due { IfOk result (λ act. (text : List ℕ) → IsContent longest_text content.now text →
         IsScriptDue (named_of subject.image) subject.answer text (outcome_of act)) }
     ensures done { IfOk result (CanBeDone None) }
+    ensures told { IfOk result (λ act. (text : List ℕ) → IsContent longest_text content.now text →
+        Explains (IsScriptTold subject.image.names file.now text (outcome_of act) message.new)
+        act) }
 {
     match judge_script(alloc, content, &subject.image.names) {
         Ok(script) => run_image(alloc, subject, script),
-        Err(fault) => refuse_script(alloc, &fault),
+        Err(fault) => {
+            refuse_script(alloc, message, file, content, &subject.image.names, &fault)
+        }
     }
 }

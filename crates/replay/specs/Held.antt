@@ -1,5 +1,5 @@
 -- Programs that files hold.
-use Rattle.std.specs.Prelude.{◌≡◌, ◌≤◌, ◌^◌, length}
+use Rattle.std.specs.Prelude.{◌≡◌, ◌≤◌, ◌^◌, ℕ, List, length}
 use Rattle.syntax_tree.specs.declared.place.Place.{Place}
 use Rattle.syntax_tree.specs.Placed.{Prog, placed, plain}
 use Rattle.image.specs.declared.names.ImageNames.{ImageNames}
@@ -16,6 +16,10 @@ pub record AreNamesFor (g : Prog Place) (names : ImageNames) : Type 0 where
 
 -- the text is that of the program, which keeps to all rules and is not too large, and these are its
 -- names
-pub record IsSource (source : Source) : Type 0 where
-  pub written : IsWritten source.text.items (placed source.program)
+pub record IsSourceOf (text : List ℕ) (source : Source) : Type 0 where
+  pub written : IsWritten text (placed source.program)
   pub names : AreNamesFor (placed source.program) source.names
+
+-- of some text
+abbrev pub IsSource : Source → Type 0
+IsSource source = (text : List ℕ) × IsSourceOf text source

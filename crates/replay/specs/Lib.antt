@@ -3,3 +3,4 @@ pub mod Told
 pub mod Held
 pub mod Scripted
 pub mod Lines
+pub mod Explained

@@ -1,6 +1,6 @@
 //! Logs, judged by the program.
 
-ghost use Rattle.std.specs.Prelude.{◌≡◌, ◌≢◌, ◌<◌, ◌^◌, ℕ, List, IfOk};
+ghost use Rattle.std.specs.Prelude.{◌≡◌, ◌≢◌, ◌<◌, ◌≤◌, ◌^◌, ℕ, List, IfOk, length};
 ghost use Rattle.command_answers.specs.Acts.{outcome_of};
 ghost use Rattle.command_due.specs.Source.{IsWritten};
 ghost use Rattle.command_answers.specs.Acting.{IsQuiet, puts};
@@ -11,6 +11,9 @@ ghost use Rattle.replay.specs.Held.{IsSource};
 ghost use Rattle.replay.specs.Lines.{line_of, status_of};
 ghost use Rattle.command_due.specs.ReplayDue as due;
 ghost use Rattle.command_due.specs.ReplayDue.{IsJudged};
+ghost use Rattle.command_refusals.specs.Refusals.{Explains};
+ghost use Rattle.command_refusals.specs.Told.{IsLogTold, IsMisreadTold, IsRefusedTold};
+ghost use Rattle.message_log.specs.Log as message_of;
 ghost use Rattle.syntax_tree.specs.Placed.{placed};
 
 use crate::logs::judge_log;
@@ -18,29 +21,87 @@ use crate::replay;
 use crate::sources::Source;
 use command_answers::{Content, PreparedCall, Status, log_fault_line, put, refused_line, run_line};
 use event_log::LogFault;
+use image::ImageNames;
+use message_log::{log_message, long_message, refused_message};
 use script::Script;
 use source_semantics::Verdict;
 use std::alloc::{AllocError, Global};
+use syntax_tree::Text;
 
-/// The act that puts the verdict on a log of so many events.
-fn put_verdict<'a>(
+/// The message for a log whose event on this line is refused.
+fn message_of_refused(
     alloc: Global,
-    verdict: Verdict,
-    count: u64,
-) -> Result<PreparedCall<'a>, AllocError>
-    ensures { IfOk result (λ act. act ≡ puts (status_of verdict) (line_of verdict count)) }
+    file: &str,
+    content: &Content,
+    line: u32,
+) -> Result<Text, AllocError>
+    ensures { IfOk result (λ message. (log : List ℕ) → IsContent longest_text content.now log →
+        length log ≤ longest_text → message ≡ message_of.refused_message file.now log line) }
 {
-    match verdict {
-        Verdict::Run => Ok(put(Status::Done, run_line(alloc, count)?)),
-        Verdict::Refused { line } => Ok(put(Status::Log, refused_line(alloc, line)?)),
+    match content {
+        Content::Bytes(text) => refused_message(alloc, file, text.as_slice(), line),
+        Content::TooLong => long_message(alloc, file),
     }
 }
 
-/// The act for a text that is no log: it puts the line of its fault.
-fn refuse_log<'a>(alloc: Global, fault: &LogFault) -> Result<PreparedCall<'a>, AllocError>
+/// The act that puts the verdict on a log of so many events. Where it is refused, the message takes
+/// the place of the given one.
+fn put_verdict<'a>(
+    alloc: Global,
+    message: &mut Text,
+    file: &str,
+    content: &Content,
+    verdict: Verdict,
+    count: u64,
+) -> Result<PreparedCall<'a>, AllocError>
+    ensures act { IfOk result (λ act. act ≡ puts (status_of verdict) (line_of verdict count)) }
+    ensures told { IfOk result (λ act. (log : List ℕ) → IsContent longest_text content.now log →
+        length log ≤ longest_text →
+        Explains (IsRefusedTold file.now log (outcome_of act) message.new) act) }
+{
+    match verdict {
+        Verdict::Run => Ok(put(Status::Done, run_line(alloc, count)?)),
+        Verdict::Refused { line } => {
+            *message = message_of_refused(alloc, file, content, line)?;
+            Ok(put(Status::Log, refused_line(alloc, line)?))
+        }
+    }
+}
+
+/// The message for a fault of what a log's file holds, for these names.
+#[tactic(auto, using(crate::proofs::Judged::long_log))]
+fn message_of_fault(
+    alloc: Global,
+    file: &str,
+    content: &Content,
+    names: &ImageNames,
+    fault: &LogFault,
+) -> Result<Text, AllocError>
+    ensures { IfOk result (λ message. (log : List ℕ) → IsContent longest_text content.now log →
+        message ≡ message_of.log_message file.now log names.now fault.now) }
+{
+    match content {
+        Content::Bytes(text) => log_message(alloc, file, text.as_slice(), names, fault),
+        Content::TooLong => long_message(alloc, file),
+    }
+}
+
+/// The act for a file that holds no log for these names: it puts the line of the fault, and the
+/// message takes the place of the given one.
+fn refuse_log<'a>(
+    alloc: Global,
+    message: &mut Text,
+    file: &str,
+    content: &Content,
+    names: &ImageNames,
+    fault: &LogFault,
+) -> Result<PreparedCall<'a>, AllocError>
     ensures act { IfOk result (λ act. act ≡ puts Status.Log (due.log_fault_line fault.now)) }
     ensures is_fault { IfOk result (λ act. fault.now ≢ log_fault.Memory) }
+    ensures told { IfOk result (λ act. (log : List ℕ) → IsContent longest_text content.now log →
+        IsMisreadTold names.now file.now log (outcome_of act) message.new) }
 {
+    *message = message_of_fault(alloc, file, content, names, fault)?;
     match fault {
         LogFault::Memory => Err(AllocError),
         LogFault::Line(_) | LogFault::Long => Ok(put(Status::Log, log_fault_line(alloc, fault)?)),
@@ -50,6 +111,8 @@ fn refuse_log<'a>(alloc: Global, fault: &LogFault) -> Result<PreparedCall<'a>, A
 /// The act of `replay` for what the log's file holds, where program and script have no fault.
 pub fn log_act<'a>(
     alloc: Global,
+    message: &mut Text,
+    file: &str,
     source: &Source,
     script: &Script,
     content: &Content,
@@ -62,12 +125,14 @@ pub fn log_act<'a>(
         IsJudged (placed source.now.program) script.now.lines script.now.end log
         (outcome_of act)) }
     ensures quiet { IfOk result IsQuiet }
+    ensures told { IfOk result (λ act. (log : List ℕ) → IsContent longest_text content.now log →
+        Explains (IsLogTold source.now.names file.now log (outcome_of act) message.new) act) }
 {
     match judge_log(alloc, content, &source.names) {
         Ok(events) => {
             let verdict = replay(alloc, &source.program, script, events.as_slice())?;
-            put_verdict(alloc, verdict, events.len() as u64)
+            put_verdict(alloc, message, file, content, verdict, events.len() as u64)
         }
-        Err(fault) => refuse_log(alloc, &fault),
+        Err(fault) => refuse_log(alloc, message, file, content, &source.names, &fault),
     }
 }

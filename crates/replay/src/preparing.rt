@@ -11,22 +11,27 @@ ghost use Rattle.replay.specs.Held.{IsSource};
 ghost use Rattle.replay.specs.Scripted.{IsLaterError, IsReplayed};
 ghost use Rattle.command_due.specs.ReplayDue.{IsJudged};
 ghost use Rattle.syntax_tree.specs.Placed.{placed};
+ghost use Rattle.command_refusals.specs.Refusals.{Explains, IsExplained};
+ghost use Rattle.command_refusals.specs.Told.{IsLogTold};
+ghost use Rattle.replay.specs.Explained.{IsLaterTold};
 ghost use Rattle.command_words.specs.Calls as call;
 
 use crate::judge_log::log_act;
 use crate::sources::{Source, read_source, refuse_source};
 use command_answers::{
     LONGEST_LOG, LONGEST_PROGRAM, LONGEST_SCRIPT, PrepareError, PreparedCall, judge_script, read,
-    refuse_script,
 };
+use command_refusals::refuse_script;
 use outside::Files;
 use script::Script;
 use std::alloc::Global;
+use syntax_tree::Text;
 
 /// The last third of `replay`: the log of a program over a script.
 #[tactic(auto, using(command_answers::proofs::Trying::tried_last))]
 fn log_on<'a, F: Files>(
     alloc: Global,
+    message: &mut Text,
     source: &Source,
     script: &Script,
     log: &'a str,
@@ -48,9 +53,12 @@ fn log_on<'a, F: Files>(
     ensures reads { HasTried (log.now ∷ []) (F.state files.old).reads
         (F.state files.new).reads (status_of result) }
     ensures writes { (F.state files.new).writes ≡ (F.state files.old).writes }
+    ensures told { IfOk result (λ act. OnTrue F.tells
+        (IsSomeAnd ((F.state files.old).held log.now) (λ other. Explains
+        (IsLogTold source.now.names log.now other (outcome_of act) message.new) act))) }
 {
     let content = read(files, log, LONGEST_LOG)?;
-    match log_act(alloc, source, script, &content) {
+    match log_act(alloc, message, log, source, script, &content) {
         Ok(act) => Ok(act),
         Err(_) => Err(PrepareError::Memory),
     }
@@ -60,6 +68,7 @@ fn log_on<'a, F: Files>(
 #[tactic(auto, using(command_answers::proofs::Trying::tried_first, command_answers::proofs::Trying::tried_on, command_answers::proofs::Trying::tried_alone))]
 fn script_on<'a, F: Files>(
     alloc: Global,
+    message: &mut Text,
     source: &Source,
     script: &'a str,
     log: &'a str,
@@ -79,11 +88,21 @@ fn script_on<'a, F: Files>(
     ensures reads { HasTried (script.now ∷ log.now ∷ []) (F.state files.old).reads
         (F.state files.new).reads (status_of result) }
     ensures writes { (F.state files.new).writes ≡ (F.state files.old).writes }
+    ensures told { IfOk result (λ act. OnTrue F.tells (Explains (IsLaterTold source.now.names
+        script.now log.now ((F.state files.old).held script.now)
+        ((F.state files.old).held log.now) (outcome_of act) message.new) act)) }
 {
     let content = read(files, script, LONGEST_SCRIPT)?;
     match judge_script(alloc, &content, &source.names) {
-        Ok(lines) => log_on(alloc, source, &lines, log, files),
-        Err(fault) => match refuse_script(alloc, &fault) {
+        Ok(lines) => log_on(alloc, message, source, &lines, log, files),
+        Err(fault) => match refuse_script(
+            alloc,
+            message,
+            script,
+            &content,
+            &source.names,
+            &fault,
+        ) {
             Ok(act) => Ok(act),
             Err(_) => Err(PrepareError::Memory),
         },
@@ -95,6 +114,7 @@ fn script_on<'a, F: Files>(
 #[tactic(auto, using(command_answers::proofs::Held::first_unread, command_answers::proofs::Trying::tried_first, command_answers::proofs::Trying::tried_on, command_answers::proofs::Trying::tried_alone))]
 pub fn prepare_replay<'a, F: Files>(
     alloc: Global,
+    message: &mut Text,
     program: &'a str,
     script: &'a str,
     log: &'a str,
@@ -109,11 +129,13 @@ pub fn prepare_replay<'a, F: Files>(
     ensures reads { HasTried (program.now ∷ script.now ∷ log.now ∷ []) (F.state files.old).reads
         (F.state files.new).reads (status_of result) }
     ensures writes { (F.state files.new).writes ≡ (F.state files.old).writes }
+    ensures told { IfOk result (IsExplained F.tells (call.replay program.now script.now log.now)
+        (F.state files.old).held message.new) }
 {
     let content = read(files, program, LONGEST_PROGRAM)?;
-    match read_source(alloc, content) {
-        Ok(source) => script_on(alloc, &source, script, log, files),
-        Err(fault) => match refuse_source(alloc, fault) {
+    match read_source(alloc, &content) {
+        Ok(source) => script_on(alloc, message, &source, script, log, files),
+        Err(fault) => match refuse_source(alloc, message, program, &content, fault) {
             Ok(act) => Ok(act),
             Err(_) => Err(PrepareError::Memory),
         },

@@ -6,10 +6,13 @@ ghost use Rattle.command_answers.specs.Acts.{outcome_of};
 ghost use Rattle.command_answers.specs.Contents.{IsContent};
 ghost use Rattle.command_answers.specs.Prepared.{Prepares};
 ghost use Rattle.command_answers.specs.Tried.{HasTried, status_of};
+ghost use Rattle.command_refusals.specs.Refusals.{Explains, IsExplained};
+ghost use Rattle.command_refusals.specs.Told.{IsTableTold};
 ghost use Rattle.command_due.specs.AsmDue.{keeps};
 ghost use Rattle.command_due.specs.CommandsDue.{told};
 ghost use Rattle.command_due.specs.TableDue.{IsTableDue, table_fault_line as line_of_fault};
 ghost use Rattle.command_words.specs.Calls as call;
+ghost use Rattle.message_table.specs.Message as message_of;
 ghost use Rattle.outside.specs.Outside.{AllStay, NoneFell};
 ghost use Rattle.table_format.specs.Program.{table_text as text_of_table};
 ghost use Rattle.table_format.specs.Rules.{longest_text};
@@ -17,6 +20,7 @@ ghost use Rattle.table_reader.specs.Answer.{Answers};
 
 use command_answers::{Content, PrepareError, PreparedCall, Status, Store, put, read};
 use itoa::Buffer;
+use message_table::{long_message, table_message};
 use outside::Files;
 use std::alloc::{AllocError, Global};
 use syntax_tree::Text;
@@ -55,24 +59,62 @@ fn table_fault_line(alloc: Global, number: u8, line: u32) -> Result<Text, AllocE
     Ok(text)
 }
 
-/// The line of a fault.
-fn line_of(alloc: Global, fault: TableFault) -> Result<Text, AllocError>
-    ensures { IfOk result (λ line. (text : List ℕ) → Answers text (Err fault) →
+/// The message for a fault of what a table's file holds.
+#[tactic(auto, using(crate::proofs::Told::long_table))]
+fn message_of(
+    alloc: Global,
+    file: &str,
+    content: &Content,
+    number: u8,
+    line: u32,
+) -> Result<Text, AllocError>
+    ensures { IfOk result (λ message. (text : List ℕ) → IsContent longest_text content.now text →
+        message ≡ message_of.table_message file.now text number line) }
+{
+    match content {
+        Content::Bytes(text) => table_message(alloc, file, text.as_slice(), number, line),
+        Content::TooLong => long_message(alloc, file),
+    }
+}
+
+/// The line of a fault, and the message.
+fn line_of(
+    alloc: Global,
+    message: &mut Text,
+    file: &str,
+    content: &Content,
+    fault: TableFault,
+) -> Result<Text, AllocError>
+    ensures due { IfOk result (λ line. (text : List ℕ) → Answers text (Err fault) →
         IsTableDue text (told 2 line)) }
+    ensures told { IfOk result (λ line. (text : List ℕ) → IsContent longest_text content.now text →
+        IsTableTold file.now text (told 2 line) message.new) }
 {
     match fault {
-        TableFault::Bad { number, line } => table_fault_line(alloc, number, line),
+        TableFault::Bad { number, line } => {
+            *message = message_of(alloc, file, content, number, line)?;
+            table_fault_line(alloc, number, line)
+        }
         TableFault::Memory => Err(AllocError),
     }
 }
 
-/// The act for a text that is no table: it puts the line of its fault.
-fn refuse<'a>(alloc: Global, fault: TableFault) -> Result<PreparedCall<'a>, AllocError>
+/// The act for a file that holds no table: it puts the line of the fault, and the message takes the
+/// place of the given one.
+fn refuse<'a>(
+    alloc: Global,
+    message: &mut Text,
+    file: &str,
+    content: &Content,
+    fault: TableFault,
+) -> Result<PreparedCall<'a>, AllocError>
     ensures due { IfOk result (λ act. (text : List ℕ) → Answers text (Err fault) →
         IsTableDue text (outcome_of act)) }
     ensures quiet { IfOk result IsQuiet }
+    ensures told { IfOk result (λ act. (text : List ℕ) → IsContent longest_text content.now text →
+        IsTableTold file.now text (outcome_of act) message.new) }
 {
-    let line = line_of(alloc, fault)?;
+    let line = line_of(alloc, message, file, content, fault)?;
     Ok(put(Status::Text, line))
 }
 
@@ -101,16 +143,20 @@ fn store_program<'a>(
 /// The act of `table` for what the table's file holds.
 fn table_act<'a>(
     alloc: Global,
+    message: &mut Text,
+    tasks: &str,
     content: &Content,
     program: &'a str,
 ) -> Result<PreparedCall<'a>, AllocError>
     ensures due { IfOk result (λ act. (text : List ℕ) → IsContent longest_text content.now text →
         IsTableDue text (outcome_of act)) }
     ensures done { IfOk result (CanBeDone (Some program.now)) }
+    ensures told { IfOk result (λ act. (text : List ℕ) → IsContent longest_text content.now text →
+        Explains (IsTableTold tasks.now text (outcome_of act) message.new) act) }
 {
     match read_content(alloc, content) {
         Ok(table) => store_program(alloc, &table, program),
-        Err(fault) => refuse(alloc, fault),
+        Err(fault) => refuse(alloc, message, tasks, content, fault),
     }
 }
 
@@ -118,6 +164,7 @@ fn table_act<'a>(
 #[tactic(auto, using(command_answers::proofs::Held::first_unread, command_answers::proofs::Trying::tried_last))]
 pub fn prepare_table<'a, F: Files>(
     alloc: Global,
+    message: &mut Text,
     tasks: &'a str,
     program: &'a str,
     files: &mut F,
@@ -131,9 +178,11 @@ pub fn prepare_table<'a, F: Files>(
     ensures reads { HasTried (tasks.now ∷ []) (F.state files.old).reads
         (F.state files.new).reads (status_of result) }
     ensures writes { (F.state files.new).writes ≡ (F.state files.old).writes }
+    ensures told { IfOk result (IsExplained F.tells (call.table tasks.now program.now)
+        (F.state files.old).held message.new) }
 {
     let content = read(files, tasks, LONGEST_TABLE)?;
-    match table_act(alloc, &content, program) {
+    match table_act(alloc, message, tasks, &content, program) {
         Ok(act) => Ok(act),
         Err(_) => Err(PrepareError::Memory),
     }

@@ -6,6 +6,7 @@ use Rattle.outside.specs.Outside.{outside}
 use Rattle.command_answers.specs.declared.status.Status.TheVariants as status
 use Rattle.command_answers.specs.Causes.{HasCause}
 use Rattle.command_answers.specs.Files.{listed, sources_of, target_of}
+use Rattle.command.proofs.Explained.{performed_right}
 use Rattle.command.proofs.Tried.{performed_reads, performed_writes}
 use Rattle.command.proofs.Went.{performed, performed_cause, unread_cause}
 use Rattle.command.proofs.carry.carry.Goals as goal
@@ -38,3 +39,8 @@ returns-in-Err-Unread-clause-cause g c =
     subst (λ (n : Bor (List ℕ)). HasCause (sources_of call) (listed (target_of call)) before now (status.Unread n)) (sym c.in-Err-Unread.name-is)
     (unread_cause g.F.Files.tells call (g.F.Files.state c.args.files.now) (g.F.Files.state c.prepare.new.files) (g.O.Sink.state c.args.out.now) c.in-Err-Unread.field-0 _
     c.in-Err-Unread.ensures.prepared c.in-Err-Unread.field-0-is)
+
+pub returns-in-Ok-clause-told : goal.returns-in-Ok-clause-told
+returns-in-Ok-clause-told g c =
+    performed_right g.F.Files.tells (call_of c.args.command.now) (g.F.Files.state c.args.files.now) (g.F.Files.state c.prepare.new.files) (g.F.Files.state c.perform.new.files) (g.O.Sink.state c.args.out.now)
+    (g.O.Sink.state c.perform.new.out) c.in-Ok.act c.perform.result c.prepare.new.message c.in-Ok.ensures.prepared c.perform.ensures.performed c.in-Ok.ensures.told

@@ -1,5 +1,6 @@
 use Rattle.std.proofs.Common.{refl, subst}
 use Rattle.command_words.specs.Words.{IsRequest, call_of, load_of}
+use Rattle.command.proofs.Explained.{command_right}
 use Rattle.command.proofs.Loads.{made_as_asked}
 use Rattle.command.proofs.Tried.{command_ended, command_read, command_written, load_ended, load_read, load_written}
 use Rattle.command.proofs.carry.carry_out.Goals as goal
@@ -73,3 +74,16 @@ returns-in-None-clause-cause g c = record {
   load = λ load is. absurd (c.in-None.ensures.loads load is);
   other = λ no no_load. c.usage.ensures.cause (g.F.Files.state c.args.files.now) (g.F.Files.state c.args.files.now);
 }
+
+pub returns-in-Some-Command-clause-told : goal.returns-in-Some-Command-clause-told
+returns-in-Some-Command-clause-told g c =
+    let asked = subst (IsRequest c.args.words.now) c.in-Some-Command.field-0-is c.in-Some-Command.ensures.some in
+    command_right c.one_command.ensures g.F.Files.tells c.args.words.now (call_of c.in-Some-Command.command) _ _ _ c.carry.new.message asked.0 c.carry.ensures.told
+
+pub returns-in-Some-Load-clause-told : goal.returns-in-Some-Load-clause-told
+returns-in-Some-Load-clause-told g c = λ call is.
+    let asked = subst (IsRequest c.args.words.now) c.in-Some-Load.field-0-is c.in-Some-Load.ensures.some in
+    absurd (c.no_command_is_a_load.ensures c.args.words.now call (load_of c.in-Some-Load.load) is asked)
+
+pub returns-in-None-clause-told : goal.returns-in-None-clause-told
+returns-in-None-clause-told g c = λ call is. absurd (c.in-None.ensures.commands call is)

@@ -3,6 +3,7 @@ use Rattle.command.proofs.Complete.{completes}
 use Rattle.command.proofs.Calls.{quiet_settled, read_settled, status_settled, written_settled}
 use Rattle.command.proofs.Clauses.{went_whole, made_whole, usage_whole, done_whole, late_whole, cause_whole}
 use Rattle.command_words.specs.Calls as call
+use Rattle.command.proofs.Explained.{right_whole}
 use Rattle.command.proofs.Tabled.{tells_numbers}
 use Rattle.command.proofs.whole.whole_call.Goals as goal
 
@@ -73,3 +74,12 @@ returns-clause-numbers g c = λ tasks program is.
     })
     g.F.Files.tells tasks program _ _ _
     (done_whole _ _ _ _ _ _ _ _ c.new-out.ensures.taken c.new-out.ensures.faults c.requires.nothing c.settle-sink.ensures.settled g.F.Files.tells asked (c.rte-status.ensures.went asked is) (c.rte-status.ensures.done asked is))
+
+-- what a person was told
+pub returns-clause-told : goal.returns-clause-told
+returns-clause-told g c = record {
+  refusal = c.rte-status.new.message;
+  told = c.tell.ensures;
+  right = λ call is.
+      right_whole _ _ _ _ _ _ _ _ _ c.new-out.ensures.taken c.new-out.ensures.faults c.settle-sink.ensures.settled c.settle-sink.ensures.cause g.F.Files.tells call (c.rte-status.ensures.told call is);
+}

@@ -23,6 +23,6 @@ returns-in_ok-print-in-Ok-clause-due c =
 
 pub returns-in-Err-Text-clause-due : goal.returns-in-Err-Text-clause-due
 returns-in-Err-Text-clause-due c =
-    of_made c.put_fault.result (puts status.Text (fault_line c.in-Err-Text.number c.in-Err-Text.place))
+    of_made c.refuse_text.result (puts status.Text (fault_line c.in-Err-Text.number c.in-Err-Text.place))
     (λ act. (text : List ℕ) → IsContent longest_text c.args.content.now text → IsPrintDue text (outcome_of act))
-    c.put_fault.ensures.act (λ text is. faulty_read c.in-Err-Text.field-0 c.in-Err-Text.number c.in-Err-Text.place c.in-Err-Text.field-0-is text (c.in-Err-Text.ensures text is))
+    c.refuse_text.ensures.act (λ text is. faulty_read c.in-Err-Text.field-0 c.in-Err-Text.number c.in-Err-Text.place c.in-Err-Text.field-0-is text (c.in-Err-Text.ensures text is))

@@ -13,9 +13,9 @@ use Rattle.command_programs.proofs.programs.refuse.Goals as goal
 
 pub returns-in-Text-clause-due : goal.returns-in-Text-clause-due
 returns-in-Text-clause-due c =
-    of_made c.put_fault.result (puts status.Text (fault_line c.in-Text.number c.in-Text.place))
+    of_made c.refuse_text.result (puts status.Text (fault_line c.in-Text.number c.in-Text.place))
     (λ act. (over : ℕ) (text : List ℕ) → Compiles over text (Err c.args.fault) → IsRefused (shown c.args.format) over text (outcome_of act))
-    c.put_fault.ensures.act (faulty_text (shown c.args.format) c.args.fault c.in-Text.number c.in-Text.place c.in-Text.is)
+    c.refuse_text.ensures.act (faulty_text (shown c.args.format) c.args.fault c.in-Text.number c.in-Text.place c.in-Text.is)
 
 pub returns-in_ok-text-in-Untimely-clause-due : goal.returns-in_ok-text-in-Untimely-clause-due
 returns-in_ok-text-in-Untimely-clause-due c =

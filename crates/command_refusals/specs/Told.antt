@@ -1,0 +1,112 @@
+-- What a person is told of a call that is refused: the message of the fault whose line is put.
+use Rattle.std.specs.Prelude.{◌≡◌, ◌⊎◌, ℕ, List, Option, IsSomeAnd}
+use Rattle.syntax_tree.specs.declared.place.Place.{Place}
+use Rattle.image.specs.Named.{NamedImage}
+use Rattle.image.specs.declared.names.ImageNames.{ImageNames}
+use Rattle.valid_image.specs.Valid.{Shown}
+use Rattle.sched_demand.specs.declared.judging.Judgement.{Judgement}
+use Rattle.script.specs.declared.fault.ScriptFault.{ScriptFault}
+use Rattle.event_log.specs.declared.fault.LogFault.{LogFault}
+use Rattle.command_due.specs.Source.{Style, IsLateText, fault_line}
+use Rattle.command_due.specs.CommandsDue.{Outcome, told, bad_script, image_fault_line, valid_fault_line}
+use Rattle.command_due.specs.AsmDue.{text_fault_line}
+use Rattle.command_due.specs.TableDue.{table_fault_line}
+use Rattle.command_due.specs.EdfDue.{IsJudgedText}
+use Rattle.command_due.specs.ReplayDue.{log_fault_line, refused_line}
+use Rattle.message_program.specs.Program.{program_message}
+use Rattle.message_late.specs.Message.{late_message, demand_message}
+use Rattle.message_table.specs.Message.{table_message}
+use Rattle.message_image.specs.Image.{image_message, image_text_message, valid_message}
+use Rattle.message_script.specs.Message.{script_message}
+use Rattle.message_log.specs.Log.{log_message, refused_message}
+
+-- ---- program texts
+
+-- the fault of a program text
+pub record IsTextTold (file bytes : List ℕ) (outcome : Outcome) (message : List ℕ) : Type 0 where
+  pub number : ℕ
+  pub place : Place
+  pub line : outcome ≡ told 2 (fault_line number place)
+  pub is : message ≡ program_message file bytes number place
+
+-- what is told in place of the report of a program that is late
+abbrev pub late_style : (file : List ℕ) (over : ℕ) → Style
+late_style file over names program table = late_message file over names table
+
+-- a program that is late, told by the table of its report
+pub record IsLateTold (over : ℕ) (file bytes : List ℕ) (outcome : Outcome) (message : List ℕ) : Type 0 where
+  pub late : outcome.status ≡ 3
+  pub is : IsLateText (late_style file over) over bytes message
+
+-- either of them
+abbrev pub IsProgramTold : (over : ℕ) (file bytes : List ℕ) (outcome : Outcome) (message : List ℕ) → Type 0
+IsProgramTold over file bytes outcome message = IsTextTold file bytes outcome message ⊎ IsLateTold over file bytes outcome message
+
+-- a program whose demand is not met
+pub record IsDemandTold (file bytes : List ℕ) (outcome : Outcome) (message : List ℕ) : Type 0 where
+  pub late : outcome.status ≡ 3
+  pub image : NamedImage
+  pub answer : Judgement
+  pub judged : IsJudgedText bytes image answer
+  pub is : message ≡ demand_message file answer
+
+abbrev pub IsDemandedTold : (file bytes : List ℕ) (outcome : Outcome) (message : List ℕ) → Type 0
+IsDemandedTold file bytes outcome message = IsTextTold file bytes outcome message ⊎ IsDemandTold file bytes outcome message
+
+-- the fault of a task table
+pub record IsTableTold (file bytes : List ℕ) (outcome : Outcome) (message : List ℕ) : Type 0 where
+  pub number : ℕ
+  pub line : ℕ
+  pub put : outcome ≡ told 2 (table_fault_line number line)
+  pub is : message ≡ table_message file bytes number line
+
+-- ---- images
+
+-- the fault of bytes that are no image
+pub record IsBytesTold (file : List ℕ) (outcome : Outcome) (message : List ℕ) : Type 0 where
+  pub number : ℕ
+  pub offset : ℕ
+  pub line : outcome ≡ told 4 (image_fault_line number offset)
+  pub is : message ≡ image_message file number offset
+
+-- the fault of an image that is not valid
+pub record IsInvalidTold (file : List ℕ) (outcome : Outcome) (message : List ℕ) : Type 0 where
+  pub fault : Shown
+  pub line : outcome ≡ told 4 (valid_fault_line fault)
+  pub is : message ≡ valid_message file fault.number fault.a fault.b
+
+abbrev pub IsImageTold : (file : List ℕ) (outcome : Outcome) (message : List ℕ) → Type 0
+IsImageTold file outcome message = IsBytesTold file outcome message ⊎ IsInvalidTold file outcome message
+
+-- the fault of a text that is that of no image
+pub record IsLinesTold (file bytes : List ℕ) (outcome : Outcome) (message : List ℕ) : Type 0 where
+  pub number : ℕ
+  pub line : ℕ
+  pub put : outcome ≡ told 4 (text_fault_line number line)
+  pub is : message ≡ image_text_message file bytes number line
+
+abbrev pub IsImageTextTold : (file bytes : List ℕ) (outcome : Outcome) (message : List ℕ) → Type 0
+IsImageTextTold file bytes outcome message = IsLinesTold file bytes outcome message ⊎ IsInvalidTold file outcome message
+
+-- ---- scripts and logs
+
+-- the fault of a script, where these are the names that it is for
+pub record IsScriptTold (names : ImageNames) (file bytes : List ℕ) (outcome : Outcome) (message : List ℕ) : Type 0 where
+  pub fault : ScriptFault
+  pub line : outcome ≡ bad_script fault
+  pub is : message ≡ script_message file bytes names fault
+
+-- the fault of the text of a log
+pub record IsMisreadTold (names : ImageNames) (file bytes : List ℕ) (outcome : Outcome) (message : List ℕ) : Type 0 where
+  pub fault : LogFault
+  pub line : outcome ≡ told 9 (log_fault_line fault)
+  pub is : message ≡ log_message file bytes names fault
+
+-- the line of a log at which its events are no run
+pub record IsRefusedTold (file bytes : List ℕ) (outcome : Outcome) (message : List ℕ) : Type 0 where
+  pub line : ℕ
+  pub put : outcome ≡ told 9 (refused_line line)
+  pub is : message ≡ refused_message file bytes line
+
+abbrev pub IsLogTold : (names : ImageNames) (file bytes : List ℕ) (outcome : Outcome) (message : List ℕ) → Type 0
+IsLogTold names file bytes outcome message = IsMisreadTold names file bytes outcome message ⊎ IsRefusedTold file bytes outcome message
