@@ -1,1 +1,5 @@
+pub mod Hints
 pub mod Program
+pub mod Rules
+pub mod Seen
+pub mod Word

@@ -1,22 +1,21 @@
-//! Stub.
+//! The message for a text that is no program.
+//!
+//! The family Messages (`message_text`): a text that fails a rule is told with the rule's sentence,
+//! the line and the word at the place, and what can be done.
+//!
+//! `specs/Word.antt` says which word stands at a place, `specs/Rules.antt` has the sentence and the
+//! note of each rule, and `specs/Hints.antt` what is said of bytes that begin no word and of words
+//! of other languages. `specs/Program.antt` puts them together.
+//!
+//! `program_message` and `long_message` make exactly these messages; the only error is want of
+//! memory.
 #![tactic(auto)]
 
-ghost use Rattle.std.specs.Prelude.{◌≡◌, IfOk};
-ghost use Rattle.message_program.specs.Program.{program_message, long_message};
+mod hint_rows;
+mod messages;
+mod notes;
+mod place_words;
+mod rule_rows;
+mod sentences;
 
-use std::alloc::{AllocError, Global};
-use syntax_tree::{Place, Text};
-
-/// Stub.
-pub fn program_message(alloc: Global, file: &str, text: &[u8], number: u8, place: Place) -> Result<Text, AllocError>
-    ensures { IfOk result (λ message. message ≡ program_message file.now text.now number place) }
-{
-    Err(AllocError)
-}
-
-/// Stub.
-pub fn long_message(alloc: Global, file: &str) -> Result<Text, AllocError>
-    ensures { IfOk result (λ message. message ≡ long_message file.now) }
-{
-    Err(AllocError)
-}
+pub use messages::{long_message, program_message};
