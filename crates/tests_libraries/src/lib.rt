@@ -1,21 +1,14 @@
-//! Tests of the rooms below the commands, and of images.
+//! Tests of the rooms below the commands.
 //!
 //! Each public call that no test of the commands comes to, once with ample memory, by values that
-//! are known from outside. Images through the top call: stored, run, told, changed, and from any
-//! hand (`hostile`); through the loader with single bytes changed (`changed_bytes`), and by the parts
-//! of a loaded image (`references`).
+//! are known from outside. Images through the loader with single bytes changed (`changed_bytes`), and
+//! by the parts of a loaded image (`references`).
 #![tactic(auto)]
 
 #[cfg(test)]
 mod admission;
 #[cfg(test)]
 mod changed_bytes;
-#[cfg(test)]
-mod hostile;
-#[cfg(test)]
-mod image_texts;
-#[cfg(test)]
-mod images;
 #[cfg(test)]
 mod loads;
 #[cfg(test)]
