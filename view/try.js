@@ -27,13 +27,14 @@ const same = assert.deepStrictEqual;
 const SMALL = "program a\nprocess p frame 15 rank 1 cost 15 suspend 0 waits 0 block 0 bound 15 data 0 stack 1\ncode 3\ntimely\n" +
   "0 p release\n10 p put valve 7\n14 p end\n";
 
-/** The block between the lines `$ COMMAND` and `$` of an example's page. */
+/** What is put, by the block between the lines `$ COMMAND` and `$` of an example's page: a line `WORD: ..` begins the message. */
 function shownBy(page, command) {
   const text = readFileSync(path.join(examples, page), "utf8");
   const start = text.indexOf(`$ ${command}\n`);
   assert.ok(start >= 0, command);
   const from = start + command.length + 3;
-  return text.slice(from, Math.min(...["\n$", "\n```"].map((it) => text.indexOf(it, from)).filter((it) => it >= 0)) + 1);
+  const block = text.slice(from, Math.min(...["\n$", "\n```"].map((it) => text.indexOf(it, from)).filter((it) => it >= 0)) + 1);
+  return block.replace(/^\S+: [^]*/m, "");
 }
 
 /** The states of a lane as rows of start, end and name, without those in which nothing is in progress. */

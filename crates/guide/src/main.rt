@@ -1,16 +1,18 @@
 //! Documents, run: each command and each wrong line that they show.
 //!
 //! The words of the program are documents; behind each command that a document shows has to stand
-//! what that command puts, and behind each wrong line the fault that it has.
+//! what that command puts and what it tells a person, and behind each wrong line the fault that it
+//! has and the first line of its message.
 //!
 //! - In a block between lines of three back quotes, a line that begins with `$ ` is a command, and
 //!   the lines up to the next command or the block's end are what is shown of it. The commands are
 //!   `rte`,
 //!   `cat` of one file and `echo $?`; behind `rte` may stand one of `| grep WORD`, `| head -n N`,
 //!   `| tail -n N` and `| diff - FILE`.
-//! - In a table, a row whose first cell is a fault has a wrong line in its third cell and the
-//!   mended one in its fourth. They stand in place of `HERE` in the file that was put last by
-//!   `cat`; a fault of scripts is that of a script, whose lines are parted by ` / `.
+//! - In a table, a row whose first cell is a fault has in its third cell what a person is told of
+//!   it, behind its code in the first line of the message, in its fourth a wrong line and in its
+//!   fifth the mended one. They stand in place of `HERE` in the file that was put last by `cat`; a
+//!   fault of scripts is that of a script, whose lines are parted by ` / `.
 //!
 //! It puts a line for each thing that differs, and one for each document.
 #![tactic(auto)]

@@ -4,6 +4,7 @@ use command::rte;
 use outside::{MemoryFiles, MemorySink};
 use std::alloc::Global;
 use std::test::Fail;
+use syntax_tree::Text;
 
 /// The bytes that the sink of a call takes.
 pub(crate) const ROOM: usize = 1_048_576;
@@ -251,7 +252,8 @@ fn made_call(
 ) -> Result<CallResult, Fail> {
     let words = words_of(alloc, line)?;
     let mut out = MemorySink::new(alloc, ROOM, vec![in alloc; failures.put]?)?;
-    let status = rte(alloc, words.as_slice(), &mut files, &mut out);
+    let mut message = Text::new(alloc);
+    let status = rte(alloc, words.as_slice(), &mut files, &mut out, &mut message);
     Ok(CallResult {
         status: status.code(),
         put: Vec::from_slice(alloc, out.bytes())?,

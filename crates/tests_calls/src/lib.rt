@@ -4,7 +4,8 @@
 //! top through `answers` and its like, which compare what a call answers and puts with what it has
 //! to; or, where the files are looked at too, through `call`, `call_with`, `call_beside` and
 //! `call_on_image`, which give the status, what was put and what the files hold then as a
-//! `CallResult`. `told` gives what a call tells a person.
+//! `CallResult`. `told` gives what a call tells a person, and `status_untold` the status of a call
+//! whose message fails.
 #![tactic(auto)]
 
 mod calls;
@@ -17,5 +18,5 @@ pub use calls::{
     call, call_beside, call_on_image, call_with, image_of, lines, put_of,
 };
 pub use known::{IDLE_FIRST, IDLE_SECOND, VALVE, VALVE_FIRST, VALVE_SECOND, with_byte};
-pub use messages::told;
+pub use messages::{status_untold, told};
 pub use programs::{GoCase, MINE, MINE_LOG, MINE_REPORT, Put, ROWS};

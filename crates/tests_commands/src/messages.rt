@@ -1,7 +1,7 @@
 //! Messages for a person.
 
 use std::test::Fail;
-use tests_calls::{Failures, NO_FAILURES, VALVE, told};
+use tests_calls::{Failures, NO_FAILURES, VALVE, status_untold, told};
 
 /// The failure of the first write.
 const WRITE: Failures = Failures {
@@ -17,36 +17,168 @@ const PUT: Failures = Failures {
     put: 1,
 };
 
-/// The words of a call, where P holds the program of the valve; what fails; and what is told.
-const MESSAGES: &[(&str, Failures, &str)] = &[
-    ("check P", NO_FAILURES, ""),
-    (
-        "check P 2000",
-        NO_FAILURES,
-        "rte: wrong words for `check`
+/// The words of a call, the files that are given, what fails, and what is told.
+struct Row {
+    line: &'static str,
+    given: &'static [(&'static str, &'static str)],
+    failures: Failures,
+    told: &'static str,
+}
+
+const MESSAGES: &[Row] = &[
+    Row {
+        line: "check P",
+        given: &[("P", VALVE)],
+        failures: NO_FAILURES,
+        told: "",
+    },
+    Row {
+        line: "check P 2000",
+        given: &[("P", VALVE)],
+        failures: NO_FAILURES,
+        told: "rte: wrong words for `check`
   rte check P [K]     check P and put its report
 K: overhead in ticks, 0 to 1000; 0 where it is not given
 ",
-    ),
-    (
-        "run I -S",
-        NO_FAILURES,
-        "rte: no word is empty or begins with `-`: `-S`
+    },
+    Row {
+        line: "run I -S",
+        given: &[],
+        failures: NO_FAILURES,
+        told: "rte: no word is empty or begins with `-`: `-S`
   rte run I S         put the log of image I over script S
 ",
-    ),
-    ("check nofile", NO_FAILURES, "rte: cannot read nofile\n"),
-    ("compile P I", WRITE, "rte: cannot write I\n"),
-    ("check P", PUT, "rte: cannot put to standard output\n"),
+    },
+    Row {
+        line: "check nofile",
+        given: &[("P", VALVE)],
+        failures: NO_FAILURES,
+        told: "rte: cannot read nofile\n",
+    },
+    Row {
+        line: "compile P I",
+        given: &[("P", VALVE)],
+        failures: WRITE,
+        told: "rte: cannot write I\n",
+    },
+    Row {
+        line: "check P",
+        given: &[("P", VALVE)],
+        failures: PUT,
+        told: "rte: cannot put to standard output\n",
+    },
+    Row {
+        line: "check P",
+        given: &[(
+            "P",
+            "program a\ndevice d : out\nprocess p : periodic frame 100\nvar x : int\nbegin\nput D 1\nend p\nend a\n",
+        )],
+        failures: NO_FAILURES,
+        told: "P:6:5: E20: `D` is declared nowhere in reach
+      6 | put D 1
+        |     ^
+        = declare it, or correct the name
+",
+    },
+    Row {
+        line: "check P",
+        given: &[(
+            "P",
+            "program a\ndevice d : out\nprocess p : periodic frame 100\nvar x : int\nbegin\nx = 1\nend p\nend a\n",
+        )],
+        failures: NO_FAILURES,
+        told: "P:6:3: E10: unexpected `=`
+      6 | x = 1
+        |   ^
+",
+    },
+    Row {
+        line: "check P",
+        given: &[(
+            "P",
+            "program a\ndevice d : out\nprocess p : periodic frame 100\nvar x : int\nbegin\nput d true\nend p\nend a\n",
+        )],
+        failures: NO_FAILURES,
+        told: "P:6:1: E30: types or numbers of arguments do not agree
+      6 | put d true
+        | ^^^
+",
+    },
+    Row {
+        line: "json P 1",
+        given: &[("P", VALVE)],
+        failures: NO_FAILURES,
+        told: "P: untimely: the process `p` has no bound within its deadline of 15 ticks
+rte: `rte why P 1` takes the bounds apart; `rte fit P 1` tells what would fit
+",
+    },
+    Row {
+        line: "edf P S",
+        given: &[
+            (
+                "P",
+                "program e device a : out process p : periodic frame 30 begin put a 1 end p process q : periodic frame 52 deadline 40 begin put a 2 put a 3 end q end e",
+            ),
+            ("S", "end 60\n"),
+        ],
+        failures: NO_FAILURES,
+        told: "P: late: within 40 ticks the processes may need 41 ticks\n",
+    },
+    Row {
+        line: "go P I S",
+        given: &[
+            (
+                "P",
+                "program a device s : in event e process p : atEvent e frame 15 begin end p end a",
+            ),
+            ("S", "0 event e\n1 set s 2\n14 event e\nend 30\n"),
+        ],
+        failures: NO_FAILURES,
+        told: "S:3:1: S4: `e` comes 14 ticks after line 1; its frame is 15 ticks
+      3 | 14 event e
+        | ^^
+      1 | 0 event e
+        = an event keeps the frame of its process
+",
+    },
+    Row {
+        line: "dis I A",
+        given: &[("I", "RTEU\u{0}\u{2}")],
+        failures: NO_FAILURES,
+        told: "I: I2: at byte 6: the bytes end inside a field\n",
+    },
+    Row {
+        line: "replay P S L",
+        given: &[
+            ("P", VALVE),
+            ("S", "end 15\n"),
+            ("L", "0 p release\n10 p put vent 7\n"),
+        ],
+        failures: NO_FAILURES,
+        told: "L:2:1: L1: this line is the text of no event of the program
+      2 | 10 p put vent 7
+        = the form is `T P put D V`, with names of the program
+",
+    },
+    Row {
+        line: "table F P",
+        given: &[("F", "table a\nprocess p frame 2.5 cost 1\nend\n")],
+        failures: NO_FAILURES,
+        told: "F:2:17: T1: `2.5` is no whole number
+      2 | process p frame 2.5 cost 1
+        |                 ^^^
+        = numbers are whole ticks; multiply all numbers of the table by the same number
+",
+    },
 ];
 
 #[test]
 fn calls_tell_why_they_end(rt: HostRuntime) -> Result<(), Fail> {
     let alloc = rt.alloc();
-    for &(line, failures, want) in MESSAGES {
-        let message = told(alloc, line, VALVE, failures)?;
-        if message.as_str() != want {
-            return Err(Fail::new(format_args!("{line}: {}", message.as_str())));
+    for row in MESSAGES {
+        let message = told(alloc, row.line, row.given, row.failures)?;
+        if message.as_str() != row.told {
+            return Err(Fail::new(format_args!("{}: {}", row.line, message.as_str())));
         }
     }
     Ok(())
@@ -55,8 +187,16 @@ fn calls_tell_why_they_end(rt: HostRuntime) -> Result<(), Fail> {
 #[test]
 fn unknown_commands_have_a_nearest(rt: HostRuntime) -> Result<(), Fail> {
     let alloc = rt.alloc();
-    let message = told(alloc, "chek P", VALVE, NO_FAILURES)?;
+    let message = told(alloc, "chek P", &[("P", VALVE)], NO_FAILURES)?;
     let first = message.as_str().lines().next().unwrap_or("");
     assert_eq!(rt; first, "rte: `chek` is no command; the nearest is `check`");
+    Ok(())
+}
+
+#[test]
+fn a_message_that_fails_changes_nothing(rt: HostRuntime) -> Result<(), Fail> {
+    let alloc = rt.alloc();
+    assert_eq!(rt; status_untold(alloc, "check P", &[("P", "x")])?, 2);
+    assert_eq!(rt; status_untold(alloc, "check nofile", &[("P", "x")])?, 6);
     Ok(())
 }
