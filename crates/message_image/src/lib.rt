@@ -1,36 +1,21 @@
-//! Stub.
+//! The messages for images and their texts.
+//!
+//! The family Messages: what a call that fails tells the one who made it. Bytes that are no image,
+//! an image that is not valid and a text that is that of no image are told by the file's name, the
+//! number of the fault and a sentence; of a text its line is shown too, with what may have led to
+//! the fault.
+//!
+//! `specs/Image.antt` defines the messages, and each call makes exactly its message. The only error
+//! is want of memory.
 #![tactic(auto)]
 
-ghost use Rattle.std.specs.Prelude.{◌≡◌, IfOk};
-ghost use Rattle.message_image.specs.Image.{image_message, image_text_message, long_text_message, valid_message};
+mod bytes;
+mod ends;
+mod openings;
+mod texts;
+mod validity;
 
-use std::alloc::{AllocError, Global};
-use syntax_tree::Text;
-
-/// Stub.
-pub fn image_message(alloc: Global, file: &str, number: u8, offset: u32) -> Result<Text, AllocError>
-    ensures { IfOk result (λ message. message ≡ image_message file.now number offset) }
-{
-    Err(AllocError)
-}
-
-/// Stub.
-pub fn valid_message(alloc: Global, file: &str, number: u8, a: u64, b: u64) -> Result<Text, AllocError>
-    ensures { IfOk result (λ message. message ≡ valid_message file.now number a b) }
-{
-    Err(AllocError)
-}
-
-/// Stub.
-pub fn image_text_message(alloc: Global, file: &str, text: &[u8], number: u8, line: u32) -> Result<Text, AllocError>
-    ensures { IfOk result (λ message. message ≡ image_text_message file.now text.now number line) }
-{
-    Err(AllocError)
-}
-
-/// Stub.
-pub fn long_text_message(alloc: Global, file: &str) -> Result<Text, AllocError>
-    ensures { IfOk result (λ message. message ≡ long_text_message file.now) }
-{
-    Err(AllocError)
-}
+pub use bytes::image_message;
+pub use ends::{has_return, is_open};
+pub use texts::{image_text_message, long_text_message};
+pub use validity::valid_message;

@@ -1,25 +1,17 @@
-//! Stub.
+//! The messages for programs whose processes may be out of time.
+//!
+//! The family Messages: what a call that fails tells the one who made it. Of a program without a
+//! bound for each process the first process without one is told, and which calls tell more; of a
+//! program that earliest deadlines do not bring in time, the ticks that may be needed.
+//!
+//! `specs/Message.antt` defines both messages, and each call gives exactly its message. The only
+//! error is want of memory.
 #![tactic(auto)]
 
-ghost use Rattle.std.specs.Prelude.{◌≡◌, IfOk};
-ghost use Rattle.message_late.specs.Message.{late_message, demand_message};
+mod demand;
+mod late;
+mod process;
+mod ticks;
 
-use image::ImageNames;
-use sched_demand::Judgement;
-use sched_table::Table;
-use std::alloc::{AllocError, Global};
-use syntax_tree::Text;
-
-/// Stub.
-pub fn late_message(alloc: Global, file: &str, over: u16, names: &ImageNames, table: &Table) -> Result<Text, AllocError>
-    ensures { IfOk result (λ message. message ≡ late_message file.now over names.now table.now) }
-{
-    Err(AllocError)
-}
-
-/// Stub.
-pub fn demand_message(alloc: Global, file: &str, answer: &Judgement) -> Result<Text, AllocError>
-    ensures { IfOk result (λ message. message ≡ demand_message file.now answer.now) }
-{
-    Err(AllocError)
-}
+pub use demand::demand_message;
+pub use late::late_message;

@@ -1,31 +1,17 @@
-//! Stub.
+//! The messages for logs.
+//!
+//! The family Messages: what a call that fails tells the one who made it. A line of a log that is
+//! the text of no event is shown, with the first of its words that is wrong, or with the form that
+//! a line of its event has. A log that is that of no run of the program is told by its first line
+//! that is of none.
+//!
+//! `specs/Log.antt` has the table of the events and defines the messages, and each call makes
+//! exactly its message. The only error is want of memory.
 #![tactic(auto)]
 
-ghost use Rattle.std.specs.Prelude.{◌≡◌, IfOk};
-ghost use Rattle.message_log.specs.Log.{log_message, long_message, refused_message};
+mod messages;
+mod pieces;
+mod reasons;
+mod table;
 
-use event_log::LogFault;
-use image::ImageNames;
-use std::alloc::{AllocError, Global};
-use syntax_tree::Text;
-
-/// Stub.
-pub fn log_message(alloc: Global, file: &str, text: &[u8], names: &ImageNames, fault: &LogFault) -> Result<Text, AllocError>
-    ensures { IfOk result (λ message. message ≡ log_message file.now text.now names.now fault.now) }
-{
-    Err(AllocError)
-}
-
-/// Stub.
-pub fn long_message(alloc: Global, file: &str) -> Result<Text, AllocError>
-    ensures { IfOk result (λ message. message ≡ long_message file.now) }
-{
-    Err(AllocError)
-}
-
-/// Stub.
-pub fn refused_message(alloc: Global, file: &str, text: &[u8], line: u32) -> Result<Text, AllocError>
-    ensures { IfOk result (λ message. message ≡ refused_message file.now text.now line) }
-{
-    Err(AllocError)
-}
+pub use messages::{log_message, long_message, refused_message};

@@ -1,0 +1,34 @@
+//! The words of a line.
+
+ghost use Rattle.std.specs.Prelude.{◌≡◌, [], ◌∷◌};
+ghost use Rattle.std.specs.Option.{option_map_or};
+ghost use Rattle.std.specs.List.{list_all};
+ghost use Rattle.text_fields.specs.LineFields.{is_digit};
+ghost use Rattle.message_log.specs.Log.{is_tick, words};
+
+use text_fields::{cut_at, is_digit, is_numeral};
+
+/// The first word, and what stands behind its blank, if there is one.
+pub(crate) fn cut(line: &[u8]) -> (&[u8], Option<&[u8]>)
+    ensures { words line.now ≡ result.0.now ∷ option_map_or (λ rest. words rest.now) result.1 [] }
+{
+    match cut_at(line, b' ') {
+        None => (line, None),
+        Some(parts) => (parts.before, Some(parts.after)),
+    }
+}
+
+/// Whether each byte is a digit.
+fn are_digits(word: &[u8]) -> bool
+    ensures { result ≡ list_all is_digit word.now }
+{
+    word.iter().all(|byte| is_digit(*byte))
+}
+
+/// Whether the word is a number from 0 to 999999999.
+#[tactic(auto, unfolding(crate::specs::Log::is_tick))]
+pub(crate) fn is_tick(word: &[u8]) -> bool
+    ensures { result ≡ is_tick word.now }
+{
+    are_digits(word) && is_numeral(word) && word.len() <= 9
+}
