@@ -45,9 +45,13 @@ image_message file number offset = opening file (codes "I") number ++ (place off
 abbrev pub declared : (what : List ℕ) (a b : ℕ) → List ℕ
 declared what a b = what ++ (codes ": declared " ++ (decimal a ++ (codes ", needed " ++ decimal b)))
 
+-- two numbers among some words
+abbrev pub both : (before : List ℕ) (a : ℕ) (middle : List ℕ) (b : ℕ) (behind : List ℕ) → List ℕ
+both before a middle b behind = before ++ (decimal a ++ (middle ++ (decimal b ++ behind)))
+
 -- a bound that is below the least one, or above the deadline
 abbrev pub bound : (a b : ℕ) → List ℕ
-bound a b = codes "a bound: declared " ++ (decimal a ++ (codes ", and " ++ (decimal b ++ codes " is the least, or its deadline")))
+bound a b = both (codes "a bound: declared ") a (codes ", and ") b (codes " is the least, or its deadline")
 
 -- a number of 32 bits with its sign
 abbrev pub signed : ℕ → List ℕ

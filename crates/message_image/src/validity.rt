@@ -1,7 +1,7 @@
 //! The message for an image that is not valid.
 
 ghost use Rattle.std.specs.Prelude.{◌≡◌, ◌++◌, IfOk, OnOk};
-ghost use Rattle.message_image.specs.Image.{among, around, bound, declared, signed};
+ghost use Rattle.message_image.specs.Image.{among, around, both, bound, declared, signed};
 ghost use Rattle.message_image.specs.Image.{valid_message, valid_sentence};
 
 use crate::openings::add_opening;
@@ -17,17 +17,6 @@ fn add_declared(text: &mut Text, what: &[u8], a: usize, b: usize) -> Result<(), 
     add_number(text, a)?;
     text.extend(b", needed ")?;
     add_number(text, b)
-}
-
-/// Puts that a bound is below the least one, or above the deadline.
-fn add_bound(text: &mut Text, a: usize, b: usize) -> Result<(), AllocError>
-    ensures { OnOk result (text.new ≡ text.old ++ bound a b) }
-{
-    text.extend(b"a bound: declared ")?;
-    add_number(text, a)?;
-    text.extend(b", and ")?;
-    add_number(text, b)?;
-    text.extend(b" is the least, or its deadline")
 }
 
 /// Puts a number of 32 bits with its sign.
@@ -50,6 +39,37 @@ fn add_around(text: &mut Text, before: &[u8], a: usize, behind: &[u8]) -> Result
     text.extend(before)?;
     add_number(text, a)?;
     text.extend(behind)
+}
+
+/// Puts two numbers among some words.
+fn add_both(
+    text: &mut Text,
+    before: &[u8],
+    a: usize,
+    middle: &[u8],
+    b: usize,
+    behind: &[u8],
+) -> Result<(), AllocError>
+    ensures { OnOk result
+        (text.new ≡ text.old ++ both before.now a middle.now b behind.now) }
+{
+    add_around(text, before, a, middle)?;
+    add_number(text, b)?;
+    text.extend(behind)
+}
+
+/// Puts that a bound is below the least one, or above the deadline.
+fn add_bound(text: &mut Text, a: usize, b: usize) -> Result<(), AllocError>
+    ensures { OnOk result (text.new ≡ text.old ++ bound a b) }
+{
+    add_both(
+        text,
+        b"a bound: declared ",
+        a,
+        b", and ",
+        b,
+        b" is the least, or its deadline",
+    )
 }
 
 /// Puts a number and one with its sign among some words.
