@@ -1,21 +1,22 @@
 -- Files that hold more than a text may have.
-use Rattle.std.proofs.Common.{◌≡◌, ◌<◌, ◌∙◌, ℕ, Bool, true, List, length, sym, ap}
+use Rattle.std.proofs.Common.{◌≡◌, ◌<◌, ℕ, Bool, true, false, List, length, refl}
 use Rattle.std.specs.Prelude.{nat_lt, if◌then◌else◌}
 use Rattle.syntax_tree.specs.declared.place.Place.{Place}
 use Rattle.image.specs.declared.names.ImageNames.{ImageNames}
 use Rattle.script.specs.declared.fault.ScriptFault.{ScriptFault}
 use Rattle.message_program.specs.Program as program
 use Rattle.message_script.specs.Message as script
-use Rattle.std.proofs.Common.{lt-ltb}
+use Rattle.std.proofs.lemmas.Bool.{lt-ltb}
 
 -- what stands in the first branch
-first_branch : {A : Type 0} {x y : A} (is : Bool) → is ≡ true → x ≡ (if is then x else y)
-first_branch true refl = refl
+first_branch : {A : Type 0} (x y : A) (is : Bool) → is ≡ true → x ≡ (if is then x else y)
+first_branch x y true is = refl
+first_branch x y false is = absurd cc
 
 pub long_program : (file bytes : List ℕ) (number : ℕ) (place : Place) → 1048576 < length bytes → program.long_message file ≡ program.program_message file bytes number place
 unfolding program.program_message
-long_program file bytes number place long = first_branch (nat_lt 1048576 (length bytes)) (lt-ltb 1048576 (length bytes) long)
+long_program file bytes number place long = first_branch _ _ (nat_lt 1048576 (length bytes)) (lt-ltb 1048576 (length bytes) long)
 
 pub long_script : (file bytes : List ℕ) (names : ImageNames) (fault : ScriptFault) → 16777216 < length bytes → script.long_message file ≡ script.script_message file bytes names fault
 unfolding script.script_message
-long_script file bytes names fault long = first_branch (nat_lt 16777216 (length bytes)) (lt-ltb 16777216 (length bytes) long)
+long_script file bytes names fault long = first_branch _ _ (nat_lt 16777216 (length bytes)) (lt-ltb 16777216 (length bytes) long)

@@ -9,7 +9,7 @@ ghost use Rattle.command_answers.specs.Contents.{IsContent};
 ghost use Rattle.command_refusals.specs.Told.{IsScriptTold};
 ghost use Rattle.message_script.specs.Message.{script_message};
 
-use command_answers::{Content, PreparedCall};
+use command_answers::{Content, PreparedCall, Status};
 use image::ImageNames;
 use message_script::{long_message, script_message};
 use script::ScriptFault;
@@ -17,7 +17,6 @@ use std::alloc::{AllocError, Global};
 use syntax_tree::Text;
 
 /// The message for a fault of what a script's file holds, for these names.
-#[tactic(auto, using(crate::proofs::Long::long_script))]
 fn message_of(
     alloc: Global,
     file: &str,

@@ -8,7 +8,7 @@ ghost use Rattle.command_answers.specs.Acts.{number_of, outcome_of};
 ghost use Rattle.command_answers.specs.Contents.{IsContent};
 ghost use Rattle.command_refusals.specs.Told.{IsTextTold};
 
-use command_answers::{Content, PreparedCall, put_fault};
+use command_answers::{Content, PreparedCall, Status, put_fault};
 use message_program::{long_message, program_message};
 use std::alloc::{AllocError, Global};
 use syntax_tree::{Place, Text};
@@ -32,7 +32,6 @@ pub fn refuse_bytes<'a>(
 }
 
 /// The act for a file that has more bytes than a program text has.
-#[tactic(auto, using(crate::proofs::Long::long_program))]
 fn refuse_long<'a>(
     alloc: Global,
     message: &mut Text,

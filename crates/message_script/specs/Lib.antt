@@ -1,1 +1,8 @@
+pub mod Words
+pub mod Told
+pub mod Numbers
+pub mod Forms
+pub mod Unknown
+pub mod Earlier
+pub mod Sought
 pub mod Message

@@ -1,24 +1,23 @@
-//! Stub.
+//! The message for a text that is no script.
+//!
+//! The family Messages: what a call that fails tells the one who made it. A text that is no script
+//! has a fault, with the number of the rule that it breaks and a line. `specs/Message.antt` says
+//! what is told of it: the file, the line and the column, the number, what is wrong, the line with
+//! carets, for some faults an earlier line, and a remark. What is wrong with a line by itself is a
+//! table (`specs/Forms.antt`, of its numbers `specs/Numbers.antt`), of which the first row that
+//! applies is told; then come names that are not known (`specs/Unknown.antt`), and ticks that are
+//! too low or too soon after those of an earlier line (`specs/Earlier.antt`).
+//!
+//! `script_message` makes exactly this message, `long_message` that of a text with too many bytes;
+//! the only error is want of memory.
 #![tactic(auto)]
 
-ghost use Rattle.std.specs.Prelude.{◌≡◌, IfOk};
-ghost use Rattle.message_script.specs.Message.{script_message, long_message};
+mod earlier;
+mod forms;
+mod messages;
+mod numbers;
+mod telling;
+mod unknown;
+mod words;
 
-use image::ImageNames;
-use script::ScriptFault;
-use std::alloc::{AllocError, Global};
-use syntax_tree::Text;
-
-/// Stub.
-pub fn script_message(alloc: Global, file: &str, text: &[u8], names: &ImageNames, fault: &ScriptFault) -> Result<Text, AllocError>
-    ensures { IfOk result (λ message. message ≡ script_message file.now text.now names.now fault.now) }
-{
-    Err(AllocError)
-}
-
-/// Stub.
-pub fn long_message(alloc: Global, file: &str) -> Result<Text, AllocError>
-    ensures { IfOk result (λ message. message ≡ long_message file.now) }
-{
-    Err(AllocError)
-}
+pub use messages::{long_message, script_message};

@@ -1,0 +1,15 @@
+use Rattle.std.proofs.lemmas.Result.{IfOk-weaker}
+use Rattle.command_due.specs.Source.{fault_line}
+use Rattle.command_answers.specs.declared.status.Status.TheVariants as status
+use Rattle.command_answers.proofs.Coming.{put_comes_to}
+use Rattle.command_refusals.proofs.texts.refuse_bytes.Goals as goal
+
+pub returns-clause-told : goal.returns-clause-told
+returns-clause-told c =
+    IfOk-weaker c.put_fault.result _ _ (λ act is. record {
+      number = c.args.number;
+      place = c.args.place;
+      line = put_comes_to status.Text (fault_line c.args.number c.args.place) act is;
+      is = c.in_ok-message.ensures;
+    })
+    c.put_fault.ensures.act

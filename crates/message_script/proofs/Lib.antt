@@ -1,0 +1,5 @@
+pub mod Examples
+pub mod Pairs
+pub mod Parts
+pub mod Pieces
+pub mod Walks
