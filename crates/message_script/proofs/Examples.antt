@@ -6,7 +6,7 @@ use Rattle.image.specs.declared.names.ImageNames.{ImageNames}
 use Rattle.message_text.specs.Nearest.{distance, one_more}
 use Rattle.message_text.specs.Shown.{show}
 use Rattle.script.specs.declared.fault.ScriptFault.TheVariants.{Bad}
-use Rattle.message_script.specs.Earlier.{early, early_sentence, early_tick, falls_by, frame_of, has_tick, last_before, last_such, occurs, soon, soon_event, soon_sentence, tick_word}
+use Rattle.message_script.specs.Earlier.{counted, early, early_sentence, early_tick, falls_by, frame_of, has_tick, last_before, last_such, occurs, soon, soon_event, soon_sentence, tick_word}
 use Rattle.message_script.specs.Forms.{are_blanks, behind_blanks, behind_set, behind_tick, blanks_flaw, bytes_flaw, carriage_return, ends_in_blank, line_flaw, no_beginning, number, timed_flaw, words_flaw}
 use Rattle.message_script.specs.Message.{fault_message, is_ended, line_message, script_message, spelled, told}
 use Rattle.message_script.specs.Numbers.{digits_flaw, flaw_sentence, has_leading_zero, is_digits, is_negative, is_outside, is_tick, most, number_flaw, range, sort_name, unsigned}
@@ -25,11 +25,11 @@ names = record {
 }
 
 pub too_soon : script_message (codes "S") (codes "0 event e\n1 set s 2\n14 event e\nend 30\n") names (Bad 4 3 0 14) ≡ codes "S:3:1: S4: `e` comes 14 ticks after line 1; its frame is 15 ticks\n      3 | 14 event e\n        | ^^\n      1 | 0 event e\n        = an event keeps the frame of its process\n"
-unfolding digits frame_of has_tick last_before last_such occurs soon soon_event soon_sentence fault_message line_message script_message spelled told is_digits at_word remark with_line first_word word_at show
+unfolding digits counted frame_of has_tick last_before last_such occurs soon soon_event soon_sentence fault_message line_message script_message spelled told is_digits at_word remark with_line first_word word_at show
 too_soon = refl
 
 pub end_too_low : script_message (codes "S") (codes "0 event e\n20 event e\nend 20\n") names (Bad 3 3 0 0) ≡ codes "S:3:5: S3: tick 20 is not above tick 20 of line 2\n      3 | end 20\n        |     ^^\n      2 | 20 event e\n        = ticks do not fall, and the end is above them all\n"
-unfolding digits early early_sentence early_tick falls_by has_tick last_before last_such tick_word fault_message line_message script_message spelled told is_digits at_word remark with_line first_word is_end word_at show
+unfolding digits counted early early_sentence early_tick falls_by has_tick last_before last_such tick_word fault_message line_message script_message spelled told is_digits at_word remark with_line first_word is_end word_at show
 end_too_low = refl
 
 pub no_device_of_name : script_message (codes "S") (codes "5 set dept 1\n") names (Bad 2 1 0 0) ≡ codes "S:1:7: S2: `dept` is no `in` device; the nearest is `depth`\n      1 | 5 set dept 1\n        |       ^^^^\n"

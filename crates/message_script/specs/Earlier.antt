@@ -28,6 +28,10 @@ last_before is_such text number = last_such is_such 1 None (take (number - 1) (l
 
 -- ---- a tick below that of an earlier line
 
+-- words and a number behind them
+unfoldable pub counted : (words : List ℕ) (number : ℕ) → List ℕ
+counted words number = words ++ decimal number
+
 -- the tick of a line
 unfoldable pub tick_word : (bytes : List ℕ) → Option Word
 tick_word bytes = if is_end bytes then word_at bytes 1 else Some (first_word bytes)
@@ -37,7 +41,7 @@ falls_by is_end = if is_end then codes " is not above tick " else codes " is bel
 
 unfoldable pub early_sentence : (is_end : Bool) (tick last : List ℕ) (earlier : ℕ) → List ℕ
 early_sentence is_end tick last earlier =
-    codes "tick " ++ (plain tick ++ (falls_by is_end ++ (plain last ++ (codes " of line " ++ decimal earlier))))
+    codes "tick " ++ (plain tick ++ (falls_by is_end ++ (plain last ++ counted (codes " of line ") earlier)))
 
 unfoldable pub early_tick : (text : List ℕ) (is_end : Bool) → Word → (earlier : Option ℕ) → Option Told
 early_tick text is_end tick None = None
@@ -60,7 +64,7 @@ frame_of names name = unwrap_or (option_map (λ e. e.frame) (find (λ e. bytes_e
 
 unfoldable pub soon_sentence : (name : List ℕ) (ticks earlier frame : ℕ) → List ℕ
 soon_sentence name ticks earlier frame =
-    quoted name ++ (codes " comes " ++ (decimal ticks ++ (codes " ticks after line " ++ (decimal earlier ++ (codes "; its frame is " ++ (decimal frame ++ codes " ticks"))))))
+    quoted name ++ (counted (codes " comes ") ticks ++ (counted (codes " ticks after line ") earlier ++ (counted (codes "; its frame is ") frame ++ codes " ticks")))
 
 unfoldable pub soon_event : ImageNames → (ticks : ℕ) (tick : Word) (name : List ℕ) (earlier : Option ℕ) → Option Told
 soon_event names ticks tick name None = None

@@ -1,7 +1,7 @@
 //! Ticks that are too low, or too soon, after those of an earlier line.
 
-ghost use Rattle.std.specs.Prelude.{◌≡◌, bytes_eq, option_map, if◌then◌else◌, IfOk};
-ghost use Rattle.message_script.specs.Earlier.{early, early_sentence, early_tick};
+ghost use Rattle.std.specs.Prelude.{◌≡◌, ◌++◌, bytes_eq, option_map, if◌then◌else◌, IfOk, OnOk};
+ghost use Rattle.message_script.specs.Earlier.{counted, early, early_sentence, early_tick};
 ghost use Rattle.message_script.specs.Earlier.{falls_by, frame_of, has_tick, last_before, occurs};
 ghost use Rattle.message_script.specs.Earlier.{soon, soon_event, soon_sentence};
 ghost use Rattle.message_script.specs.Earlier.{tick_word};
@@ -85,6 +85,15 @@ fn tick_word(line: &[u8]) -> Option<Word<'_>>
     Some(first_word(line))
 }
 
+/// Puts these words and a number behind them.
+#[tactic(auto, unfolding(crate::specs::Earlier::counted))]
+fn add_counted(text: &mut Text, words: &[u8], number: usize) -> Result<(), AllocError>
+    ensures { OnOk result (text.new ≡ text.old ++ counted words.now number) }
+{
+    text.extend(words)?;
+    add_number(text, number)
+}
+
 /// How a tick stands to that of an earlier line.
 #[tactic(auto, unfolding(crate::specs::Earlier::falls_by))]
 fn falls_by(is_end: bool) -> &'static [u8]
@@ -112,8 +121,7 @@ fn early_sentence(
     add_plain(&mut text, tick)?;
     text.extend(falls_by(is_end))?;
     add_plain(&mut text, last)?;
-    text.extend(b" of line ")?;
-    add_number(&mut text, earlier)?;
+    add_counted(&mut text, b" of line ", earlier)?;
     Ok(text)
 }
 
@@ -187,12 +195,9 @@ fn soon_sentence(
 {
     let mut text = Text::new(alloc);
     add_quoted(&mut text, name)?;
-    text.extend(b" comes ")?;
-    add_number(&mut text, ticks)?;
-    text.extend(b" ticks after line ")?;
-    add_number(&mut text, earlier)?;
-    text.extend(b"; its frame is ")?;
-    add_number(&mut text, frame)?;
+    add_counted(&mut text, b" comes ", ticks)?;
+    add_counted(&mut text, b" ticks after line ", earlier)?;
+    add_counted(&mut text, b"; its frame is ", frame)?;
     text.extend(b" ticks")?;
     Ok(text)
 }

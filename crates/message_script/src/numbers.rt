@@ -15,7 +15,7 @@ use syntax_tree::Text;
 use text_fields::is_digit;
 
 /// The numbers of a line: the tick of the end, any other tick, and the value of a device.
-#[derive(Clone, Copy, Debug, PartialEq, Eq)]
+#[derive(Clone, Copy)]
 pub(crate) enum Sort {
     End,
     Tick,
@@ -23,7 +23,7 @@ pub(crate) enum Sort {
 }
 
 /// Why a word is no such number.
-#[derive(Clone, Copy, Debug, PartialEq, Eq)]
+#[derive(Clone, Copy)]
 pub(crate) enum Flaw {
     /// It begins with `+`.
     Plus,

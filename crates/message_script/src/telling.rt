@@ -11,7 +11,7 @@ use std::alloc::{AllocError, Global};
 use syntax_tree::Text;
 
 /// A remark on what is wrong.
-#[derive(Clone, Copy, Debug, PartialEq, Eq)]
+#[derive(Clone, Copy)]
 pub(crate) enum Note {
     Forms,
     EndForm,
@@ -27,7 +27,7 @@ pub(crate) enum Note {
 
 /// What is told of a line: the column and the width of the place, what is wrong, the number of an
 /// earlier line, and a remark.
-#[derive(Debug, Drop)]
+#[derive(Drop)]
 pub(crate) struct Told {
     pub column: usize,
     pub width: usize,

@@ -1,1 +1,10 @@
+pub mod Parts
+pub mod Marks
+pub mod Form
+pub mod Names
+pub mod Ticks
+pub mod Counts
+pub mod Found
+pub mod Sentences
 pub mod Message
+pub mod Seen

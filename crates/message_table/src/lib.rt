@@ -1,22 +1,26 @@
-//! Stub.
+//! The message for a text that is no task table.
+//!
+//! The family Messages: what a call that fails tells the one who made it. Of the line with the
+//! first fault the place is told and what is wrong there; the line is shown with carets below it,
+//! and a remark may say how to mend it.
+//!
+//! `specs/Parts.antt` says what may stand in a line, word by word, `specs/Marks.antt` what each word
+//! is. `specs/Form.antt`, `specs/Names.antt`, `specs/Ticks.antt` and `specs/Counts.antt` find what is
+//! wrong and where, `specs/Sentences.antt` has what is told of it, and `specs/Message.antt` the whole
+//! message. `table_message` gives exactly this; the only error is want of memory.
 #![tactic(auto)]
 
-ghost use Rattle.std.specs.Prelude.{◌≡◌, IfOk};
-ghost use Rattle.message_table.specs.Message.{table_message, long_message};
+mod counts;
+mod fault;
+mod form;
+mod mark;
+mod message;
+mod names;
+mod numerals;
+mod part;
+mod put;
+mod remarks;
+mod sentences;
+mod ticks;
 
-use std::alloc::{AllocError, Global};
-use syntax_tree::Text;
-
-/// Stub.
-pub fn table_message(alloc: Global, file: &str, text: &[u8], number: u8, line: u32) -> Result<Text, AllocError>
-    ensures { IfOk result (λ message. message ≡ table_message file.now text.now number line) }
-{
-    Err(AllocError)
-}
-
-/// Stub.
-pub fn long_message(alloc: Global, file: &str) -> Result<Text, AllocError>
-    ensures { IfOk result (λ message. message ≡ long_message file.now) }
-{
-    Err(AllocError)
-}
+pub use message::{long_message, table_message};
