@@ -1,6 +1,6 @@
 -- What is told of a call, by what is told of what its files hold.
-use Rattle.std.proofs.Common.{◌≡◌, ◌⊎◌, ℕ, List, Option, Some, None, Bool, true, false, Ok, Err, inl, inr, sym, subst}
-use Rattle.std.specs.Prelude.{IfOk, IsSomeAnd, Result}
+use Rattle.std.proofs.Common.{◌≡◌, ℕ, List, Option, Some, None, Bool, true, false, inl, inr, sym, subst}
+use Rattle.std.specs.Prelude.{IsSomeAnd}
 use Rattle.std.specs.Bool.{OnTrue}
 use Rattle.image.specs.declared.names.ImageNames.{ImageNames}
 use Rattle.command_due.specs.CommandsDue.{Outcome, told}

@@ -1,5 +1,5 @@
 -- What a person is told of a call that is refused: the message of the fault whose line is put.
-use Rattle.std.specs.Prelude.{◌≡◌, ◌⊎◌, ℕ, List, Option, IsSomeAnd}
+use Rattle.std.specs.Prelude.{◌≡◌, ◌⊎◌, ℕ, List}
 use Rattle.syntax_tree.specs.declared.place.Place.{Place}
 use Rattle.image.specs.Named.{NamedImage}
 use Rattle.image.specs.declared.names.ImageNames.{ImageNames}
