@@ -81,8 +81,8 @@ module _ (f f' : FilesState) (a b m w : SinkState) (s n : Status) (message : Lis
   right_whole false call right = tt
   right_whole true call right = λ refusal. elim stands [
     | inl same ↦
-      subst (λ (o : SinkState). IsToldRight call (outside f b) (outside f' o) (number_of n) message) (sym (same_below settled (other_number n refusal)))
-      (subst (λ (o : SinkState). IsToldRight call (outside f o) (outside f' m) (number_of n) message) (same_state a b taken faults)
-      (subst (λ (k : Status). IsToldRight call (outside f a) (outside f' m) (number_of k) message) (sym same.0) (right (subst IsRefusal same.0 refusal))))
+        subst (λ (o : SinkState). IsToldRight call (outside f b) (outside f' o) (number_of n) message) (sym (same_below settled (other_number n refusal)))
+        (subst (λ (o : SinkState). IsToldRight call (outside f o) (outside f' m) (number_of n) message) (same_state a b taken faults)
+        (subst (λ (k : Status). IsToldRight call (outside f a) (outside f' m) (number_of k) message) (sym same.0) (right (subst IsRefusal same.0 refusal))))
     | inr fell ↦ absurd (subst IsRefusal fell.0 refusal)
   ]

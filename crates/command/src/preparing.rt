@@ -76,7 +76,9 @@ pub fn prepare<'a, F: Files>(
         Command::Json { program, overhead } => {
             prepare_report(alloc, message, Format::Json, program, overhead, files)
         }
-        Command::Slack { program, overhead } => prepare_slack(alloc, message, program, overhead, files),
+        Command::Slack { program, overhead } => prepare_slack(
+            alloc, message, program, overhead, files,
+        ),
         Command::Print { program } => prepare_print(alloc, message, program, files),
         Command::Run { image, script } => prepare_run(alloc, message, image, script, files),
         Command::Migrate { image, target } => prepare_migrate(alloc, message, image, target, files),

@@ -16,9 +16,7 @@ ghost use Rattle.message_late.specs.Message as message_of;
 
 use crate::judging::Subject;
 use crate::report;
-use command_answers::{
-    Content, Dispatch, PreparedCall, PreparedRun, Status, judge_script, put,
-};
+use command_answers::{Content, Dispatch, PreparedCall, PreparedRun, Status, judge_script, put};
 use command_refusals::refuse_script;
 use edf_feasible::edf_ready::edf_images_are_ready;
 use message_late::demand_message;
@@ -95,8 +93,6 @@ pub fn run_act<'a>(
 {
     match judge_script(alloc, content, &subject.image.names) {
         Ok(script) => run_image(alloc, subject, script),
-        Err(fault) => {
-            refuse_script(alloc, message, file, content, &subject.image.names, &fault)
-        }
+        Err(fault) => { refuse_script(alloc, message, file, content, &subject.image.names, &fault) }
     }
 }

@@ -122,7 +122,13 @@ pub fn stands<R: std::rt::Files + Print + AllocGlobal>(
     let right = put(rt, frame, row.fault, row.mended)?;
     let stands = is_told(rt.alloc(), row, wrong.as_str())? && right.starts_with("program");
     if !stands {
-        println!(rt; "{}: {}\n{}: {}", row.wrong, wrong.as_str(), row.mended, right.as_str())?;
+        println!(rt;
+            "{}: {}\n{}: {}",
+            row.wrong,
+            wrong.as_str(),
+            row.mended,
+            right.as_str()
+        )?;
     }
     Ok(Some(stands))
 }

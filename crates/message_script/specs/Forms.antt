@@ -39,8 +39,8 @@ blanks_before bytes (Some more) =
 
 -- a word that the form does not have
 unfoldable pub surplus : Option Word → Note → Option Told
-surplus None form = None
-surplus (Some w) form = Some (of_word w (codes " is one word too many") (Some form))
+surplus None note = None
+surplus (Some w) note = Some (of_word w (codes " is one word too many") (Some note))
 
 unfoldable pub missing : (bytes : List ℕ) → Note → Option Told
 missing bytes form = Some (behind bytes (codes "a word is missing") (Some form))

@@ -95,14 +95,7 @@ fn script_on<'a, F: Files>(
     let content = read(files, script, LONGEST_SCRIPT)?;
     match judge_script(alloc, &content, &source.names) {
         Ok(lines) => log_on(alloc, message, source, &lines, log, files),
-        Err(fault) => match refuse_script(
-            alloc,
-            message,
-            script,
-            &content,
-            &source.names,
-            &fault,
-        ) {
+        Err(fault) => match refuse_script(alloc, message, script, &content, &source.names, &fault) {
             Ok(act) => Ok(act),
             Err(_) => Err(PrepareError::Memory),
         },
