@@ -7,3 +7,5 @@ pub mod PrepareImagesTold
 pub mod Watched
 pub mod Charted
 pub mod Timely
+pub mod Long
+pub mod Explained

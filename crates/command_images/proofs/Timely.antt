@@ -1,7 +1,6 @@
 -- The runs of valid images are such as the chart takes.
 use Rattle.std.specs.Prelude.{All}
 use Rattle.base.proofs.Lists.{all_of, one_of}
-use Rattle.base.specs.declared.event.Event.{Event}
 use Rattle.command_answers.specs.Runnable.{RunsRaw}
 use Rattle.event_log.specs.InRange.{AreIn}
 use Rattle.image.specs.Raw.{image_of}

@@ -5,6 +5,8 @@
 //!
 //! For each of the six commands a call promises an act that comes to what is due (`command_due`),
 //! and that the machine can run; or a read that failed (`Prepared` of `command_answers`).
+//! Where the act refuses the call, the message of the fault takes the place of the given text
+//! (`IsExplained` of `command_refusals`).
 #![tactic(auto)]
 
 mod charting;

@@ -135,10 +135,7 @@ fn miscounted(mark: &Marked<'_>, fault: CountFault) -> Found
 }
 
 /// The first word that is too much.
-pub(crate) fn count_found(
-    alloc: Global,
-    marks: &[Marked<'_>],
-) -> Result<Option<Found>, AllocError>
+pub(crate) fn count_found(alloc: Global, marks: &[Marked<'_>]) -> Result<Option<Found>, AllocError>
     ensures { IfOk result (λ found. found ≡ count_in (map mark_of marks.now)) }
 {
     let mut room = Room {

@@ -164,7 +164,14 @@ fn add_first(
     ensures { OnOk result (text.new ≡ text.old ++
         head place.now.file.now place.now.line found.column code.now sentence.now) }
 {
-    add_head(text, place.file, place.line, found.column, code, &[sentence])
+    add_head(
+        text,
+        place.file,
+        place.line,
+        found.column,
+        code,
+        &[sentence],
+    )
 }
 
 /// Puts what is shown behind the first line of the message.
@@ -197,18 +204,19 @@ fn tell_at(
     let mut sentence = Text::new(alloc);
     add_sentence(&mut sentence, found.fault, word)?;
     let mut text = Text::new(alloc);
-    add_first(&mut text, place, found, code.as_bytes(), sentence.as_bytes())?;
+    add_first(
+        &mut text,
+        place,
+        found,
+        code.as_bytes(),
+        sentence.as_bytes(),
+    )?;
     add_shown(&mut text, place, found, word)?;
     Ok(text)
 }
 
 /// Tells what is wrong with a line.
-fn tell(
-    alloc: Global,
-    place: &Place<'_>,
-    number: u8,
-    found: Found,
-) -> Result<Text, AllocError>
+fn tell(alloc: Global, place: &Place<'_>, number: u8, found: Found) -> Result<Text, AllocError>
     ensures { IfOk result (λ text. text ≡
         told place.now.file.now place.now.source.now number place.now.line found) }
 {

@@ -164,10 +164,7 @@ fn taken(mark: &Marked<'_>, by: &Marked<'_>) -> Found
 }
 
 /// The first name of which another one before it is the word already.
-pub(crate) fn taken_found(
-    alloc: Global,
-    marks: &[Marked<'_>],
-) -> Result<Option<Found>, AllocError>
+pub(crate) fn taken_found(alloc: Global, marks: &[Marked<'_>]) -> Result<Option<Found>, AllocError>
     ensures { IfOk result (λ found. found ≡ taken_in (map mark_of marks.now)) }
 {
     let mut names = Names {

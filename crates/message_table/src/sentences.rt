@@ -171,7 +171,12 @@ fn add_range(text: &mut Text, part: Part, frame: u64) -> Result<(), AllocError>
     match part {
         Part::Frame | Part::EventFrame => text.extend(b"; it may be 10 to 1000000000"),
         Part::Deadline | Part::EventDeadline => {
-            add_ticks(text, b"; it may be 10 to ", u128::from(frame), b", its frame")
+            add_ticks(
+                text,
+                b"; it may be 10 to ",
+                u128::from(frame),
+                b", its frame",
+            )
         }
         Part::First => text.extend(b"; it may be 0 to 1000000000"),
         Part::Stay => text.extend(b"; it may be 3 to 1000000000"),
@@ -180,12 +185,7 @@ fn add_range(text: &mut Text, part: Part, frame: u64) -> Result<(), AllocError>
 }
 
 /// Puts that ticks are outside their range.
-fn add_out_of_range(
-    text: &mut Text,
-    part: Part,
-    frame: u64,
-    word: &[u8],
-) -> Result<(), AllocError>
+fn add_out_of_range(text: &mut Text, part: Part, frame: u64, word: &[u8]) -> Result<(), AllocError>
     ensures { OnOk result
         (text.new ≡ text.old ++ (ticks_words part ++ (shortened word.now ++ range_of part frame))) }
 {
@@ -197,7 +197,12 @@ fn add_out_of_range(
 fn add_costs(text: &mut Text, least: u128, more: u128) -> Result<(), AllocError>
     ensures { OnOk result (text.new ≡ text.old ++ costs_with_stays least more) }
 {
-    add_ticks(text, b" cannot be met with its stays; ", least, b" can, and ")?;
+    add_ticks(
+        text,
+        b" cannot be met with its stays; ",
+        least,
+        b" can, and ",
+    )?;
     add_ticks(text, b"", more, b" or more")
 }
 

@@ -7,4 +7,4 @@ use Rattle.command_images.proofs.images.refuse_image.Goals as goal
 
 pub returns-clause-due : goal.returns-clause-due
 returns-clause-due c =
-    λ bytes answer. subst (λ (act : PreparedCall). IsImageRefused bytes (outcome_of act)) (sym c.put.ensures) (refused_line c.in_ok-line.line bytes (c.in_ok-line.ensures bytes answer))
+    λ bytes answer. subst (λ (act : PreparedCall). IsImageRefused bytes (outcome_of act)) (sym c.put.ensures) (refused_line c.in_ok-line.line bytes (c.in_ok-line.ensures.due bytes answer))

@@ -7,4 +7,4 @@ use Rattle.command_images.proofs.texts.refuse_bytes.Goals as goal
 
 pub returns-clause-due : goal.returns-clause-due
 returns-clause-due c =
-    λ bytes answer. subst (λ (act : PreparedCall). IsDisDue bytes (outcome_of act)) (sym c.put.ensures) (refused_bytes_line c.in_ok-line.line bytes (c.in_ok-line.ensures bytes answer))
+    λ bytes answer. subst (λ (act : PreparedCall). IsDisDue bytes (outcome_of act)) (sym c.put.ensures) (refused_bytes_line c.in_ok-line.line bytes (c.in_ok-line.ensures.due bytes answer))

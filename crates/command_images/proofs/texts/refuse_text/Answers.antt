@@ -7,4 +7,4 @@ use Rattle.command_images.proofs.texts.refuse_text.Goals as goal
 
 pub returns-clause-due : goal.returns-clause-due
 returns-clause-due c =
-    λ text answer. subst (λ (act : PreparedCall). IsAsmDue text (outcome_of act)) (sym c.put.ensures) (refused_text_line c.in_ok-line.line text (c.in_ok-line.ensures text answer))
+    λ text answer. subst (λ (act : PreparedCall). IsAsmDue text (outcome_of act)) (sym c.put.ensures) (refused_text_line c.in_ok-line.line text (c.in_ok-line.ensures.due text answer))
