@@ -9,3 +9,4 @@ mod Prepared
 mod Runs
 mod Scripted
 mod Sized
+mod Telling

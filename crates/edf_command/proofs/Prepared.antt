@@ -1,5 +1,5 @@
 -- What is due of `edf`, by what files hold.
-use Rattle.std.proofs.Common.{◌≡◌, ◌∙◌, ℕ, List, Option, Some, None, Bool, true, false, Ok, Err, inl, inr, refl, ap, subst}
+use Rattle.std.proofs.Common.{◌≡◌, ◌∙◌, ℕ, List, Option, Some, None, Bool, true, false, Ok, Err, refl, ap, subst}
 use Rattle.std.specs.Prelude.{Result, IfErr, IfOk, IsSomeAnd}
 use Rattle.std.specs.Bool.{OnTrue}
 use Rattle.syntax_tree.specs.declared.place.Place.{Place}
@@ -19,7 +19,7 @@ use Rattle.command_answers.specs.Acts.{outcome_of}
 use Rattle.command_answers.specs.declared.prepare_error.PrepareError.{PrepareError}
 use Rattle.command_answers.specs.declared.prepare_error.PrepareError.TheVariants as unready
 use Rattle.command_answers.specs.Acting.{CanBeDone, puts}
-use Rattle.command_answers.specs.Prepared.{IsReadError, Prepares}
+use Rattle.command_answers.specs.Prepared.{Prepares}
 use Rattle.command_answers.proofs.Coming.{outcome_of_puts}
 use Rattle.command_answers.proofs.Held.{acted, of_held, script_unread}
 use Rattle.command_due.specs.EdfDue.{IsEdfDue, IsFeasibleText, IsJudgedText, edf_bad_script, edf_faulty, edf_ran, edf_unfit, edf_waits}

@@ -27,8 +27,8 @@ module _ (law : EdfImagesAreReady) (s : Subject) (subject : IsSubject s) (script
 
   of_answer : (answer : Judgement) → s.answer ≡ answer → IsMet answer → CanRunByDeadlines run
   of_answer (judgement.Feasible points) same met =
-      let answered = subst (λ (a : Judgement). IsAnswer (image_of s.image) a) same subject.judged.answered in
-      let ready = law s.text.items subject.judged.tree (named_of s.image) points subject.judged.written subject.judged.waitless subject.judged.image answered in
+      let answered = subst (λ (a : Judgement). IsAnswer (image_of s.image) a) same subject.1.judged.answered in
+      let ready = law subject.0 subject.1.judged.tree (named_of s.image) points subject.1.judged.written subject.1.judged.waitless subject.1.judged.image answered in
       let runs = ready.1 is.0 script.lines script.end is.1 in
       record {
         plan = ready.0;

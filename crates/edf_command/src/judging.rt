@@ -70,10 +70,12 @@ fn judge_written(alloc: Global, program: &Checked) -> Result<Subject, ProgramTex
     }
 }
 
-/// A text, read and judged.
+/// A text, which has these bytes, read and judged.
 fn judge_text(alloc: Global, text: &[u8]) -> Result<Subject, ProgramTextFault>
-    ensures subject { IfOk result (IsSubjectOf text.now) }
-    ensures fault { IfErr result (Stops text.now) }
+    ghost bytes: { List ℕ }
+    requires { text.now ≡ bytes }
+    ensures subject { IfOk result (IsSubjectOf bytes) }
+    ensures fault { IfErr result (Stops bytes) }
 {
     match read_written(alloc, text) {
         Ok(program) => judge_written(alloc, &program),

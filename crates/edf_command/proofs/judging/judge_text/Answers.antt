@@ -4,5 +4,5 @@ use Rattle.edf_command.proofs.Prepared.{unread_stops}
 use Rattle.edf_command.proofs.judging.judge_text.Goals as goal
 
 pub returns-in-Err-clause-fault : goal.returns-in-Err-clause-fault
-returns-in-Err-clause-fault c =
-    unread_stops c.args.text.items c.in-Err.fault (subst (λ (x : List ℕ). ReadsWritten x (Err c.in-Err.fault)) c.as_slice.ensures.value c.in-Err.ensures)
+returns-in-Err-clause-fault g c =
+    unread_stops g.bytes c.in-Err.fault (subst (λ (x : List ℕ). ReadsWritten x (Err c.in-Err.fault)) c.requires c.in-Err.ensures)

@@ -1,23 +1,21 @@
-use Rattle.std.proofs.Common.{List, ℕ, subst, sym}
-use Rattle.command_due.specs.Source.{IsWritten}
 use Rattle.syntax_tree.specs.Placed.{placed, plain}
 use Rattle.edf_command.proofs.Few.{few_devices, few_events}
 use Rattle.edf_command.proofs.Sized.{no_size_fault}
 use Rattle.edf_command.proofs.judging.judge_waitless.Goals as goal
 
 pub judge_program-requires : goal.judge_program-requires
-judge_program-requires g c = c.requires.1.0.program
+judge_program-requires g c = c.requires.0.program
 
 pub returns-in-Ok-clause-subject : goal.returns-in-Ok-clause-subject
 returns-in-Ok-clause-subject g c =
     let tree = placed c.args.program.now in
-    let counts = (c.checked_programs_are_ready.ensures tree c.requires.1.0.program.checked).formed.counts_fit in
+    let counts = (c.checked_programs_are_ready.ensures tree c.requires.0.program.checked).formed.counts_fit in
     let image = c.in-Ok.ensures.judged.shape.image in
     record {
       judged = record {
         tree = tree;
-        written = subst (λ (t : List ℕ). IsWritten t tree) (sym c.requires.0) c.requires.1.0;
-        waitless = c.requires.1.1;
+        written = c.requires.0;
+        waitless = c.requires.1;
         image = image;
         answered = c.in-Ok.ensures.judged.answered;
       };
@@ -28,4 +26,4 @@ returns-in-Ok-clause-subject g c =
 
 pub unreachable-requires : goal.unreachable-requires
 unreachable-requires g c =
-    no_size_fault (placed c.args.program.now) c.in-Err-TooLarge.field-0 c.in-Err-TooLarge.field-0-0 c.in-Err-TooLarge.field-0-1 c.in-Err-TooLarge.field-0-is c.in-Err-TooLarge.ensures.fault c.requires.1.0.fits
+    no_size_fault (placed c.args.program.now) c.in-Err-TooLarge.field-0 c.in-Err-TooLarge.field-0-0 c.in-Err-TooLarge.field-0-1 c.in-Err-TooLarge.field-0-is c.in-Err-TooLarge.ensures.fault c.requires.0.fits

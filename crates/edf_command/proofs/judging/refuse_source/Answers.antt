@@ -11,6 +11,6 @@ use Rattle.edf_command.proofs.judging.refuse_source.Goals as goal
 
 pub returns-in-Text-clause-due : goal.returns-in-Text-clause-due
 returns-in-Text-clause-due c =
-    of_made c.put_fault.result (puts status.Text (fault_line c.in-Text.number c.in-Text.place))
+    of_made c.refuse_text.result (puts status.Text (fault_line c.in-Text.number c.in-Text.place))
     (λ act. (text : List ℕ) (script : Option (List ℕ)) → Stops text c.args.fault → IsEdfDue (Some text) script (outcome_of act))
-    c.put_fault.ensures.act (stopped_edf c.args.fault c.in-Text.number c.in-Text.place c.in-Text.is)
+    c.refuse_text.ensures.act (stopped_edf c.args.fault c.in-Text.number c.in-Text.place c.in-Text.is)

@@ -1,4 +1,5 @@
-use Rattle.std.proofs.Common.{None, ◌∷◌, []}
+use Rattle.std.proofs.Common.{None, ◌∷◌, [], inl}
+use Rattle.std.proofs.lemmas.Result.{IfOk-weaker}
 use Rattle.syntax.specs.Tokens.{longest_text}
 use Rattle.command_words.specs.Calls as call
 use Rattle.image.specs.Raw.{named_of}
@@ -7,7 +8,11 @@ use Rattle.command_answers.specs.Contents.{IsContent}
 use Rattle.command_answers.specs.Tried.{status_of}
 use Rattle.command_answers.proofs.Held.{acted}
 use Rattle.command_answers.proofs.Trying.{tried_perhaps}
+use Rattle.command_refusals.specs.Refusals.{HasFeasibleNames}
+use Rattle.command_refusals.specs.Told.{IsDemandedTold}
+use Rattle.command_refusals.proofs.Explaining.{explained_source}
 use Rattle.edf_command.proofs.Prepared.{edf_prepares, stopped}
+use Rattle.edf_command.proofs.Telling.{edf_explained}
 use Rattle.edf_command.proofs.preparing.prepare_edf.Goals as goal
 
 pub returns-in-Ok-clause-prepared : goal.returns-in-Ok-clause-prepared
@@ -26,3 +31,17 @@ returns-in-Ok-refuse_source-clause-prepared g c =
 pub returns-in-Ok-clause-reads : goal.returns-in-Ok-clause-reads
 returns-in-Ok-clause-reads g c =
     tried_perhaps c.args.program.now (c.args.script.now ∷ []) _ _ _ (status_of c.judged_on.result) c.in_ok-content.ensures.read c.judged_on.ensures.reads
+
+pub returns-in-Ok-clause-told : goal.returns-in-Ok-clause-told
+returns-in-Ok-clause-told g c =
+    IfOk-weaker c.judged_on.result _ _
+    (λ act. edf_explained c.args.program.now c.args.script.now c.judged_on.new.message c.in-Ok.subject act g.F.Files.tells (g.F.Files.state c.args.files.now).held (g.F.Files.state c.read.new.files).held
+    (IsContent longest_text c.in_ok-content.content) c.in_ok-content.ensures.content c.in-Ok.ensures.judged c.in_ok-content.ensures.files)
+    c.judged_on.ensures.told
+
+pub returns-in-Ok-refuse_source-clause-told : goal.returns-in-Ok-refuse_source-clause-told
+returns-in-Ok-refuse_source-clause-told g c =
+    let outcome = outcome_of c.in-Ok-refuse_source.act in
+    explained_source (λ bytes. IsDemandedTold c.args.program.now bytes outcome c.refuse_source.new.message) HasFeasibleNames c.args.script.now outcome c.refuse_source.new.message g.F.Files.tells
+    ((g.F.Files.state c.args.files.now).held c.args.program.now) ((g.F.Files.state c.args.files.now).held c.args.script.now) (IsContent longest_text c.in_ok-content.content) _
+    c.in_ok-content.ensures.content (λ text is refused. inl (c.in-Ok-refuse_source.ensures.told text is))
