@@ -1,5 +1,5 @@
 -- Bounds and lines, one more at a time.
-use Rattle.std.proofs.Common.{◌≡◌, ◌≤◌, ◌<◌, ◌+◌, ◌-◌, ◌++◌, ◌∙◌, ℕ, suc, List, [], ◌∷◌, Some, Ok, Err, length, map, refl, sym, ap, subst, arith, append-nil, append_assoc}
+use Rattle.std.proofs.Common.{◌≡◌, ◌+◌, ◌-◌, ◌++◌, ◌∙◌, ℕ, suc, List, [], ◌∷◌, Some, Ok, Err, length, map, refl, sym, ap, subst, arith, append-nil, append_assoc}
 use Rattle.std.specs.Prelude.{Result, OnOk, slice_get, slice_index_or}
 use Rattle.std.specs.List.{concat}
 use Rattle.base.proofs.Lists.{one_longer}

@@ -5,3 +5,4 @@ mod Joined
 mod Ranks
 pub mod Read
 pub mod Refused
+mod Explained

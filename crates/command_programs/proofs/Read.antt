@@ -1,5 +1,5 @@
 -- What is due of programs, by what files hold.
-use Rattle.std.proofs.Common.{◌≡◌, ℕ, List, Option, Some, None, Bool, true, false, Ok, Err, inl, inr, refl, subst, ap, ◌∙◌}
+use Rattle.std.proofs.Common.{◌≡◌, ℕ, List, Option, Some, None, Bool, true, false, Ok, Err, refl, subst, ap, ◌∙◌}
 use Rattle.std.specs.Prelude.{Result, IfErr, IfOk, IsSomeAnd}
 use Rattle.std.specs.Bool.{OnTrue}
 use Rattle.image.specs.Raw.{named_of}
@@ -10,7 +10,7 @@ use Rattle.sched_table.specs.Json.{report_json}
 use Rattle.command_words.specs.Calls as call
 use Rattle.compile.specs.declared.built.Built.{Built}
 use Rattle.command_due.specs.Source.{IsTimelyText}
-use Rattle.command_due.specs.CommandsDue.{Outcome, IsRefused, IsReportDue, IsGoDue, go_refused, go_bad_script, went, ran}
+use Rattle.command_due.specs.CommandsDue.{Outcome, IsRefused, IsReportDue, IsGoDue, go_refused, go_bad_script, went}
 use Rattle.compile.specs.Compile.{IsImageOf}
 use Rattle.command_answers.specs.declared.act.PreparedCall.{PreparedCall}
 use Rattle.command_answers.specs.Acts.{outcome_of}

@@ -1,5 +1,5 @@
 -- What is due of texts, by what was answered of them.
-use Rattle.std.proofs.Common.{◌≡◌, ◌-◌, ℕ, List, [], ◌++◌, Option, Some, Ok, Err, subst, ap, ◌∙◌}
+use Rattle.std.proofs.Common.{◌≡◌, ℕ, List, [], ◌++◌, Option, Some, Ok, Err, subst, ap, ◌∙◌}
 use Rattle.std.specs.Prelude.{Result, IfOk}
 use Rattle.std.proofs.lemmas.List.{append-nil}
 use Rattle.syntax_tree.specs.declared.place.Place.{Place}

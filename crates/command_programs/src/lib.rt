@@ -5,7 +5,8 @@
 //! spare (`IsSlackText` of `command_due`).
 //!
 //! For each of the six commands a call promises an act that comes to what is due, and that the
-//! machine can run; or a read that failed (`Prepared` of `command_answers`).
+//! machine can run; or a read that failed (`Prepared` of `command_answers`). Of a call that is
+//! refused the message for a person is made besides (`command_refusals`).
 #![tactic(auto)]
 
 mod bounds;

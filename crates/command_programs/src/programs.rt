@@ -132,6 +132,7 @@ fn put_slack<'a>(alloc: Global, built: &Built) -> Result<PreparedCall<'a>, Alloc
     ensures due { IfOk result (λ act. (over : ℕ) (text : List ℕ) →
         Compiles over text (Ok built.now) → IsSlackDue over text (outcome_of act)) }
     ensures quiet { IfOk result IsQuiet }
+    ensures succeeds { IfOk result (λ act. number_of act.status ≡ 0) }
 {
     let text = slack_text(alloc, &built.image)?;
     Ok(put(Status::Done, text))
@@ -190,6 +191,7 @@ fn store_built<'a>(
     ensures due { IfOk result (λ act. (over : ℕ) (text : List ℕ) →
         Compiles over text (Ok built.now) → IsCompileDue over text (outcome_of act)) }
     ensures done { IfOk result (CanBeDone (Some image.now)) }
+    ensures succeeds { IfOk result (λ act. number_of act.status ≡ 0) }
 {
     let raw = &built.image;
     let text = sched_table::report(alloc, &raw.names, &raw.program, &built.table)?;

@@ -60,7 +60,6 @@ fn table_fault_line(alloc: Global, number: u8, line: u32) -> Result<Text, AllocE
 }
 
 /// The message for a fault of what a table's file holds.
-#[tactic(auto, using(crate::proofs::Told::long_table))]
 fn message_of(
     alloc: Global,
     file: &str,

@@ -1,9 +1,9 @@
-use Rattle.std.proofs.Common.{◌≡◌, ◌<◌, ◌+◌, ◌∙◌, IfOk, ℕ, List, length, ap, map, subst, sym, arith}
+use Rattle.std.proofs.Common.{◌≡◌, ◌+◌, ◌∙◌, IfOk, ℕ, List, ap, map, subst, sym}
 use Rattle.image.specs.Raw.{process_of}
 use Rattle.sched_response.specs.declared.tasks.Task.{Task}
 use Rattle.sched_response.specs.Demand.{with_run}
 use Rattle.sched_slack.specs.Slack.{with_more, IsTimely}
-use Rattle.sched_slack.proofs.More.{length_more, put_back}
+use Rattle.sched_slack.proofs.More.{put_back}
 use Rattle.command_due.specs.Lines.{AreLeastBounds}
 use Rattle.command_programs.specs.Levels.{HaveLevels}
 use Rattle.command_programs.proofs.Ranks.{levels_more}

@@ -9,3 +9,8 @@ pub returns-in-Ok-clause-due : goal.returns-in-Ok-clause-due
 returns-in-Ok-clause-due g c =
     of_held g.F.Files.tells ((g.F.Files.state c.args.files.now).held c.args.script.now) (IsContent longest_text c.in_ok-content.content) (λ text. IsBuiltRunDue c.args.built text (outcome_of c.in-Ok.act))
     c.in_ok-content.ensures.content c.in-Ok.ensures.due
+
+pub returns-in-Ok-clause-told : goal.returns-in-Ok-clause-told
+returns-in-Ok-clause-told g c =
+    of_held g.F.Files.tells ((g.F.Files.state c.args.files.now).held c.args.script.now) (IsContent longest_text c.in_ok-content.content) _
+    c.in_ok-content.ensures.content c.in-Ok.ensures.told

@@ -1,4 +1,5 @@
-use Rattle.std.proofs.Common.{ℕ, List, Err, sym, subst, ap, ◌∙◌}
+use Rattle.std.proofs.Common.{ℕ, List, Err, inl, sym, subst, ap, ◌∙◌}
+use Rattle.std.proofs.lemmas.Result.{IfOk-weaker}
 use Rattle.command_due.specs.CommandsDue.{IsRefused}
 use Rattle.command_due.specs.Source.{fault_line}
 use Rattle.compile.specs.Compile.{Compiles}
@@ -9,6 +10,7 @@ use Rattle.command_answers.specs.Acting.{puts}
 use Rattle.command_programs.specs.Formats.{shown}
 use Rattle.command_programs.proofs.Refused.{faulty_text, late_text}
 use Rattle.command_answers.proofs.Judged.{of_made}
+use Rattle.command_programs.proofs.Explained.{late_told}
 use Rattle.command_programs.proofs.programs.refuse.Goals as goal
 
 pub returns-in-Text-clause-due : goal.returns-in-Text-clause-due
@@ -22,3 +24,10 @@ returns-in_ok-text-in-Untimely-clause-due c =
     λ over text answer. subst (λ (act : PreparedCall). IsRefused (shown c.args.format) over text (outcome_of act))
     (sym (c.put.ensures ∙ ap (puts status.Late) c.in_ok-text-in-Untimely.ensures))
     (late_text (shown c.args.format) c.args.fault c.in-Untimely.late c.in-Untimely.is over text answer)
+
+pub returns-in-Text-clause-told : goal.returns-in-Text-clause-told
+returns-in-Text-clause-told c = IfOk-weaker c.refuse_text.result _ _ (λ act told. λ text is answer. inl (told text is)) c.refuse_text.ensures.told
+
+pub returns-in_ok-text-in-Untimely-clause-told : goal.returns-in_ok-text-in-Untimely-clause-told
+returns-in_ok-text-in-Untimely-clause-told c =
+    λ text is answer. late_told c.args.file.now c.args.over text c.args.fault c.in-Untimely.late c.put.result _ _ c.in-Untimely.is answer c.put.ensures c.in_ok-message-in-Untimely.ensures

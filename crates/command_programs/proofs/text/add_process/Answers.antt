@@ -1,5 +1,5 @@
-use Rattle.std.proofs.Common.{◌≡◌, ◌<◌, ◌+◌, ◌++◌, ◌∙◌, ℕ, List, [], length, map, ap, subst, sym, arith}
-use Rattle.std.specs.Prelude.{slice_get, slice_index_or}
+use Rattle.std.proofs.Common.{◌<◌, ◌+◌, ◌++◌, ◌∙◌, ℕ, List, [], length, map, ap, subst, arith}
+use Rattle.std.specs.Prelude.{slice_index_or}
 use Rattle.image.specs.Raw.{image_of, process_of}
 use Rattle.image.specs.declared.raw.RawProcess.{RawProcess}
 use Rattle.sched_response.specs.declared.tasks.Task.{Task}
