@@ -9,3 +9,5 @@ pub mod Told
 pub mod Ready
 pub mod Fits
 pub mod Due
+pub mod Untimely
+pub mod Bounds

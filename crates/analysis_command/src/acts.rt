@@ -1,73 +1,69 @@
 //! The acts, by the text of the program.
 
-ghost use Rattle.std.specs.Prelude.{◌≡◌, ◌≤◌, ℕ, List, IfOk};
-ghost use Rattle.syntax_tree.specs.Placed.{placed};
+ghost use Rattle.std.specs.Prelude.{◌≤◌, ℕ, List, IfOk};
 ghost use Rattle.syntax.specs.Tokens.{longest_text};
 ghost use Rattle.command_due.specs.FitDue.{IsFitDue};
-ghost use Rattle.command_due.specs.Source.{IsWritten};
 ghost use Rattle.command_due.specs.WhyDue.{IsWhyDue};
 ghost use Rattle.command_answers.specs.Acting.{IsQuiet};
 ghost use Rattle.command_answers.specs.Acts.{outcome_of};
 ghost use Rattle.command_answers.specs.Contents.{IsContent};
 ghost use Rattle.command_refusals.specs.Refusals.{Explains};
 ghost use Rattle.command_refusals.specs.Told.{IsLateTold, IsProgramTold, IsTextTold};
+ghost use Rattle.analysis_command.specs.Told.{AreBoundsOf};
 
-use crate::late::message_of_late;
-use crate::{fit_text, why_text};
+use crate::texts::{JudgedBounds, bounds_of_text, fit_of_text};
 use command_answers::{Content, PreparedCall, Status, put};
 use command_refusals::{refuse_bytes, refuse_text};
-use compile::{ProgramTextFault, read_written};
+use compile::ProgramTextFault;
+use message_late::late_message;
 use static_rule::rule;
-use static_semantics::Checked;
 use std::alloc::{AllocError, Global};
 use syntax_tree::{Place, Text};
 
 /// Where a fault of a whole text stands.
 const START: Place = Place { line: 1, col: 1 };
 
-/// The act that puts the bounds of a program, taken apart.
+/// The act that puts the bounds of a program, taken apart. Of a program that is late the message
+/// takes the place of the given one.
 fn put_why<'a>(
     alloc: Global,
     message: &mut Text,
     file: &str,
-    program: &Checked,
+    bounds: JudgedBounds,
     over: u16,
 ) -> Result<PreparedCall<'a>, AllocError>
-    ghost text: { List ℕ }
-    requires over { over ≤ 1000 }
-    requires written { IsWritten text (placed program.now) }
-    ensures due { IfOk result (λ act. IsWhyDue over text (outcome_of act)) }
+    ensures due { IfOk result (λ act. (text : List ℕ) → AreBoundsOf over text bounds →
+        IsWhyDue over text (outcome_of act)) }
     ensures quiet { IfOk result IsQuiet }
-    ensures told { IfOk result (λ act.
+    ensures told { IfOk result (λ act. (text : List ℕ) → AreBoundsOf over text bounds →
         Explains (IsLateTold over file.now text (outcome_of act) message.new) act) }
 {
-    let why = why_text(alloc, program, over)?;
-    if why.in_time {
-        Ok(put(Status::Done, why.text))
-    } else {
-        *message = message_of_late(alloc, file, program, over)?;
-        Ok(put(Status::Late, why.text))
+    let JudgedBounds { text, late } = bounds;
+    match late {
+        None => Ok(put(Status::Done, text)),
+        Some(shown) => {
+            *message = late_message(alloc, file, over, &shown.names, &shown.table)?;
+            Ok(put(Status::Late, text))
+        }
     }
 }
 
-/// The act of `why` for a text, which has these bytes.
-fn why_of_text<'a>(
+/// The act of `why` for a text.
+fn why_of_bytes<'a>(
     alloc: Global,
     message: &mut Text,
     file: &str,
     text: &[u8],
     over: u16,
 ) -> Result<PreparedCall<'a>, AllocError>
-    ghost bytes: { List ℕ }
-    requires bytes { text.now ≡ bytes }
-    requires over { over ≤ 1000 }
-    ensures due { IfOk result (λ act. IsWhyDue over bytes (outcome_of act)) }
+    requires { over ≤ 1000 }
+    ensures due { IfOk result (λ act. IsWhyDue over text.now (outcome_of act)) }
     ensures quiet { IfOk result IsQuiet }
     ensures told { IfOk result (λ act.
-        Explains (IsProgramTold over file.now bytes (outcome_of act) message.new) act) }
+        Explains (IsProgramTold over file.now text.now (outcome_of act) message.new) act) }
 {
-    match read_written(alloc, text) {
-        Ok(program) => put_why(alloc, message, file, &program, over),
+    match bounds_of_text(alloc, text, over) {
+        Ok(bounds) => put_why(alloc, message, file, bounds, over),
         Err(ProgramTextFault::Text { number, place }) => {
             refuse_bytes(alloc, message, file, text, number, place)
         }
@@ -91,41 +87,27 @@ pub fn why_act<'a>(
         Explains (IsProgramTold over file.now text (outcome_of act) message.new) act) }
 {
     match content {
-        Content::Bytes(text) => why_of_text(alloc, message, file, text.as_slice(), over),
+        Content::Bytes(text) => why_of_bytes(alloc, message, file, text.as_slice(), over),
         Content::TooLong => refuse_text(alloc, message, file, content, rule::LONG_TEXT, START),
     }
 }
 
-/// The act that puts what fits of a program.
-fn put_fit<'a>(alloc: Global, program: &Checked, over: u16) -> Result<PreparedCall<'a>, AllocError>
-    ghost text: { List ℕ }
-    requires over { over ≤ 1000 }
-    requires written { IsWritten text (placed program.now) }
-    ensures due { IfOk result (λ act. IsFitDue over text (outcome_of act)) }
-    ensures quiet { IfOk result IsQuiet }
-{
-    let fits = fit_text(alloc, program, over)?;
-    Ok(put(Status::Done, fits))
-}
-
-/// The act of `fit` for a text, which has these bytes.
-fn fit_of_text<'a>(
+/// The act of `fit` for a text.
+fn fit_of_bytes<'a>(
     alloc: Global,
     message: &mut Text,
     file: &str,
     text: &[u8],
     over: u16,
 ) -> Result<PreparedCall<'a>, AllocError>
-    ghost bytes: { List ℕ }
-    requires bytes { text.now ≡ bytes }
-    requires over { over ≤ 1000 }
-    ensures due { IfOk result (λ act. IsFitDue over bytes (outcome_of act)) }
+    requires { over ≤ 1000 }
+    ensures due { IfOk result (λ act. IsFitDue over text.now (outcome_of act)) }
     ensures quiet { IfOk result IsQuiet }
     ensures told { IfOk result (λ act.
-        Explains (IsTextTold file.now bytes (outcome_of act) message.new) act) }
+        Explains (IsTextTold file.now text.now (outcome_of act) message.new) act) }
 {
-    match read_written(alloc, text) {
-        Ok(program) => put_fit(alloc, &program, over),
+    match fit_of_text(alloc, text, over) {
+        Ok(fits) => Ok(put(Status::Done, fits)),
         Err(ProgramTextFault::Text { number, place }) => {
             refuse_bytes(alloc, message, file, text, number, place)
         }
@@ -149,7 +131,7 @@ pub fn fit_act<'a>(
         Explains (IsTextTold file.now text (outcome_of act) message.new) act) }
 {
     match content {
-        Content::Bytes(text) => fit_of_text(alloc, message, file, text.as_slice(), over),
+        Content::Bytes(text) => fit_of_bytes(alloc, message, file, text.as_slice(), over),
         Content::TooLong => refuse_text(alloc, message, file, content, rule::LONG_TEXT, START),
     }
 }

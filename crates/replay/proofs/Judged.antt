@@ -1,6 +1,7 @@
 -- What is due of logs, by what was answered of them.
-use Rattle.std.proofs.Common.{◌≡◌, ◌≢◌, ◌⊎◌, ℕ, List, Ok, Err, inl, inr, length, subst}
-use Rattle.std.specs.Prelude.{Result, IfOk}
+use Rattle.std.proofs.Common.{◌≡◌, ◌≢◌, ◌<◌, ◌⊎◌, ℕ, Bool, true, false, List, Ok, Err, inl, inr, length, refl, subst}
+use Rattle.std.proofs.lemmas.Bool.{lt-ltb}
+use Rattle.std.specs.Prelude.{Result, IfOk, nat_lt, if◌then◌else◌}
 use Rattle.base.specs.declared.event.Event.{Event}
 use Rattle.syntax_tree.specs.declared.place.Place.{Place}
 use Rattle.syntax_tree.specs.Placed.{Prog, plain}
@@ -21,7 +22,18 @@ use Rattle.command_answers.specs.declared.status.Status.TheVariants as status
 use Rattle.command_answers.specs.Acts.{outcome_of}
 use Rattle.command_answers.specs.Acting.{puts}
 use Rattle.command_answers.proofs.Coming.{put_comes_to}
+use Rattle.message_log.specs.Log as message
 use Rattle.replay.specs.Lines.{line_of, status_of}
+
+-- what stands in the first branch
+first_branch : {A : Type 0} (x y : A) (is : Bool) → is ≡ true → x ≡ (if is then x else y)
+first_branch x y true is = refl
+first_branch x y false is = absurd cc
+
+-- the message for a log that is too long
+pub long_log : (file log : List ℕ) (names : ImageNames) (fault : LogFault) → 67108864 < length log → message.long_message file ≡ message.log_message file log names fault
+unfolding message.log_message
+long_log file log names fault long = first_branch _ _ (nat_lt 67108864 (length log)) (lt-ltb 67108864 (length log) long)
 
 module _ (g : Prog Place) (names : ImageNames) (same : names ≡ names_of (plain g)) (lines : List ScriptLine) (end : ℕ) (P : List ℕ → Type 0) where
   of_verdict : (log : List ℕ) (events : List Event) (verdict : Verdict) (act : PreparedCall) → IsLog names log events → Judges (plain g) (said lines end) (start (plain g)) events verdict

@@ -7,3 +7,4 @@ mod Ranked
 mod Few
 mod Judged
 mod Prepared
+mod Telling

@@ -20,6 +20,6 @@ pub record IsSourceOf (text : List ℕ) (source : Source) : Type 0 where
   pub written : IsWritten text (placed source.program)
   pub names : AreNamesFor (placed source.program) source.names
 
--- of some text
+-- of the text that it was read from
 abbrev pub IsSource : Source → Type 0
-IsSource source = (text : List ℕ) × IsSourceOf text source
+IsSource source = IsSourceOf source.text.now source

@@ -14,11 +14,15 @@ ghost use Rattle.command_due.specs.ReplayDue.{IsJudged};
 ghost use Rattle.command_refusals.specs.Refusals.{Explains};
 ghost use Rattle.command_refusals.specs.Told.{IsLogTold, IsMisreadTold, IsRefusedTold};
 ghost use Rattle.message_log.specs.Log as message_of;
-ghost use Rattle.syntax_tree.specs.Placed.{placed};
+ghost use Rattle.script_meaning.specs.Script.{said};
+ghost use Rattle.source_semantics.specs.Config.{start};
+ghost use Rattle.source_semantics.specs.Verdicts.{Judges};
+ghost use Rattle.syntax_tree.specs.Placed.{placed, plain};
 
 use crate::logs::judge_log;
 use crate::replay;
 use crate::sources::Source;
+use base::Event;
 use command_answers::{Content, PreparedCall, Status, log_fault_line, put, refused_line, run_line};
 use event_log::LogFault;
 use image::ImageNames;
@@ -69,7 +73,6 @@ fn put_verdict<'a>(
 }
 
 /// The message for a fault of what a log's file holds, for these names.
-#[tactic(auto, using(crate::proofs::Judged::long_log))]
 fn message_of_fault(
     alloc: Global,
     file: &str,
@@ -108,18 +111,34 @@ fn refuse_log<'a>(
     }
 }
 
+/// The verdict on the events of a log, by a program that has no fault.
+fn verdict_on(
+    alloc: Global,
+    source: &Source<'_>,
+    script: &Script,
+    events: &[Event],
+) -> Result<Verdict, AllocError>
+    ghost text: { List ℕ }
+    requires written { IsWritten text (placed source.now.program) }
+    requires end { script.now.end < 2 ^ 61 }
+    requires few { length events.now < 4294967295 }
+    ensures { IfOk result (λ verdict. Judges (plain (placed source.now.program))
+        (said script.now.lines script.now.end) (start (plain (placed source.now.program)))
+        events.now verdict) }
+{
+    replay(alloc, &source.program, script, events)
+}
+
 /// The act of `replay` for what the log's file holds, where program and script have no fault.
 pub fn log_act<'a>(
     alloc: Global,
     message: &mut Text,
     file: &str,
-    source: &Source,
+    source: &Source<'_>,
     script: &Script,
     content: &Content,
 ) -> Result<PreparedCall<'a>, AllocError>
-    ghost text: { List ℕ }
     requires source { IsSource source.now }
-    requires written { IsWritten text (placed source.now.program) }
     requires end { script.now.end < 2 ^ 61 }
     ensures due { IfOk result (λ act. (log : List ℕ) → IsContent longest_text content.now log →
         IsJudged (placed source.now.program) script.now.lines script.now.end log
@@ -130,7 +149,7 @@ pub fn log_act<'a>(
 {
     match judge_log(alloc, content, &source.names) {
         Ok(events) => {
-            let verdict = replay(alloc, &source.program, script, events.as_slice())?;
+            let verdict = verdict_on(alloc, source, script, events.as_slice())?;
             put_verdict(alloc, message, file, content, verdict, events.len() as u64)
         }
         Err(fault) => refuse_log(alloc, message, file, content, &source.names, &fault),

@@ -32,7 +32,7 @@ use syntax_tree::Text;
 fn log_on<'a, F: Files>(
     alloc: Global,
     message: &mut Text,
-    source: &Source,
+    source: &Source<'_>,
     script: &Script,
     log: &'a str,
     files: &mut F,
@@ -69,7 +69,7 @@ fn log_on<'a, F: Files>(
 fn script_on<'a, F: Files>(
     alloc: Global,
     message: &mut Text,
-    source: &Source,
+    source: &Source<'_>,
     script: &'a str,
     log: &'a str,
     files: &mut F,

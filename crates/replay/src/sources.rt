@@ -7,7 +7,7 @@ ghost use Rattle.compile.specs.Written.{ReadsWritten};
 ghost use Rattle.command_answers.specs.Acting.{IsQuiet};
 ghost use Rattle.command_answers.specs.Contents.{IsContent};
 ghost use Rattle.syntax.specs.Tokens.{longest_text};
-ghost use Rattle.replay.specs.Held.{IsSource, IsSourceOf};
+ghost use Rattle.replay.specs.Held.{IsSource};
 ghost use Rattle.command_due.specs.ReplayDue.{IsReplayDue};
 ghost use Rattle.command_refusals.specs.Told.{IsTextTold};
 ghost use Rattle.syntax_tree.specs.Placed.{placed};
@@ -25,33 +25,39 @@ use syntax_tree::{Place, Text};
 /// Where a fault of a whole text stands.
 const START: Place = Place { line: 1, col: 1 };
 
-/// A program that has no fault, and the names of its parts.
+/// A program that has no fault, the text that it was read from, and the names of its parts.
 #[derive(Drop)]
-pub struct Source {
+pub struct Source<'a> {
+    pub text: &'a [u8],
     pub program: Checked,
     pub names: ImageNames,
 }
 
-/// The program of a text.
-fn read_text(alloc: Global, text: &[u8]) -> Result<Source, ProgramTextFault>
-    ensures source { IfOk result (IsSourceOf text.now) }
+/// The program of a text, with the text.
+fn read_text<'a>(alloc: Global, text: &'a [u8]) -> Result<Source<'a>, ProgramTextFault>
+    ensures source { IfOk result IsSource }
+    ensures text { IfOk result (λ source. source.text.now ≡ text.now) }
     ensures fault { IfErr result (λ why. ReadsWritten text.now (Err why)) }
 {
     match read_written(alloc, text) {
         Ok(program) => match program_names(alloc, &program) {
-            Ok(names) => Ok(Source { program, names }),
+            Ok(names) => Ok(Source {
+                text,
+                program,
+                names,
+            }),
             Err(_) => Err(ProgramTextFault::Memory),
         },
         Err(fault) => Err(fault),
     }
 }
 
-/// The program of the text that a file holds.
+/// The program of the text that a file holds, with the text.
 ///
 /// # Errors
 ///
 /// As those of `read_written`; the fault of a text that is too long is 4, at its first byte.
-pub fn read_source(alloc: Global, content: &Content) -> Result<Source, ProgramTextFault>
+pub fn read_source<'a>(alloc: Global, content: &'a Content) -> Result<Source<'a>, ProgramTextFault>
     ensures source { IfOk result IsSource }
     ensures written { IfOk result (λ source. (text : List ℕ) →
         IsContent longest_text content.now text → IsWritten text (placed source.program)) }

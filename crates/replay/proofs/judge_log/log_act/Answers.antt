@@ -1,5 +1,6 @@
-use Rattle.std.proofs.Common.{◌≡◌, ℕ, List, subst}
+use Rattle.std.proofs.Common.{◌≡◌, ℕ, List, inl, inr, subst}
 use Rattle.std.specs.Prelude.{IfOk}
+use Rattle.std.proofs.lemmas.Result.{IfOk-weaker}
 use Rattle.script_meaning.specs.Script.{said}
 use Rattle.command_answers.specs.Acting.{puts}
 use Rattle.command_answers.specs.Contents.{IsContent}
@@ -13,14 +14,21 @@ use Rattle.replay.proofs.Judged.{judged_fault, judged_run}
 use Rattle.replay.proofs.judge_log.log_act.Goals as goal
 
 pub returns-in_ok-verdict-in-Ok-clause-due : goal.returns-in_ok-verdict-in-Ok-clause-due
-returns-in_ok-verdict-in-Ok-clause-due g c =
+returns-in_ok-verdict-in-Ok-clause-due c =
     let p = placed c.args.source.now.program in
-    judged_run p c.args.source.now.names c.requires.0.names.same c.args.script.now.lines c.args.script.now.end (IsContent longest_text c.args.content.now)
+    judged_run p c.args.source.now.names c.requires.source.names.same c.args.script.now.lines c.args.script.now.end (IsContent longest_text c.args.content.now)
     c.in-Ok.events c.in_ok-verdict-in-Ok.verdict c.put_verdict.result c.in-Ok.ensures.log
     (subst (λ (events : List Event). Judges (plain p) (said c.args.script.now.lines c.args.script.now.end) (start (plain p)) events c.in_ok-verdict-in-Ok.verdict) c.as_slice.ensures c.in_ok-verdict-in-Ok.ensures)
-    (subst (λ (count : ℕ). IfOk c.put_verdict.result (λ act. act ≡ puts (status_of c.in_ok-verdict-in-Ok.verdict) (line_of c.in_ok-verdict-in-Ok.verdict count))) c.len.ensures c.put_verdict.ensures)
+    (subst (λ (count : ℕ). IfOk c.put_verdict.result (λ act. act ≡ puts (status_of c.in_ok-verdict-in-Ok.verdict) (line_of c.in_ok-verdict-in-Ok.verdict count))) c.len.ensures c.put_verdict.ensures.act)
+
+pub returns-in_ok-verdict-in-Ok-clause-told : goal.returns-in_ok-verdict-in-Ok-clause-told
+returns-in_ok-verdict-in-Ok-clause-told c =
+    IfOk-weaker c.put_verdict.result _ _ (λ act told log is refused. inr (told log is (c.in-Ok.ensures.log log is).short refused)) c.put_verdict.ensures.told
 
 pub returns-in-Err-clause-due : goal.returns-in-Err-clause-due
-returns-in-Err-clause-due g c =
-    judged_fault (placed c.args.source.now.program) c.args.source.now.names c.requires.0.names.same c.args.script.now.lines c.args.script.now.end (IsContent longest_text c.args.content.now)
+returns-in-Err-clause-due c =
+    judged_fault (placed c.args.source.now.program) c.args.source.now.names c.requires.source.names.same c.args.script.now.lines c.args.script.now.end (IsContent longest_text c.args.content.now)
     c.in-Err.fault c.refuse_log.result c.in-Err.ensures.fault c.refuse_log.ensures.act c.refuse_log.ensures.is_fault
+
+pub returns-in-Err-clause-told : goal.returns-in-Err-clause-told
+returns-in-Err-clause-told c = IfOk-weaker c.refuse_log.result _ _ (λ act told log is refused. inl (told log is)) c.refuse_log.ensures.told

@@ -11,6 +11,6 @@ use Rattle.replay.proofs.sources.refuse_source.Goals as goal
 
 pub returns-in-Text-clause-due : goal.returns-in-Text-clause-due
 returns-in-Text-clause-due c =
-    of_made c.put_fault.result (puts status.Text (fault_line c.in-Text.number c.in-Text.place))
+    of_made c.refuse_text.result (puts status.Text (fault_line c.in-Text.number c.in-Text.place))
     (λ act. (text : List ℕ) (script log : Option (List ℕ)) → ReadsWritten text (Err c.args.fault) → IsReplayDue (Some text) script log (outcome_of act))
-    c.put_fault.ensures.act (faulty_replay c.args.fault c.in-Text.number c.in-Text.place c.in-Text.is)
+    c.refuse_text.ensures.act (faulty_replay c.args.fault c.in-Text.number c.in-Text.place c.in-Text.is)
