@@ -12,7 +12,6 @@ use Rattle.image.specs.declared.raw.RawImage.{RawImage}
 use Rattle.image.specs.declared.raw.RawMonitor.{RawMonitor}
 use Rattle.image.specs.declared.raw.RawProcess.{RawProcess}
 use Rattle.machine_semantics.specs.Image as image
-use Rattle.valid_image.specs.Times.{rank_of, ceiling_of}
 use Rattle.code_spec.specs.Compiled.{IsCodeOf}
 use Rattle.code_lifting.proofs.Words.{same_length}
 use Rattle.codegen_ranks.proofs.Whole.{as_many_processes}
