@@ -1,4 +1,0 @@
-use Rattle.analysis_command.proofs.acts.fit_act.Given as goal
-
-abbrev pub ghost-fit_of_text : goal.ghost-fit_of_text
-ghost-fit_of_text a = a.text.now
