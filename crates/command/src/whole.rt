@@ -105,9 +105,11 @@ pub fn whole_call<'a, F: Files, S: Sink, E: Sink>(
     // A file that failed is one that the words let the call read, or write, and the status names it.
     ensures cause { HasEnded words.now (outside (F.state files.old) (S.state sink))
         (outside (F.state files.new) (S.state result.1)) result.0 }
-    // The other sink got the message of the status: for words that are no command what is wrong with
-    // them and the usage; for what a file holds, that it is refused for, the message of the fault
-    // whose line was put; for a file that failed its name. With status 0 nothing was put there.
+    // The other sink got the message of the status: with 1 what is wrong with the words, and the
+    // usage; with 6 and 7 which file failed, or that the output did; with 8 that memory is wanting;
+    // with 2, 4, 5 and 9 the message of the fault whose line was put, with 3 that of the lateness,
+    // where the files tell. With 1, and with 6 and 7 of a file, the line for memory may stand in its
+    // place. With status 0 nothing was put there.
     ensures told { HasInformed F.tells words.now (outside (F.state files.old) (S.state sink))
         (outside (F.state files.new) (S.state result.1)) result.0 (E.state err.old)
         (E.state err.new) }

@@ -81,7 +81,7 @@ const RULES: [Rule; 25] = [
         number: 34,
         before: "a statement or a call stands where it may not",
         behind: "",
-        note: "an entry calls no entry and no procedure; a function that is no entry changes nothing but its own variables; a function is no statement, a procedure gives no value; `exit` stands inside a loop",
+        note: "an entry calls no entry and no procedure; a function that is no entry has no `get` or `put`, calls no entry and no procedure, and changes nothing but its own variables; a function is no statement, a procedure gives no value; `exit` stands inside a loop",
     },
     Rule {
         number: 35,
@@ -97,7 +97,7 @@ const RULES: [Rule; 25] = [
     },
     Rule {
         number: 37,
-        before: "an event starts exactly one process",
+        before: "the event starts no process, or more than one",
         behind: "",
         note: "write `atEvent` with it in exactly one process, or leave the event out",
     },
