@@ -4,8 +4,8 @@ use Rattle.image.specs.declared.names.ImageNames.{ImageNames}
 use Rattle.command_due.specs.CommandsDue.{Outcome}
 use Rattle.command_refusals.specs.Told.{IsLogTold, IsScriptTold}
 
--- the fault of the script, or of the log
-abbrev pub IsLaterTold : ImageNames → (script log : List ℕ) → (held other : Option (List ℕ)) → (outcome : Outcome) (message : List ℕ) → Type 0
-IsLaterTold names script log held other outcome message =
-    IsSomeAnd held (λ text. IsScriptTold names script text outcome message)
-    ⊎ IsSomeAnd other (λ text. IsLogTold names log text outcome message)
+-- the fault of the script, or of the log; both by the names of their files, and what these hold
+abbrev pub IsScriptOrLogTold : ImageNames → (script log : List ℕ) → (script_bytes log_bytes : Option (List ℕ)) → (outcome : Outcome) (message : List ℕ) → Type 0
+IsScriptOrLogTold names script log script_bytes log_bytes outcome message =
+    IsSomeAnd script_bytes (λ text. IsScriptTold names script text outcome message)
+    ⊎ IsSomeAnd log_bytes (λ text. IsLogTold names log text outcome message)

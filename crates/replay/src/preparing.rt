@@ -13,7 +13,7 @@ ghost use Rattle.command_due.specs.ReplayDue.{IsJudged};
 ghost use Rattle.syntax_tree.specs.Placed.{placed};
 ghost use Rattle.command_refusals.specs.Refusals.{Explains, IsExplained};
 ghost use Rattle.command_refusals.specs.Told.{IsLogTold};
-ghost use Rattle.replay.specs.Explained.{IsLaterTold};
+ghost use Rattle.replay.specs.Explained.{IsScriptOrLogTold};
 ghost use Rattle.command_words.specs.Calls as call;
 
 use crate::judge_log::log_act;
@@ -88,7 +88,7 @@ fn script_on<'a, F: Files>(
     ensures reads { HasTried (script.now ∷ log.now ∷ []) (F.state files.old).reads
         (F.state files.new).reads (status_of result) }
     ensures writes { (F.state files.new).writes ≡ (F.state files.old).writes }
-    ensures told { IfOk result (λ act. OnTrue F.tells (Explains (IsLaterTold source.now.names
+    ensures told { IfOk result (λ act. OnTrue F.tells (Explains (IsScriptOrLogTold source.now.names
         script.now log.now ((F.state files.old).held script.now)
         ((F.state files.old).held log.now) (outcome_of act) message.new) act)) }
 {
