@@ -1,24 +1,27 @@
 -- The lines of a text, one after another.
 use Rattle.std.proofs.Common.{◌≡◌, ◌≢◌, ◌+◌, ◌-◌, ◌<◌, ◌==◌, ℕ, zero, suc, List, [], ◌∷◌, ◌++◌, All, false, length, take, drop, get_or, refl, ap, sym, subst, ◌∙◌, arith}
-use Rattle.std.proofs.lemmas.Bool.Decides.{nat_tests}
+use Rattle.std.proofs.lemmas.Bool.{eq-eqb, ne_eqb}
 use Rattle.std.proofs.lemmas.List.{drop_more, take_more, take-append-drop, get_or_past}
 use Rattle.std.proofs.lemmas.List.Elements.{All-push}
 use Rattle.std.proofs.lemmas.List.Splits.{slice_split_at}
+use Rattle.std.specs.List.{slice_split}
 use Rattle.message_text.specs.Shown.{line, lines}
 
--- the first line ends before the first LF
-pub lines_cut : (text : List ℕ) (i : ℕ) → i < length text → get_or text i 0 ≡ 10 → All (λ b. (b == 10) ≡ false) (take i text)
-    → lines text ≡ take i text ∷ lines (drop (i + 1) text)
-lines_cut text i below is before =
-    let parts : text ≡ take i text ++ 10 ∷ drop (i + 1) text =
-    sym (take-append-drop i text) ∙ ap (λ (t : List ℕ). take i text ++ t) (drop_more text i 0 below ∙ ap (λ (b : ℕ). b ∷ drop (i + 1) text) is) in
-    ap lines parts ∙ slice_split_at (λ b. b == 10) (take i text) 10 (drop (i + 1) text) before refl
+-- the first piece ends before the first byte of this value
+pub piece_cut : (stop : ℕ) (bytes : List ℕ) (i : ℕ) → i < length bytes → get_or bytes i 0 ≡ stop → All (λ b. (b == stop) ≡ false) (take i bytes)
+    → slice_split (λ b. b == stop) bytes ≡ take i bytes ∷ slice_split (λ b. b == stop) (drop (i + 1) bytes)
+piece_cut stop bytes i below is before =
+    let parts : bytes ≡ take i bytes ++ stop ∷ drop (i + 1) bytes =
+    sym (take-append-drop i bytes) ∙ ap (λ (t : List ℕ). take i bytes ++ t) (drop_more bytes i 0 below ∙ ap (λ (b : ℕ). b ∷ drop (i + 1) bytes) is) in
+    ap (slice_split (λ (b : ℕ). b == stop)) parts
+    ∙ slice_split_at (λ b. b == stop) (take i bytes) stop (drop (i + 1) bytes) before (eq-eqb stop stop refl)
 
--- no LF stands before the next byte, if that is none either
-pub before_more : (text : List ℕ) (i : ℕ) → i < length text → get_or text i 0 ≢ 10 → All (λ b. (b == 10) ≡ false) (take i text) → All (λ b. (b == 10) ≡ false) (take (i + 1) text)
-before_more text i below other before =
-    let none : (get_or text i 0 == 10) ≡ false = grind (arith, nat_tests) in
-    subst (All (λ b. (b == 10) ≡ false)) (sym (take_more text i 0 below)) (All-push (λ b. (b == 10) ≡ false) (take i text) (get_or text i 0) before none)
+-- no such byte stands before the next byte, if that is none either
+pub before_more : (stop : ℕ) (bytes : List ℕ) (i : ℕ) → i < length bytes → get_or bytes i 0 ≢ stop → All (λ b. (b == stop) ≡ false) (take i bytes)
+    → All (λ b. (b == stop) ≡ false) (take (i + 1) bytes)
+before_more stop bytes i below other before =
+    subst (All (λ b. (b == stop) ≡ false)) (sym (take_more bytes i 0 below))
+    (All-push (λ b. (b == stop) ≡ false) (take i bytes) (get_or bytes i 0) before (ne_eqb (get_or bytes i 0) stop other))
 
 -- what is left of a text behind so many lines
 abbrev pub IsBehind : (text left : List ℕ) (count : ℕ) → Type 0

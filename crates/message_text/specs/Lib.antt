@@ -1,4 +1,5 @@
 pub mod Either
+pub mod Lines
 pub mod Nearest
 pub mod Rows
 pub mod Shown

@@ -2,4 +2,4 @@ use Rattle.std.proofs.Common.{◌≡◌, ◌==◌, All, false, take}
 use Rattle.message_text.proofs.lines.cut.Given as goal
 
 abbrev pub invariant-loop-at : goal.invariant-loop-at
-invariant-loop-at l = All (λ b. (b == 10) ≡ false) (take l.at l.text)
+invariant-loop-at l = All (λ b. (b == l.stop) ≡ false) (take l.at l.bytes)
