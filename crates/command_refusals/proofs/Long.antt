@@ -13,9 +13,8 @@ first_branch : {A : Type 0} (x y : A) (is : Bool) → is ≡ true → x ≡ (if 
 first_branch x y true is = refl
 first_branch x y false is = absurd cc
 
-pub long_program : (file bytes : List ℕ) (number : ℕ) (place : Place) → 1048576 < length bytes → program.long_message file ≡ program.program_message file bytes number place
-unfolding program.program_message
-long_program file bytes number place long = first_branch _ _ (nat_lt 1048576 (length bytes)) (lt-ltb 1048576 (length bytes) long)
+pub long_program : (file bytes : List ℕ) (number : ℕ) (place : Place) → 1048576 < length bytes → program.IsProgramMessage file bytes number place (program.long_message file)
+long_program file bytes number place long = record { long = λ more. refl; fits = λ fit. absurd (grind (arith, long, fit)) }
 
 pub long_script : (file bytes : List ℕ) (names : ImageNames) (fault : ScriptFault) → 16777216 < length bytes → script.long_message file ≡ script.script_message file bytes names fault
 unfolding script.script_message

@@ -13,7 +13,7 @@ use Rattle.command_due.specs.AsmDue.{text_fault_line}
 use Rattle.command_due.specs.TableDue.{table_fault_line}
 use Rattle.command_due.specs.EdfDue.{IsJudgedText}
 use Rattle.command_due.specs.ReplayDue.{log_fault_line, refused_line}
-use Rattle.message_program.specs.Program.{program_message}
+use Rattle.message_program.specs.Program.{IsProgramMessage}
 use Rattle.message_late.specs.Message.{late_message, demand_message}
 use Rattle.message_table.specs.Message.{table_message}
 use Rattle.message_image.specs.Image.{image_message, image_text_message, valid_message}
@@ -27,7 +27,7 @@ pub record IsTextTold (file bytes : List ℕ) (outcome : Outcome) (message : Lis
   pub number : ℕ
   pub place : Place
   pub line : outcome ≡ told 2 (fault_line number place)
-  pub is : message ≡ program_message file bytes number place
+  pub is : IsProgramMessage file bytes number place message
 
 -- what is told in place of the report of a program that is late
 abbrev pub late_style : (file : List ℕ) (over : ℕ) → Style

@@ -4,7 +4,7 @@ use Rattle.std.specs.Prelude.{◌≡◌, ℕ, List, codes}
 use Rattle.std.specs.Fmt.{digits}
 use Rattle.message_text.specs.Shown.{show}
 use Rattle.message_program.specs.Hints.{beginnings, other_words}
-use Rattle.message_program.specs.Program.{program_message}
+use Rattle.message_program.specs.Program.{word_message}
 use Rattle.message_program.specs.Rules.{rules}
 use Rattle.syntax_tree.specs.declared.place.Place.{Place}
 
@@ -16,21 +16,21 @@ abbrev pub text : List ℕ
 text = codes "program a\ndevice d : out\nprocess p : periodic frame 100\nvar x : int\nbegin\nput D 1\n"
 
 -- a name that is declared nowhere
-pub no_name : program_message (codes "P") text 20 (at 6 5) ≡ codes "P:6:5: E20: `D` is declared nowhere in reach\n      6 | put D 1\n        |     ^\n        = declare it, or correct the name\n"
-unfolding program_message show rules digits
+pub no_name : word_message (codes "P") text 20 (at 6 5) ≡ codes "P:6:5: E20: `D` is declared nowhere in reach\n      6 | put D 1\n        |     ^\n        = declare it, or correct the name\n"
+unfolding show rules digits
 no_name = refl
 
 -- a byte that begins no word
-pub no_word : program_message (codes "P") (codes "x != 1\n") 1 (at 1 3) ≡ codes "P:1:3: E1: `!` begins no word\n      1 | x != 1\n        |   ^\n        = write `<>`\n"
-unfolding program_message show beginnings digits
+pub no_word : word_message (codes "P") (codes "x != 1\n") 1 (at 1 3) ≡ codes "P:1:3: E1: `!` begins no word\n      1 | x != 1\n        |   ^\n        = write `<>`\n"
+unfolding show beginnings digits
 no_word = refl
 
 -- a word of another language
-pub other_word : program_message (codes "P") (codes "  while b\n") 10 (at 1 3) ≡ codes "P:1:3: E10: unexpected `while`\n      1 |   while b\n        |   ^^^^^\n        = a loop is `for i : 1 .. 9 do .. end for`; `exit when` leaves it\n"
-unfolding program_message show other_words digits
+pub other_word : word_message (codes "P") (codes "  while b\n") 10 (at 1 3) ≡ codes "P:1:3: E10: unexpected `while`\n      1 |   while b\n        |   ^^^^^\n        = a loop is `for i : 1 .. 9 do .. end for`; `exit when` leaves it\n"
+unfolding show other_words digits
 other_word = refl
 
 -- a text that ends too early
-pub no_end : program_message (codes "P") (codes "program a\n") 10 (at 2 1) ≡ codes "P:2:1: E10: unexpected end of the text\n      2 | \n        | ^\n"
-unfolding program_message show other_words digits
+pub no_end : word_message (codes "P") (codes "program a\n") 10 (at 2 1) ≡ codes "P:2:1: E10: unexpected end of the text\n      2 | \n        | ^\n"
+unfolding show other_words digits
 no_end = refl

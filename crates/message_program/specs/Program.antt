@@ -1,10 +1,22 @@
 -- The message for a text that is no program.
-use Rattle.std.specs.Prelude.{ℕ, ◌++◌, ◌==◌, List, [], ◌∷◌, codes, decimal, length, max, nat_lt, take, if◌then◌else◌}
+use Rattle.std.specs.Prelude.{◌≡◌, ◌≢◌, ℕ, ◌<◌, ◌≤◌, ◌++◌, ◌==◌, not, ◌&&◌, Bool, List, [], ◌∷◌, codes, decimal, length, max, take, Option, if◌then◌else◌}
+use Rattle.std.specs.List.{prefix_len}
+use Rattle.std.specs.Option.{unwrap_or}
 use Rattle.message_text.specs.Shown.{show}
 use Rattle.message_text.specs.Words.{head, note, quoted}
 use Rattle.message_program.specs.Hints.{byte_note, first_byte, is_visible, word_note}
 use Rattle.message_program.specs.Rules.{rule, rule_sentence}
 use Rattle.message_program.specs.Word.{bytes_at, word_at}
+use Rattle.message_expected.specs.Expected.{IsExpectedSet, front}
+use Rattle.message_expected.specs.Notes.{expected_note}
+use Rattle.message_expected.specs.declared.kinds.Kind.{Kind}
+use Rattle.message_rules.specs.Findings as findings
+use Rattle.front_end.specs.Source.{IsTreeOf}
+use Rattle.static_names.specs.Resolved.{IsNamed}
+use Rattle.syntax.specs.Tokens.{tokens}
+use Rattle.syntax.specs.declared.token.Token.{Token}
+use Rattle.syntax_tree.specs.Parts.{same_place}
+use Rattle.syntax_tree.specs.Placed.{Prog}
 use Rattle.syntax_tree.specs.declared.place.Place.{Place}
 
 -- a byte, by itself where it is visible, else by its number
@@ -56,20 +68,65 @@ abbrev pub show_word : (text : List ℕ) (place : Place) (word : List ℕ) → L
 show_word text place word = show text place.line place.col (max (length word) 1)
 
 -- the first line of the message
-abbrev pub first_line : (file : List ℕ) (number : ℕ) (place : Place) (word : List ℕ) → List ℕ
-first_line file number place word = head file place.line place.col (codes "E" ++ decimal number) (sentence number word)
+abbrev pub first_line : (file : List ℕ) (number : ℕ) (place : Place) (sentence : List ℕ) → List ℕ
+first_line file number place sentence = head file place.line place.col (codes "E" ++ decimal number) sentence
 
--- the message for a fault of this number, where these bytes stand at the place
-abbrev pub told : (file text : List ℕ) (number : ℕ) (place : Place) (bytes : List ℕ) → List ℕ
-told file text number place bytes =
-    first_line file number place (word_of number bytes)
-    ++ (show_word text place (word_of number bytes) ++ note_of (remark number bytes))
+-- the message for a fault of this number, where these bytes stand at the place: what is wrong, the
+-- line, what is expected, and what can be done
+abbrev pub told : (file text : List ℕ) (number : ℕ) (place : Place) (bytes sentence expected : List ℕ) → List ℕ
+told file text number place bytes sentence expected =
+    first_line file number place sentence
+    ++ (show_word text place (word_of number bytes) ++ (expected ++ note_of (remark number bytes)))
+
+-- what is wrong, told by the word at the place alone
+abbrev pub word_sentence : (text : List ℕ) (number : ℕ) (place : Place) → List ℕ
+word_sentence text number place = sentence number (word_of number (bytes_at text place))
+
+-- the message by the word at the place alone
+abbrev pub word_message : (file text : List ℕ) (number : ℕ) (place : Place) → List ℕ
+word_message file text number place = told file text number place (bytes_at text place) (word_sentence text number place) []
 
 -- the message for a text that is too long
 unfoldable pub long_message : (file : List ℕ) → List ℕ
 long_message file = head file 1 1 (codes "E4") (codes "the text has more than 1048576 bytes")
 
--- the message for a text that is no program: the number of the rule that fails first, and where
-unfoldable pub program_message : (file text : List ℕ) (number : ℕ) (place : Place) → List ℕ
-program_message file text number place =
-    if nat_lt 1048576 (length text) then long_message file else told file text number place (bytes_at text place)
+-- ---- a fault of the grammar
+
+-- the token stands elsewhere
+abbrev pub stands_elsewhere : Place → Token → Bool
+stands_elsewhere place t = not (t.line == place.line && t.col == place.col)
+
+-- the tokens before that of a place
+abbrev pub before : Place → List Token → List Token
+before place toks = take (prefix_len (stands_elsewhere place) toks) toks
+
+-- the message with the note of what is expected at the place
+abbrev pub expected_message : (file text : List ℕ) (place : Place) (note : List ℕ) → List ℕ
+expected_message file text place note = told file text 10 place (bytes_at text place) (word_sentence text 10 place) note
+
+-- it has the note of the kinds that are expected behind the tokens before the place
+pub record IsExpectedTold (file text : List ℕ) (place : Place) (toks : List Token) (message : List ℕ) : Type 0 where
+  pub found : List Kind
+  pub all : IsExpectedSet (front text (before place toks)) found
+  pub is : message ≡ expected_message file text place (expected_note text (before place toks) found)
+
+-- ---- a fault of a rule
+
+-- the message with the sentence that has the rule's numbers and names, where there is one
+abbrev pub rule_message : (file text : List ℕ) (number : ℕ) (place : Place) (said : Option (List ℕ)) → List ℕ
+rule_message file text number place said = told file text number place (bytes_at text place) (unwrap_or said (word_sentence text number place)) []
+
+-- ---- the message
+
+-- by the number of the rule: where it is the grammar, with what is expected behind the text's
+-- tokens; where it is a static rule, with its sentence for the text's tree
+pub data IsFaultTold (file text : List ℕ) (number : ℕ) (place : Place) (message : List ℕ) : Type 0 where
+  of_word : number ≢ 10 → number < 30 → message ≡ word_message file text number place → IsFaultTold file text number place message
+  of_grammar : number ≡ 10 → ((toks : List Token) → tokens text toks → IsExpectedTold file text place toks message) → IsFaultTold file text number place message
+  of_rule : 30 ≤ number → ((g : Prog Place) → IsTreeOf text g → IsNamed g → message ≡ rule_message file text number place (findings.rule_sentence g number place)) → IsFaultTold file text number place message
+
+-- the message for a text that is no program, or that of a program that is too large: the number of
+-- the rule that fails first, and where
+pub record IsProgramMessage (file text : List ℕ) (number : ℕ) (place : Place) (message : List ℕ) : Type 0 where
+  pub long : 1048576 < length text → message ≡ long_message file
+  pub fits : length text ≤ 1048576 → IsFaultTold file text number place message

@@ -37,7 +37,7 @@ rules =
     ∷ plain_rule 33 (codes "the loop has more than 1000000 turns") (codes "make fewer turns, or split the loop over activations")
     ∷ plain_rule 34 (codes "a statement or a call stands where it may not") (codes "an entry calls no entry and no procedure; a function that is no entry has no `get` or `put`, calls no entry and no procedure, and changes nothing but its own variables; a function is no statement, a procedure gives no value; `exit` stands inside a loop")
     ∷ plain_rule 35 (codes "a handler reaches a `wait`, or lists a number twice") (codes "no handler waits, and each lists a number once")
-    ∷ plain_rule 36 (codes "a frame, a deadline or a first activation is out of its range") (codes "a frame may be 10 to 1000000000, a deadline 10 to its frame, a first activation 0 to 1000000000")
+    ∷ plain_rule 36 (codes "a frame, a deadline or a first activation is out of its range") []
     ∷ plain_rule 37 (codes "the event starts no process, or more than one") (codes "write `atEvent` with it in exactly one process, or leave the event out")
     ∷ plain_rule 38 (codes "the device has the other direction") (codes "`get` takes from `in` devices, `put` gives to `out` devices")
     ∷ plain_rule 39 (codes "the number of an exception is out of its range") (codes "`except` and `wait` take 10 to 999, a handler 1 to 4 or 10 to 999")

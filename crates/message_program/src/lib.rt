@@ -5,17 +5,23 @@
 //!
 //! `specs/Word.antt` says which word stands at a place, `specs/Rules.antt` has the sentence and the
 //! note of each rule, and `specs/Hints.antt` what is said of bytes that begin no word and of words
-//! of other languages. `specs/Program.antt` puts them together.
+//! of other languages. `specs/Program.antt` puts them together, with what is expected where the
+//! grammar fails (`message_expected`), and with the sentence that has numbers and names where a rule
+//! for declarations does (`message_rules`).
 //!
 //! `program_message` and `long_message` make exactly these messages; the only error is want of
 //! memory.
 #![tactic(auto)]
 
+mod grammar;
 mod hint_rows;
 mod messages;
 mod notes;
 mod place_words;
 mod rule_rows;
+mod rules;
 mod sentences;
+mod told;
 
-pub use messages::{long_message, program_message};
+pub use messages::long_message;
+pub use told::program_message;

@@ -1,8 +1,10 @@
-//! The messages.
+//! The messages, by the word at the place.
 
 ghost use Rattle.std.specs.Prelude.{◌≡◌, ◌++◌, IfOk, OnOk, codes, decimal};
-ghost use Rattle.message_program.specs.Program.{first_line, long_message, program_message};
-ghost use Rattle.message_program.specs.Program.{sentence, show_word, told, word_of};
+ghost use Rattle.message_program.specs.Program.{first_line, long_message, note_of, remark};
+ghost use Rattle.message_program.specs.Program.{show_word, told, word_message, word_of};
+ghost use Rattle.message_program.specs.Program.{word_sentence};
+ghost use Rattle.message_program.specs.Word.{bytes_at};
 
 use crate::notes::{add_remark, remark};
 use crate::place_words::{bytes_at, word_at};
@@ -10,9 +12,6 @@ use crate::sentences::add_sentence;
 use message_text::{add_head, add_number, add_show};
 use std::alloc::{AllocError, Global};
 use syntax_tree::{Place, Text};
-
-/// The most bytes of a text.
-const LONGEST: usize = 1_048_576;
 
 /// The word that a fault is told at: one byte of a byte that begins no word.
 fn word_of(number: u8, bytes: &[u8]) -> &[u8]
@@ -33,12 +32,17 @@ fn code(alloc: Global, number: u8) -> Result<Text, AllocError>
     Ok(code)
 }
 
-/// What is wrong with the word where a fault of this number is.
-fn sentence(alloc: Global, number: u8, word: &[u8]) -> Result<Text, AllocError>
-    ensures { IfOk result (λ told. told ≡ sentence number word.now) }
+/// What is wrong where a fault of this number is, by the word at the place.
+pub(crate) fn word_sentence(
+    alloc: Global,
+    source: &[u8],
+    number: u8,
+    place: Place,
+) -> Result<Text, AllocError>
+    ensures { IfOk result (λ told. told ≡ word_sentence source.now number place) }
 {
     let mut sentence = Text::new(alloc);
-    add_sentence(&mut sentence, number, word)?;
+    add_sentence(&mut sentence, number, word_of(number, bytes_at(source, place)))?;
     Ok(sentence)
 }
 
@@ -49,19 +53,18 @@ fn add_first_line(
     file: &[u8],
     number: u8,
     place: Place,
-    word: &[u8],
+    sentence: &[u8],
 ) -> Result<(), AllocError>
-    ensures { OnOk result (text.new ≡ text.old ++ first_line file.now number place word.now) }
+    ensures { OnOk result (text.new ≡ text.old ++ first_line file.now number place sentence.now) }
 {
     let code = code(alloc, number)?;
-    let sentence = sentence(alloc, number, word)?;
     add_head(
         text,
         file,
         place.line as usize,
         place.col as usize,
         code.as_bytes(),
-        &[sentence.as_bytes()],
+        &[sentence],
     )
 }
 
@@ -78,23 +81,54 @@ fn add_word(text: &mut Text, source: &[u8], place: Place, word: &[u8]) -> Result
     )
 }
 
-/// Puts the message for a fault of this number, where these bytes stand at its place.
-fn add_told(
-    alloc: Global,
+/// Puts the line of the place, what is expected there, and what can be done.
+fn add_notes(
     text: &mut Text,
-    file: &[u8],
     source: &[u8],
     number: u8,
     place: Place,
     bytes: &[u8],
+    expected: &[u8],
 ) -> Result<(), AllocError>
-    ensures { OnOk result
-        (text.new ≡ text.old ++ told file.now source.now number place bytes.now) }
+    ensures { OnOk result (text.new ≡ text.old ++ (show_word source.now place (word_of number bytes.now)
+        ++ (expected.now ++ note_of (remark number bytes.now)))) }
 {
-    let word = word_of(number, bytes);
-    add_first_line(alloc, text, file, number, place, word)?;
-    add_word(text, source, place, word)?;
+    add_word(text, source, place, word_of(number, bytes))?;
+    text.extend(expected)?;
     add_remark(text, remark(number, bytes))
+}
+
+/// The message for a fault of this number, with this sentence and what is expected.
+pub(crate) fn told(
+    alloc: Global,
+    file: &[u8],
+    source: &[u8],
+    number: u8,
+    place: Place,
+    sentence: &[u8],
+    expected: &[u8],
+) -> Result<Text, AllocError>
+    ensures { IfOk result (λ message. message ≡ told file.now source.now number place
+        (bytes_at source.now place) sentence.now expected.now) }
+{
+    let mut message = Text::new(alloc);
+    add_first_line(alloc, &mut message, file, number, place, sentence)?;
+    add_notes(&mut message, source, number, place, bytes_at(source, place), expected)?;
+    Ok(message)
+}
+
+/// The message by the word at the place alone.
+pub(crate) fn word_message(
+    alloc: Global,
+    file: &[u8],
+    source: &[u8],
+    number: u8,
+    place: Place,
+) -> Result<Text, AllocError>
+    ensures { IfOk result (λ message. message ≡ word_message file.now source.now number place) }
+{
+    let sentence = word_sentence(alloc, source, number, place)?;
+    told(alloc, file, source, number, place, sentence.as_bytes(), b"")
 }
 
 /// The message for a text that is too long.
@@ -110,35 +144,6 @@ pub fn long_message(alloc: Global, file: &str) -> Result<Text, AllocError>
         1,
         b"E4",
         &[b"the text has more than 1048576 bytes"],
-    )?;
-    Ok(message)
-}
-
-/// The message for a text that is no program: the number of the rule that fails first, and where.
-#[tactic(auto, unfolding(crate::specs::Program::program_message))]
-pub fn program_message(
-    alloc: Global,
-    file: &str,
-    text: &[u8],
-    number: u8,
-    place: Place,
-) -> Result<Text, AllocError>
-    ensures { IfOk result (λ message.
-        message ≡ program_message file.now text.now number place) }
-{
-    if text.len() > LONGEST {
-        return long_message(alloc, file);
-    }
-    let mut message = Text::new(alloc);
-    let bytes = bytes_at(text, place);
-    add_told(
-        alloc,
-        &mut message,
-        file.as_bytes(),
-        text,
-        number,
-        place,
-        bytes,
     )?;
     Ok(message)
 }

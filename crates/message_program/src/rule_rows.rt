@@ -93,7 +93,7 @@ const RULES: [Rule; 25] = [
         number: 36,
         before: "a frame, a deadline or a first activation is out of its range",
         behind: "",
-        note: "a frame may be 10 to 1000000000, a deadline 10 to its frame, a first activation 0 to 1000000000",
+        note: "",
     },
     Rule {
         number: 37,

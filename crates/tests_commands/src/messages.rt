@@ -90,6 +90,20 @@ K: overhead in ticks, 0 to 1000; 0 where it is not given
         told: "P:6:3: E10: unexpected `=`
       6 | x = 1
         |   ^
+        = after `x` expected `:=`, `.`, `(` or `[`
+",
+    },
+    Row {
+        line: "check P",
+        given: &[(
+            "P",
+            "program a\ndevice d : out\nprocess p : periodic frame 100\nvar x : int\nbegin\nx := (7 % 3)\nend p\nend a\n",
+        )],
+        failures: NO_FAILURES,
+        told: "P:7:1: E10: unexpected `end`
+      7 | end p
+        | ^^^
+        = after `7` expected an operator, a comparison or `)`
 ",
     },
     Row {

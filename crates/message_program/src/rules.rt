@@ -1,0 +1,92 @@
+//! The message for a program that fails a static rule.
+
+ghost use Rattle.std.specs.Prelude.{◌≡◌, IfOk, IfSome, None};
+ghost use Rattle.front_end.specs.Source.{IsTreeOf};
+ghost use Rattle.message_program.specs.Program.{rule_message};
+ghost use Rattle.message_rules.specs.Findings as findings;
+ghost use Rattle.static_names.specs.Resolved.{IsNamed};
+ghost use Rattle.syntax_tree.specs.Placed.{Prog as SpecProg, placed};
+ghost use Rattle.syntax_tree.specs.declared.place.Place.{Place as SpecPlace};
+
+use crate::messages::{told, word_message};
+use front_end::{SourceFault, one_tree, read_tree};
+use message_rules::rule_sentence;
+use static_names::{NameFault, ResolvedProgram, name};
+use std::alloc::{AllocError, Global};
+use syntax_tree::{Place, Program, Text};
+
+/// The tree of the text, if it has one.
+fn tree(alloc: Global, text: &[u8]) -> Result<Option<Program>, AllocError>
+    ensures some { IfOk result (λ found. IfSome found (λ g. IsTreeOf text.now (placed g))) }
+    ensures none { IfOk result (λ found. found ≡ None →
+        (g : SpecProg SpecPlace) → IsTreeOf text.now g → ⊥) }
+{
+    match read_tree(alloc, text) {
+        Ok(tree) => Ok(Some(tree)),
+        Err(SourceFault::Memory) => Err(AllocError),
+        Err(SourceFault::Fault { .. }) => Ok(None),
+    }
+}
+
+/// The program with its names, if no rule for names fails.
+fn resolved(alloc: Global, tree: Program) -> Result<Option<ResolvedProgram>, AllocError>
+    requires read { IsRead (placed tree) }
+    ensures some { IfOk result (λ found. IfSome found (λ program. program ≡ tree)) }
+    ensures none { IfOk result (λ found. found ≡ None → IsNamed (placed tree) → ⊥) }
+{
+    match name(alloc, tree) {
+        Ok(program) => Ok(Some(program)),
+        Err(NameFault::Memory) => Err(AllocError),
+        Err(NameFault::Rule { .. }) => Ok(None),
+    }
+}
+
+/// The program of the text with its names, if it has a tree and no rule for names fails.
+fn program(alloc: Global, text: &[u8]) -> Result<Option<ResolvedProgram>, AllocError>
+    ensures some { IfOk result (λ found. IfSome found (λ program. IsTreeOf text.now (placed program))) }
+    ensures none { IfOk result (λ found. found ≡ None →
+        (g : SpecProg SpecPlace) → IsTreeOf text.now g → IsNamed g → ⊥) }
+{
+    one_tree();
+    let Some(tree) = tree(alloc, text)? else {
+        return Ok(None);
+    };
+    resolved(alloc, tree)
+}
+
+/// The message with this sentence, if there is one.
+fn with_sentence(
+    alloc: Global,
+    file: &[u8],
+    text: &[u8],
+    number: u8,
+    place: Place,
+    said: Option<Text>,
+) -> Result<Text, AllocError>
+    ensures { IfOk result (λ message. message ≡ rule_message file.now text.now number place said) }
+{
+    match said {
+        Some(sentence) => told(alloc, file, text, number, place, sentence.as_bytes(), b""),
+        None => word_message(alloc, file, text, number, place),
+    }
+}
+
+/// The message for a text whose program fails a static rule of this number at the place.
+pub(crate) fn rule_message(
+    alloc: Global,
+    file: &[u8],
+    text: &[u8],
+    number: u8,
+    place: Place,
+) -> Result<Text, AllocError>
+    ensures { IfOk result (λ message. (g : SpecProg SpecPlace) → IsTreeOf text.now g → IsNamed g →
+        message ≡ rule_message file.now text.now number place
+        (findings.rule_sentence g number place)) }
+{
+    one_tree();
+    let Some(program) = program(alloc, text)? else {
+        return word_message(alloc, file, text, number, place);
+    };
+    let said = rule_sentence(alloc, &program, number, place)?;
+    with_sentence(alloc, file, text, number, place, said)
+}
