@@ -1,5 +1,5 @@
 -- A token of a text stands before its end.
-use Rattle.std.proofs.Common.{◌≡◌, ℕ, zero, suc, ◌+◌, ◌-◌, ◌<◌, ◌≤◌, Bool, true, false, not, ◌⊎◌, inl, inr, List, [], ◌∷◌, ◌++◌, length, take, count_by, slice_index_or, refl, ap, sym, ◌∙◌, subst, take_all, arith}
+use Rattle.std.proofs.Common.{◌≡◌, ℕ, zero, suc, ◌+◌, ◌-◌, ◌<◌, ◌≤◌, Bool, true, false, not, ◌⊎◌, inl, inr, List, length, take, slice_index_or, refl, ap, subst, take_all, arith}
 use Rattle.std.proofs.lemmas.List.Sums.{count_by_more_yes}
 use Rattle.syntax.proofs.ReadLemmas.{same_line}
 use Rattle.syntax.specs.Lex.{HasSpan}

@@ -2,7 +2,7 @@
 use Rattle.std.specs.Prelude.{◌≡◌, ℕ, ◌+◌, ◌-◌, ◌++◌, ◌⊎◌, List, [], ◌∷◌, Option, None, Some, codes, length, slice_get, take}
 use Rattle.syntax.specs.declared.token.Token.{Token}
 use Rattle.syntax.specs.Grammar.{tree}
-use Rattle.syntax.specs.Tokens.{bytes_of, tokens}
+use Rattle.syntax.specs.Tokens.{tokens}
 use Rattle.syntax.specs.Words.{toks_of}
 use Rattle.syntax_parser.specs.Faults.{OpensAt}
 use Rattle.syntax_reading.specs.Beginning.{BeginsProg}
@@ -10,7 +10,7 @@ use Rattle.syntax_tree.specs.Placed.{Prog}
 use Rattle.syntax_tree.specs.declared.place.Place.{Place}
 use Rattle.message_expected.specs.Kinds.{kinds, spelling}
 use Rattle.message_expected.specs.declared.kinds.Kind.{Kind}
-use Rattle.message_expected.specs.declared.kinds.Kind.TheVariants.{End, Name, Number, Deadline, Keyword, Sign}
+use Rattle.message_expected.specs.declared.kinds.Kind.TheVariants.{End, Name, Deadline}
 
 -- the tokens begin a program, or they do up to one that opens a level of nesting beyond the last
 unfoldable pub Begin : (text : List ℕ) (toks : List Token) → Type 0

@@ -1,6 +1,6 @@
 //! Whether a text begins a program.
 
-ghost use Rattle.std.specs.Prelude.{◌≡◌, ◌↔◌, IfOk, IsTrue};
+ghost use Rattle.std.specs.Prelude.{◌≡◌, ◌≢◌, ◌↔◌, false, IfOk, IsTrue};
 ghost use Rattle.syntax.specs.Tokens.{tokens as are_tokens, IsEnd};
 ghost use Rattle.message_expected.specs.Expected.{Begin, BeginsProgram, HaveTree, IsProgram};
 
@@ -24,7 +24,7 @@ fn begin(alloc: Global, text: &[u8], tokens: &Tokens) -> Result<bool, AllocError
     ensures { IfOk result (λ is. IsTrue is ↔ Begin text.now tokens.now.list) }
 {
     match parse(alloc, text, tokens) {
-        Ok(_) => Ok(true),
+        Ok(_program) => Ok(true),
         Err(SyntaxFault::Nesting(_)) => Ok(true),
         Err(SyntaxFault::Syntax(place)) => Ok(is_end(tokens, place)),
         Err(SyntaxFault::Memory) => Err(AllocError),
@@ -36,10 +36,20 @@ fn have_tree(alloc: Global, text: &[u8], tokens: &Tokens) -> Result<bool, AllocE
     ensures { IfOk result (λ is. IsTrue is ↔ HaveTree text.now tokens.now.list) }
 {
     match parse(alloc, text, tokens) {
-        Ok(_) => Ok(true),
+        Ok(_program) => Ok(true),
         Err(SyntaxFault::Syntax(_)) => Ok(false),
         Err(SyntaxFault::Nesting(_)) => Ok(false),
         Err(SyntaxFault::Memory) => Err(AllocError),
+    }
+}
+
+/// That a text of this fault has no tokens.
+fn has_no_tokens(fault: LexFault) -> Result<bool, AllocError>
+    ensures { IfOk result (λ is. (is ≡ false) × (fault ≢ LexFault.Memory)) }
+{
+    match fault {
+        LexFault::Memory => Err(AllocError),
+        _ => Ok(false),
     }
 }
 
@@ -49,8 +59,7 @@ pub(crate) fn begins_program(alloc: Global, text: &[u8]) -> Result<bool, AllocEr
 {
     match lex(alloc, text) {
         Ok(tokens) => begin(alloc, text, &tokens),
-        Err(LexFault::Memory) => Err(AllocError),
-        Err(_) => Ok(false),
+        Err(fault) => has_no_tokens(fault),
     }
 }
 
@@ -60,7 +69,6 @@ pub(crate) fn is_program(alloc: Global, text: &[u8]) -> Result<bool, AllocError>
 {
     match lex(alloc, text) {
         Ok(tokens) => have_tree(alloc, text, &tokens),
-        Err(LexFault::Memory) => Err(AllocError),
-        Err(_) => Ok(false),
+        Err(fault) => has_no_tokens(fault),
     }
 }

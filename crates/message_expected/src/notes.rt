@@ -1,6 +1,6 @@
 //! The note of what is expected.
 
-ghost use Rattle.std.specs.Prelude.{◌≡◌, ◌++◌, IfOk, OnOk};
+ghost use Rattle.std.specs.Prelude.{◌≡◌, ◌++◌, OnOk};
 ghost use Rattle.syntax.specs.Tokens.{bytes_of};
 ghost use Rattle.message_text.specs.Either.{either, others as others_text, separator};
 ghost use Rattle.message_text.specs.Words.{quoted};
