@@ -1,7 +1,8 @@
 -- The messages for bytes that are no image, for an image that is not valid, and for a text that is
 -- that of no image. Each fault has a letter, a number behind it, and a sentence.
-use Rattle.std.specs.Prelude.{ℕ, Bool, ◌-◌, ◌++◌, ◌==◌, ◌&&◌, List, [], ◌∷◌, length, codes, count_by, decimal, nat_le, nat_lt, if◌then◌else◌}
-use Rattle.std.specs.List.{list_any, slice_index_or}
+use Rattle.std.specs.Prelude.{ℕ, Bool, ◌-◌, ◌++◌, ◌&&◌, List, [], ◌∷◌, length, codes, decimal, nat_le, nat_lt, if◌then◌else◌}
+use Rattle.std.specs.List.{slice_index_or}
+use Rattle.message_text.specs.Lines.{has_return, is_ended}
 use Rattle.message_text.specs.Words.{head, note, plain}
 use Rattle.message_text.specs.Shown.{line, show}
 
@@ -102,24 +103,16 @@ text_sentences =
 abbrev pub text_sentence : (number : ℕ) → List ℕ
 text_sentence number = slice_index_or (no_text ∷ text_sentences) number no_text
 
--- no LF ends the line: so many LFs end the lines up to it, and the text has fewer
-abbrev pub is_open : (text : List ℕ) (number : ℕ) → Bool
-is_open text number = nat_lt (count_by (λ b. b == 10) text) number
-
--- a CR stands in the line
-abbrev pub has_return : (shown : List ℕ) → Bool
-has_return shown = list_any (λ b. b == 13) shown
-
 -- of a line that no LF ends
 abbrev pub open_note : (shown : List ℕ) → List ℕ
 open_note [] = note (codes "the text ends here; `end` is missing")
 open_note (byte ∷ bytes) = note (codes "the last line has no line feed")
 
 -- what may have led to the fault, the first that applies
-abbrev pub text_note : (shown : List ℕ) (is_open : Bool) → List ℕ
-text_note shown is_open =
+abbrev pub text_note : (shown : List ℕ) (is_ended : Bool) → List ℕ
+text_note shown is_ended =
     if has_return shown then note (codes "a carriage return; lines end with a line feed alone")
-    else (if is_open then open_note shown else [])
+    else (if is_ended then [] else open_note shown)
 
 -- a text that is too long
 unfoldable pub long_text_message : (file : List ℕ) → List ℕ
@@ -129,7 +122,7 @@ long_text_message file = opening file (codes "A") 3 ++ codes "the text has more 
 abbrev pub line_message : (file text : List ℕ) (fault number : ℕ) → List ℕ
 line_message file text fault number =
     head file number 1 (codes "A" ++ decimal fault) (text_sentence fault)
-    ++ (show text number 1 0 ++ text_note (line text number) (is_open text number))
+    ++ (show text number 1 0 ++ text_note (line text number) (is_ended text number))
 
 -- the message for a text that is that of no image
 unfoldable pub image_text_message : (file text : List ℕ) (number line : ℕ) → List ℕ

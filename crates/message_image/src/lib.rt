@@ -10,12 +10,10 @@
 #![tactic(auto)]
 
 mod bytes;
-mod ends;
 mod openings;
 mod texts;
 mod validity;
 
 pub use bytes::image_message;
-pub use ends::{has_return, is_open};
 pub use texts::{image_text_message, long_text_message};
 pub use validity::valid_message;

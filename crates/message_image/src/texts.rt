@@ -4,9 +4,8 @@ ghost use Rattle.std.specs.Prelude.{◌≡◌, ◌++◌, IfOk, OnOk, codes, deci
 ghost use Rattle.message_image.specs.Image.{image_text_message, line_message, long_text_message};
 ghost use Rattle.message_image.specs.Image.{open_note, text_note, text_sentence};
 
-use crate::ends::{has_return, is_open};
 use crate::openings::add_opening;
-use message_text::{add_head, add_note, add_number, add_show, line};
+use message_text::{add_head, add_note, add_number, add_show, has_return, is_ended, line};
 use std::alloc::{AllocError, Global};
 use syntax_tree::Text;
 
@@ -45,8 +44,8 @@ fn add_open_note(text: &mut Text, shown: &[u8]) -> Result<(), AllocError>
 }
 
 /// Puts what may have led to the fault, the first that applies.
-fn add_text_note(text: &mut Text, shown: &[u8], is_open: bool) -> Result<(), AllocError>
-    ensures { OnOk result (text.new ≡ text.old ++ text_note shown.now is_open) }
+fn add_text_note(text: &mut Text, shown: &[u8], is_ended: bool) -> Result<(), AllocError>
+    ensures { OnOk result (text.new ≡ text.old ++ text_note shown.now is_ended) }
 {
     if has_return(shown) {
         return add_note(
@@ -54,10 +53,10 @@ fn add_text_note(text: &mut Text, shown: &[u8], is_open: bool) -> Result<(), All
             &[b"a carriage return; lines end with a line feed alone"],
         );
     }
-    if is_open {
-        return add_open_note(text, shown);
+    if is_ended {
+        return Ok(());
     }
-    Ok(())
+    add_open_note(text, shown)
 }
 
 /// Puts the message for a line that has a fault.
@@ -75,7 +74,7 @@ fn add_line_message(
     let code = code(alloc, fault)?;
     add_head(text, file, number, 1, code.as_bytes(), &[sentence(fault)])?;
     add_show(text, source, number, 1, 0)?;
-    add_text_note(text, line(source, number), is_open(source, number))
+    add_text_note(text, line(source, number), is_ended(source, number))
 }
 
 /// The message for a text that has too many bytes.

@@ -27,3 +27,13 @@ no_bound = refl
 pub one_more : demand_message (codes "P") (Late 41 40 41) ≡ codes "P: late: within 40 ticks the processes may need 41 ticks\n"
 unfolding demand_message digits
 one_more = refl
+
+-- more than a number of the report may be is a word
+pub above_most : demand_message (codes "P") (Late 7 1000000000 1000000001) ≡ codes "P: late: within 1000000000 ticks the processes may need over ticks\n"
+unfolding demand_message digits
+above_most = refl
+
+-- no row lacks a bound
+pub none_late : late_message (codes "P") 0 names (record table { rows = [] }) ≡ codes "P: untimely: a process has no bound within its deadline\nrte: `rte why P` takes the bounds apart; `rte fit P` tells what would fit\n"
+unfolding late_message names table
+none_late = refl

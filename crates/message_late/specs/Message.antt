@@ -1,5 +1,5 @@
 -- The messages for programs whose processes may be out of time.
-use Rattle.std.specs.Prelude.{ℕ, ◌++◌, ◌==◌, List, [], Option, Some, None, codes, decimal, find, is_none, if◌then◌else◌}
+use Rattle.std.specs.Prelude.{ℕ, ◌++◌, ◌==◌, List, [], Option, Some, codes, decimal, find, is_none, if◌then◌else◌}
 use Rattle.image.specs.declared.names.ImageNames.{ImageNames}
 use Rattle.message_text.specs.Words.{plain, quoted}
 use Rattle.sched_demand.specs.declared.judging.Judgement.{Judgement}
@@ -7,6 +7,7 @@ use Rattle.sched_demand.specs.declared.judging.Judgement.TheVariants as judgemen
 use Rattle.sched_table.specs.declared.table.Row.{Row}
 use Rattle.sched_table.specs.declared.table.Table.{Table}
 use Rattle.sched_table.specs.Late.{late}
+use Rattle.sched_table.specs.Report.{with_number}
 
 -- ---- no bound
 
@@ -26,6 +27,10 @@ deadline_words deadline = codes " has no bound within its deadline of " ++ (deci
 abbrev pub untimely_line : (file name : List ℕ) (deadline : ℕ) → List ℕ
 untimely_line file name deadline = plain file ++ (codes ": untimely: the process " ++ (quoted name ++ deadline_words deadline))
 
+-- a process has no bound, and none is named
+abbrev pub unnamed_line : (file : List ℕ) → List ℕ
+unnamed_line file = plain file ++ codes ": untimely: a process has no bound within its deadline\n"
+
 -- the calls that tell more
 abbrev pub advice_line : (words : List ℕ) → List ℕ
 advice_line words =
@@ -35,22 +40,22 @@ advice_line words =
 abbrev pub late_row : List Row → Option Row
 late_row rows = find (λ row. is_none row.bound) rows
 
--- the first process without a bound, with its row; nothing where each has one
-abbrev pub untimely : (file : List ℕ) (over : ℕ) (name : Option (List ℕ)) (row : Option Row) → List ℕ
-untimely file over None row = []
-untimely file over (Some name) None = []
-untimely file over (Some name) (Some row) = untimely_line file name row.deadline ++ advice_line (call_words file over)
+-- the first process without a bound, where its name and its row are there
+abbrev pub untimely : (file : List ℕ) (name : Option (List ℕ)) (row : Option Row) → List ℕ
+untimely file (Some name) (Some row) = untimely_line file name row.deadline
+untimely file name row = unnamed_line file
 
 -- the message for a program of which a process has no bound
 unfoldable pub late_message : (file : List ℕ) (over : ℕ) (names : ImageNames) (table : Table) → List ℕ
-late_message file over names table = untimely file over (late names.processes table.rows) (late_row table.rows)
+late_message file over names table =
+    untimely file (late names.processes table.rows) (late_row table.rows) ++ advice_line (call_words file over)
 
 -- ---- earliest deadline first
 
--- the ticks that may be needed within some ticks
+-- the ticks that may be needed within some ticks, each number as in the report
 abbrev pub needed : (within demand : ℕ) → List ℕ
 needed within demand =
-    codes ": late: within " ++ (decimal within ++ (codes " ticks the processes may need " ++ (decimal demand ++ codes " ticks\n")))
+    with_number (codes ": late: within ") within ++ (with_number (codes " ticks the processes may need ") demand ++ codes " ticks\n")
 
 -- the points are too many to look at
 abbrev pub too_many : List ℕ

@@ -4,20 +4,18 @@ ghost use Rattle.std.specs.Prelude.{◌≡◌, ◌++◌, IfOk, OnOk};
 ghost use Rattle.message_late.specs.Message.{demand_message, needed, too_many};
 ghost use Rattle.message_text.specs.Words.{plain};
 
-use crate::ticks::add_ticks;
 use message_text::add_plain;
 use sched_demand::Judgement;
+use sched_table::add_number;
 use std::alloc::{AllocError, Global};
 use syntax_tree::Text;
 
-/// Puts the ticks that may be needed within some ticks.
+/// Puts the ticks that may be needed within some ticks, each number as in the report.
 fn add_needed(text: &mut Text, within: u64, demand: u64) -> Result<(), AllocError>
     ensures { OnOk result (text.new ≡ text.old ++ needed within demand) }
 {
-    text.extend(b": late: within ")?;
-    add_ticks(text, within)?;
-    text.extend(b" ticks the processes may need ")?;
-    add_ticks(text, demand)?;
+    add_number(text, ": late: within ", within)?;
+    add_number(text, " ticks the processes may need ", demand)?;
     text.extend(b" ticks\n")
 }
 

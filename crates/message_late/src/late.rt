@@ -1,8 +1,8 @@
 //! The message for a program of which a process has no bound.
 
-ghost use Rattle.std.specs.Prelude.{◌≡◌, ◌++◌, IfOk, OnOk, option_map};
+ghost use Rattle.std.specs.Prelude.{◌≡◌, ◌++◌, IfOk, OnOk};
 ghost use Rattle.message_late.specs.Message.{advice_line, call_words, deadline_words};
-ghost use Rattle.message_late.specs.Message.{late_message, overhead, untimely_line};
+ghost use Rattle.message_late.specs.Message.{late_message, overhead, unnamed_line, untimely_line};
 
 use crate::process::{LateProcess, late_process};
 use crate::ticks::add_between;
@@ -55,6 +55,14 @@ fn add_untimely(text: &mut Text, file: &[u8], name: &[u8], deadline: u64) -> Res
     add_deadline(text, deadline)
 }
 
+/// Puts that a process has no bound, and names none.
+fn add_unnamed(text: &mut Text, file: &[u8]) -> Result<(), AllocError>
+    ensures { OnOk result (text.new ≡ text.old ++ unnamed_line file.now) }
+{
+    add_plain(text, file)?;
+    text.extend(b": untimely: a process has no bound within its deadline\n")
+}
+
 /// Puts which calls tell more.
 fn add_advice(text: &mut Text, words: &[u8]) -> Result<(), AllocError>
     ensures { OnOk result (text.new ≡ text.old ++ advice_line words.now) }
@@ -71,7 +79,19 @@ fn add_advice(text: &mut Text, words: &[u8]) -> Result<(), AllocError>
     )
 }
 
-/// Tells that a process has no bound.
+/// Tells that a process has no bound, and names none.
+fn tell_unnamed(alloc: Global, file: &[u8], over: u16) -> Result<Text, AllocError>
+    ensures { IfOk result (λ text. text ≡
+        unnamed_line file.now ++ advice_line (call_words file.now over)) }
+{
+    let words = call_words(alloc, file, over)?;
+    let mut text = Text::new(alloc);
+    add_unnamed(&mut text, file)?;
+    add_advice(&mut text, words.as_bytes())?;
+    Ok(text)
+}
+
+/// Tells which process has no bound.
 fn tell_late(
     alloc: Global,
     file: &[u8],
@@ -95,8 +115,8 @@ fn tell_late(
 }
 
 /// The message for a program of which a process has no bound under an overhead of so many ticks:
-/// the first such process with its deadline, and the calls that tell more. It is empty where each
-/// process has a bound.
+/// the first such process with its deadline, and the calls that tell more. Where no row lacks a
+/// bound, or the first that does has no name, no process is named.
 #[tactic(auto, unfolding(crate::specs::Message::late_message))]
 pub fn late_message(
     alloc: Global,
@@ -108,7 +128,7 @@ pub fn late_message(
     ensures { IfOk result (λ message. message ≡ late_message file.now over names.now table.now) }
 {
     match late_process(names.processes.as_slice(), table.rows.as_slice()) {
-        None => Ok(Text::new(alloc)),
+        None => tell_unnamed(alloc, file.as_bytes(), over),
         Some(process) => tell_late(alloc, file.as_bytes(), over, process),
     }
 }

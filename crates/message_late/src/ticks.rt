@@ -7,7 +7,7 @@ use std::alloc::AllocError;
 use syntax_tree::Text;
 
 /// Puts so many ticks, in decimal.
-pub(crate) fn add_ticks(text: &mut Text, ticks: u64) -> Result<(), AllocError>
+fn add_ticks(text: &mut Text, ticks: u64) -> Result<(), AllocError>
     ensures { OnOk result (text.new ≡ text.old ++ decimal ticks) }
 {
     let mut digits = Buffer::new();

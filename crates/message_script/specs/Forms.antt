@@ -1,7 +1,8 @@
 -- Why a line is in no form.
-use Rattle.std.specs.Prelude.{ℕ, ◌+◌, ◌-◌, ◌==◌, ◌&&◌, ◌||◌, not, Bool, List, [], ◌∷◌, length, Option, Some, None, bytes_eq, codes, nat_lt, option_map, slice_index, position, if◌then◌else◌}
+use Rattle.std.specs.Prelude.{ℕ, ◌+◌, ◌-◌, ◌==◌, ◌&&◌, ◌||◌, not, Bool, List, [], ◌∷◌, length, Option, Some, None, bytes_eq, codes, nat_lt, option_map, slice_index, if◌then◌else◌}
 use Rattle.std.specs.List.{list_any}
 use Rattle.text_fields.specs.LineFields.{is_digit}
+use Rattle.message_text.specs.Lines.{return_place}
 use Rattle.message_script.specs.declared.telling.Told.{Told}
 use Rattle.message_script.specs.declared.telling.Note.{Note}
 use Rattle.message_script.specs.declared.telling.Note.TheVariants.{Forms, EndForm, SetForm, EventForm, OneBlank, EndTheLine, LineFeedAlone, NoComments}
@@ -14,9 +15,6 @@ use Rattle.message_script.specs.Words.{Word, begins, first_word, is_end, word_at
 -- ---- bytes that stand in no line
 
 -- the first CR
-abbrev pub return_place : (bytes : List ℕ) → Option ℕ
-return_place bytes = position (λ b. b == 13) bytes
-
 unfoldable pub carriage_return : (bytes : List ℕ) → Option Told
 carriage_return bytes = option_map (λ place. at_byte (place + 1) (codes "a carriage return") (Some LineFeedAlone)) (return_place bytes)
 

@@ -1,13 +1,13 @@
 -- A name that is no in device, or no event.
-use Rattle.std.specs.Prelude.{ℕ, ◌+◌, ◌++◌, ◌&&◌, not, Bool, List, [], Option, Some, None, map, bytes_eq, codes, if◌then◌else◌}
+use Rattle.std.specs.Prelude.{ℕ, ◌+◌, ◌++◌, ◌&&◌, not, Bool, List, Option, Some, None, map, bytes_eq, codes, if◌then◌else◌}
 use Rattle.std.specs.List.{filter, list_any}
 use Rattle.image.specs.declared.names.ImageNames.{ImageNames}
 use Rattle.image.specs.declared.names.DeviceName.{DeviceName}
-use Rattle.message_text.specs.Nearest.{nearest}
+use Rattle.message_text.specs.Lines.{return_place}
+use Rattle.message_text.specs.Nearest.{hint, nearest}
 use Rattle.message_text.specs.Words.{quoted}
 use Rattle.message_script.specs.declared.telling.Told.{Told}
 use Rattle.message_script.specs.declared.telling.Note.TheVariants.{LineFeedAlone}
-use Rattle.message_script.specs.Forms.{return_place}
 use Rattle.message_script.specs.Told.{at_byte, at_word}
 use Rattle.message_script.specs.Words.{Word, is_word, word_at}
 
@@ -34,11 +34,6 @@ no_device is_out = if is_out then codes " is an `out` device; a script sets `in`
 
 unfoldable pub no_such : ImageNames → (is_set : Bool) (name : List ℕ) → List ℕ
 no_such names is_set name = if is_set then no_device (is_out names name) else codes " is no event"
-
--- the nearest name
-unfoldable pub hint : Option (List ℕ) → List ℕ
-hint None = []
-hint (Some name) = codes "; the nearest is " ++ quoted name
 
 unfoldable pub unknown_sentence : ImageNames → (is_set : Bool) (name : List ℕ) → List ℕ
 unknown_sentence names is_set name = quoted name ++ (no_such names is_set name ++ hint (nearest name (known names is_set)))

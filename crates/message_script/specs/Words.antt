@@ -1,6 +1,7 @@
 -- The words of a line.
 use Rattle.std.specs.Prelude.{ℕ, ◌+◌, ◌==◌, Bool, false, List, [], ◌∷◌, length, Option, Some, None, bytes_eq, codes, slice_get}
-use Rattle.std.specs.List.{slice_index_or, slice_split}
+use Rattle.std.specs.List.{slice_index_or}
+use Rattle.message_text.specs.Lines.{words}
 use Rattle.message_script.specs.declared.words as code
 
 -- a word, and the column of its first byte
@@ -16,13 +17,13 @@ abbrev pub words_from : (column : ℕ) → List (List ℕ) → List Word
 words_from column [] = []
 words_from column (piece ∷ more) = record { column = column; bytes = piece } ∷ words_from (column + (length piece + 1)) more
 
--- the word at a place, from 0, of a line that is cut at each blank
+-- the word at a place of a line, from 0
 unfoldable pub word_at : (bytes : List ℕ) (place : ℕ) → Option Word
-word_at bytes place = slice_get (words_from 1 (slice_split (λ b. b == 32) bytes)) place
+word_at bytes place = slice_get (words_from 1 (words bytes)) place
 
 -- the first word
 unfoldable pub first_word : (bytes : List ℕ) → Word
-first_word bytes = record { column = 1; bytes = slice_index_or (slice_split (λ b. b == 32) bytes) 0 [] }
+first_word bytes = record { column = 1; bytes = slice_index_or (words bytes) 0 [] }
 
 -- the line that says the end
 unfoldable pub is_end : (bytes : List ℕ) → Bool

@@ -10,9 +10,9 @@ ghost use Rattle.message_script.specs.Words.{seen};
 
 use crate::numbers::is_digits;
 use crate::telling::{Note, Told, at_word, with_line};
-use crate::words::{Word, cut, first_word, is_end, is_word, word_at};
+use crate::words::{Word, first_word, is_end, is_word, word_at};
 use image::{EventName, ImageNames};
-use message_text::{add_number, add_plain, add_quoted, line};
+use message_text::{add_number, add_plain, add_quoted, cut, line};
 use std::alloc::{AllocError, Global};
 use syntax_tree::Text;
 

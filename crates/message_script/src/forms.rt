@@ -6,23 +6,16 @@ ghost use Rattle.text_fields.specs.LineFields.{is_digit};
 ghost use Rattle.message_script.specs.Forms.{are_blanks, behind_blanks, behind_end, behind_event};
 ghost use Rattle.message_script.specs.Forms.{behind_set, behind_tick, blanks_before, blanks_flaw};
 ghost use Rattle.message_script.specs.Forms.{carriage_return, ends_in_blank, is_comment, line_flaw};
-ghost use Rattle.message_script.specs.Forms.{missing, no_beginning, number, return_place};
+ghost use Rattle.message_script.specs.Forms.{missing, no_beginning, number};
 ghost use Rattle.message_script.specs.Forms.{bytes_flaw, surplus, timed_flaw, words_flaw};
 ghost use Rattle.message_script.specs.Words.{seen};
 
 use crate::numbers::{Sort, flaw_sentence, number_flaw};
 use crate::telling::{Note, Told, at_byte, at_word, behind, of_word};
 use crate::words::{Word, begins, first_word, is_end, word_at};
+use message_text::return_place;
 use std::alloc::{AllocError, Global};
 use text_fields::is_digit;
-
-/// The place of the first CR, from 0.
-pub(crate) fn return_place(bytes: &[u8]) -> Option<usize>
-    ensures place { result ≡ return_place bytes.now }
-    ensures within { IfSome result (λ place. place < length bytes.now) }
-{
-    bytes.iter().position(|byte| *byte == b'\r')
-}
 
 /// Tells of the first CR of a line.
 #[tactic(auto, unfolding(crate::specs::Forms::carriage_return))]

@@ -6,7 +6,8 @@
 //! carets, for some faults an earlier line, and a remark. What is wrong with a line by itself is a
 //! table (`specs/Forms.antt`, of its numbers `specs/Numbers.antt`), of which the first row that
 //! applies is told; then come names that are not known (`specs/Unknown.antt`), and ticks that are
-//! too low or too soon after those of an earlier line (`specs/Earlier.antt`).
+//! too low or too soon after those of an earlier line (`specs/Earlier.antt`). Where no row applies,
+//! the fault is told by a sentence of the whole line.
 //!
 //! `script_message` makes exactly this message, `long_message` that of a text with too many bytes;
 //! the only error is want of memory.

@@ -1,38 +1,22 @@
 //! The message.
 
-ghost use Rattle.std.specs.Prelude.{◌≡◌, ◌++◌, ◌==◌, IfOk, OnOk, codes, decimal};
-ghost use Rattle.std.specs.List.{count_by};
-ghost use Rattle.message_script.specs.Message.{end_sentence, fault_message, is_ended, line_message};
-ghost use Rattle.message_script.specs.Message.{long_message, no_end, remarked, script_message};
-ghost use Rattle.message_script.specs.Message.{shown_line, spelled, told, too_many};
+ghost use Rattle.std.specs.Prelude.{◌≡◌, ◌++◌, IfOk, OnOk, codes, decimal};
+ghost use Rattle.message_script.specs.Message.{end_sentence, fault_message, long_message, no_form};
+ghost use Rattle.message_script.specs.Message.{no_name, of_line, or_line, remarked, script_message};
+ghost use Rattle.message_script.specs.Message.{shown_line, spelled, told, too_low, too_many, too_soon};
 
 use crate::earlier::{early, soon};
 use crate::forms::line_flaw;
 use crate::telling::{Note, Told, at_byte, remark};
 use crate::unknown::unknown;
 use image::ImageNames;
-use message_text::{add_head, add_note, add_number, add_plain, add_show, line};
+use message_text::{add_head, add_note, add_number, add_plain, add_show, is_ended, line};
 use script::{ScriptFault, refusal};
 use std::alloc::{AllocError, Global};
 use syntax_tree::Text;
 
 /// How many bytes a script has at most.
 const LONGEST: usize = 16_777_216;
-
-/// How many line feeds a text has.
-fn line_feeds(text: &[u8]) -> usize
-    ensures { result ≡ count_by (λ b. b == 10) text.now }
-{
-    text.iter().filter(|byte| **byte == b'\n').count()
-}
-
-/// Whether a line feed ends the line of this number.
-#[tactic(auto, unfolding(crate::specs::Message::is_ended))]
-fn is_ended(text: &[u8], number: usize) -> bool
-    ensures { result ≡ is_ended text.now number }
-{
-    number <= line_feeds(text)
-}
 
 /// That a line follows the end, or that there is no end.
 #[tactic(auto, unfolding(crate::specs::Message::end_sentence))]
@@ -46,15 +30,15 @@ fn end_sentence(is_ended: bool) -> &'static [u8]
     }
 }
 
-/// Tells that a line follows the end, or that there is no end.
-#[tactic(auto, unfolding(crate::specs::Message::no_end))]
-fn no_end(alloc: Global, line: &[u8], is_ended: bool) -> Result<Told, AllocError>
-    ensures { IfOk result (λ told. told ≡ no_end line.now is_ended) }
+/// Tells something of a whole line.
+#[tactic(auto, unfolding(crate::specs::Message::of_line))]
+fn of_line(alloc: Global, line: &[u8], sentence: &[u8]) -> Result<Told, AllocError>
+    ensures { IfOk result (λ told. told ≡ of_line line.now sentence.now) }
 {
     Ok(Told {
         column: 1,
         width: line.len().max(1),
-        sentence: Text::from_bytes(alloc, end_sentence(is_ended))?,
+        sentence: Text::from_bytes(alloc, sentence)?,
         earlier: None,
         note: None,
     })
@@ -68,6 +52,60 @@ fn too_many(alloc: Global) -> Result<Told, AllocError>
     at_byte(alloc, 1, b"line 1000001; 1000000 lines are the most", None)
 }
 
+/// What the table of a fault tells, else a sentence of the whole line.
+fn or_line(
+    alloc: Global,
+    row: Option<Told>,
+    line: &[u8],
+    sentence: &[u8],
+) -> Result<Told, AllocError>
+    ensures { IfOk result (λ told. told ≡ or_line row line.now sentence.now) }
+{
+    match row {
+        None => of_line(alloc, line, sentence),
+        Some(told) => Ok(told),
+    }
+}
+
+/// Tells of a line in no form.
+fn no_form(alloc: Global, line: &[u8], is_ended: bool) -> Result<Told, AllocError>
+    ensures { IfOk result (λ told. told ≡ no_form line.now is_ended) }
+{
+    let row = line_flaw(alloc, line, is_ended)?;
+    or_line(alloc, row, line, b"the line has no form of a script")
+}
+
+/// Tells of a line with a name that is not known.
+fn no_name(alloc: Global, names: &ImageNames, line: &[u8]) -> Result<Told, AllocError>
+    ensures { IfOk result (λ told. told ≡ no_name names.now line.now) }
+{
+    let row = unknown(alloc, names, line)?;
+    or_line(alloc, row, line, b"a name that is not known")
+}
+
+/// Tells of the line of this number, whose tick is too low.
+fn too_low(alloc: Global, text: &[u8], number: usize, line: &[u8]) -> Result<Told, AllocError>
+    ensures { IfOk result (λ told. told ≡ too_low text.now number line.now) }
+{
+    let row = early(alloc, text, number)?;
+    or_line(alloc, row, line, b"the tick is too low")
+}
+
+/// Tells of the line of this number, whose event comes so many ticks after its last occurrence.
+fn too_soon(
+    alloc: Global,
+    names: &ImageNames,
+    text: &[u8],
+    number: usize,
+    ticks: usize,
+    line: &[u8],
+) -> Result<Told, AllocError>
+    ensures { IfOk result (λ told. told ≡ too_soon names.now text.now number ticks line.now) }
+{
+    let row = soon(alloc, names, text, number, ticks)?;
+    or_line(alloc, row, line, b"the event comes too soon")
+}
+
 /// What is told of a line, by the fault's number and how many ticks lie between its two.
 #[tactic(auto, unfolding(crate::specs::Message::told))]
 fn told(
@@ -77,16 +115,17 @@ fn told(
     number: u8,
     at: usize,
     ticks: usize,
-) -> Result<Option<Told>, AllocError>
+) -> Result<Told, AllocError>
     ensures { IfOk result (λ found. found ≡ told names.now text.now number at ticks) }
 {
+    let line = line(text, at);
     match number {
-        refusal::FORM => line_flaw(alloc, line(text, at), is_ended(text, at)),
-        refusal::UNKNOWN => unknown(alloc, names, line(text, at)),
-        refusal::EARLY => early(alloc, text, at),
-        refusal::SOON => soon(alloc, names, text, at, ticks),
-        refusal::END => Ok(Some(no_end(alloc, line(text, at), is_ended(text, at))?)),
-        _ => Ok(Some(too_many(alloc)?)),
+        refusal::FORM => no_form(alloc, line, is_ended(text, at)),
+        refusal::UNKNOWN => no_name(alloc, names, line),
+        refusal::EARLY => too_low(alloc, text, at, line),
+        refusal::SOON => too_soon(alloc, names, text, at, ticks, line),
+        refusal::END => of_line(alloc, line, end_sentence(is_ended(text, at))),
+        _ => too_many(alloc),
     }
 }
 
@@ -148,25 +187,6 @@ fn spelled(
     Ok(message)
 }
 
-/// The message of what is told of a line.
-#[tactic(auto, unfolding(crate::specs::Message::line_message))]
-fn line_message(
-    alloc: Global,
-    file: &[u8],
-    text: &[u8],
-    number: u8,
-    at: usize,
-    told: Option<Told>,
-) -> Result<Text, AllocError>
-    ensures { IfOk result (λ message. message ≡
-        line_message file.now text.now number at told) }
-{
-    match told {
-        None => Ok(Text::new(alloc)),
-        Some(told) => spelled(alloc, file, text, number, at, &told),
-    }
-}
-
 /// The message of a fault of a text that is not too long.
 #[tactic(auto, unfolding(crate::specs::Message::fault_message))]
 fn fault_message(
@@ -184,7 +204,7 @@ fn fault_message(
         ScriptFault::Bad { number, line, a, b } => {
             let ticks = b.saturating_sub(*a) as usize;
             let told = told(alloc, names, text, *number, *line as usize, ticks)?;
-            line_message(alloc, file, text, *number, *line as usize, told)
+            spelled(alloc, file, text, *number, *line as usize, &told)
         }
     }
 }
@@ -202,8 +222,8 @@ pub fn long_message(alloc: Global, file: &str) -> Result<Text, AllocError>
 
 /// The message for a text that is no script for these names, by its fault and the name of its file
 /// as the call has it: the place and what is wrong, the line with carets below the place, for some
-/// faults an earlier line, and a remark. Empty where the fault is want of memory, or none of the
-/// text; for a text with too many bytes the message is `long_message`, whatever the fault.
+/// faults an earlier line, and a remark. Empty where the fault is want of memory; for a text with
+/// too many bytes the message is `long_message`, whatever the fault.
 #[tactic(auto, unfolding(crate::specs::Message::script_message))]
 pub fn script_message(
     alloc: Global,

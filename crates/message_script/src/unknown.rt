@@ -1,18 +1,17 @@
 //! Names that are no in device, or no event.
 
-ghost use Rattle.std.specs.Prelude.{◌≡◌, ◌+◌, ◌<◌, ◌^◌, ◌++◌, length, map, option_map, IfOk, OnOk};
+ghost use Rattle.std.specs.Prelude.{◌≡◌, ◌+◌, ◌<◌, ◌^◌, length, map, option_map, IfOk};
+ghost use Rattle.message_text.specs.Lines.{return_place};
 ghost use Rattle.message_text.specs.Nearest.{nearest as nearest_of};
-ghost use Rattle.message_script.specs.Forms.{return_place};
-ghost use Rattle.message_script.specs.Unknown.{events, hint, in_devices, is_out, is_out_device, known};
+ghost use Rattle.message_script.specs.Unknown.{events, in_devices, is_out, is_out_device, known};
 ghost use Rattle.message_script.specs.Unknown.{no_device, no_such, unknown, unknown_name};
 ghost use Rattle.message_script.specs.Unknown.{unknown_sentence};
 ghost use Rattle.message_script.specs.Words.{seen};
 
-use crate::forms::return_place;
 use crate::telling::{Note, Told, at_byte, at_word};
 use crate::words::{Word, is_word, word_at};
 use image::{DeviceName, ImageNames};
-use message_text::{add_quoted, nearest};
+use message_text::{add_hint, add_quoted, nearest, return_place};
 use std::alloc::{AllocError, Global};
 use syntax_tree::Text;
 
@@ -110,20 +109,6 @@ fn no_such(names: &ImageNames, is_set: bool, name: &[u8]) -> &'static [u8]
         no_device(is_out(names, name))
     } else {
         b" is no event"
-    }
-}
-
-/// Puts the nearest name, if there is one.
-#[tactic(auto, unfolding(crate::specs::Unknown::hint))]
-fn add_hint(text: &mut Text, nearest: Option<&[u8]>) -> Result<(), AllocError>
-    ensures { OnOk result (text.new ≡ text.old ++ hint (option_map (λ it. it.now) nearest.entry)) }
-{
-    match nearest {
-        None => Ok(()),
-        Some(name) => {
-            text.extend(b"; the nearest is ")?;
-            add_quoted(text, name)
-        }
     }
 }
 

@@ -1,31 +1,15 @@
 //! The words of a line.
 
-ghost use Rattle.std.specs.Prelude.{◌≡◌, ◌≤◌, ◌+◌, ◌==◌, [], ◌∷◌, length, option_map, IfSome};
-ghost use Rattle.std.specs.List.{slice_split};
-ghost use Rattle.std.specs.Option.{option_map_or};
+ghost use Rattle.std.specs.Prelude.{◌≡◌, ◌≤◌, ◌+◌, length, option_map, IfSome};
 ghost use Rattle.message_script.specs.Words.{begins, first_word, is_end, is_word, seen, word_at};
 
-use text_fields::cut_at;
+use message_text::cut;
 
 /// A word, and the column of its first byte.
 #[derive(Clone, Copy)]
 pub(crate) struct Word<'a> {
     pub column: usize,
     pub bytes: &'a [u8],
-}
-
-/// What stands before the first of these bytes, and what stands behind it, if there is one.
-pub(crate) fn cut(bytes: &[u8], stop: u8) -> (&[u8], Option<&[u8]>)
-    ensures pieces { slice_split (λ b. b == stop) bytes.now ≡
-        result.0.now ∷ option_map_or (λ rest. slice_split (λ b. b == stop) rest.now) result.1 [] }
-    ensures within { length result.0.now ≤ length bytes.now }
-    ensures size { IfSome result.1 (λ rest.
-        length bytes.now ≡ length result.0.now + 1 + length rest.now) }
-{
-    match cut_at(bytes, stop) {
-        None => (bytes, None),
-        Some(parts) => (parts.before, Some(parts.after)),
-    }
 }
 
 /// The word at this place, from 0, of a line that is cut at each blank.

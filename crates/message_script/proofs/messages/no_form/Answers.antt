@@ -1,0 +1,9 @@
+use Rattle.std.proofs.Common.{◌≡◌, Option, IfOk, subst}
+use Rattle.std.specs.Prelude.{codes}
+use Rattle.message_script.specs.Message.{or_line}
+use Rattle.message_script.specs.declared.telling.Told.{Told}
+use Rattle.message_script.proofs.messages.no_form.Goals as goal
+
+pub returns : goal.returns
+returns c =
+    subst (λ (row : Option Told). IfOk c.or_line.result (λ told. told ≡ or_line row c.args.line.now (codes "the line has no form of a script"))) c.in_ok-row.ensures c.or_line.ensures
