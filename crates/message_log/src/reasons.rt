@@ -1,7 +1,8 @@
 //! Why a line is the text of no event.
 
-ghost use Rattle.std.specs.Prelude.{◌≡◌, ◌++◌, IfOk, OnOk, bytes_eq, codes, map, option_map};
+ghost use Rattle.std.specs.Prelude.{◌≡◌, ◌++◌, ◌∷◌, [], IfOk, OnOk, bytes_eq, codes, map, option_map};
 ghost use Rattle.std.specs.List.{list_any};
+ghost use Rattle.std.specs.Option.{option_map_or};
 ghost use Rattle.message_text.specs.Lines.{words};
 ghost use Rattle.message_text.specs.Nearest.{nearest};
 ghost use Rattle.message_log.specs.Log.{event_told, event_words, form_reason, hint};
@@ -164,6 +165,13 @@ fn add_tick_reason(
     add_unknown(text, tick, b" is no tick", None)
 }
 
+/// The first word, and what stands behind its blank, if there is one.
+fn cut_word(line: &[u8]) -> (&[u8], Option<&[u8]>)
+    ensures { words line.now ≡ result.0.now ∷ option_map_or (λ rest. words rest.now) result.1 [] }
+{
+    cut(line, b' ')
+}
+
 /// Puts what is wrong with the words of a line.
 fn add_words_reason(
     alloc: Global,
@@ -174,10 +182,9 @@ fn add_words_reason(
     ensures { OnOk result
         (text.new ≡ text.old ++ words_reason processes.now (words line.now)) }
 {
-    if let (tick, Some(behind)) = cut(line, b' ') {
-        if let (process, Some(more)) = cut(behind, b' ') {
-            let event = cut(more, b' ').0;
-            return add_tick_reason(alloc, text, processes, tick, process, event);
+    if let (tick, Some(behind)) = cut_word(line) {
+        if let (process, Some(event)) = cut_word(behind) {
+            return add_tick_reason(alloc, text, processes, tick, process, cut_word(event).0);
         }
     }
     text.extend(b"a line has a tick, a process and an event")
