@@ -1,14 +1,14 @@
 -- The messages for a text that is no log of a program, and for a log that is of no run.
-use Rattle.std.specs.Prelude.{ℕ, Bool, ◌++◌, ◌==◌, ◌&&◌, List, [], ◌∷◌, Option, Some, None, length, bytes_eq, codes, find, map, nat_le, nat_lt, if◌then◌else◌}
-use Rattle.std.specs.List.{list_all, list_any, slice_split}
+use Rattle.std.specs.Prelude.{ℕ, Bool, ◌++◌, ◌&&◌, not, List, [], ◌∷◌, Option, Some, None, length, bytes_eq, codes, find, map, nat_le, nat_lt, if◌then◌else◌}
+use Rattle.std.specs.List.{list_all, list_any}
 use Rattle.text_fields.specs.LineFields.{is_digit, is_numeral}
 use Rattle.image.specs.declared.names.ImageNames.{ImageNames}
 use Rattle.event_log.specs.declared.fault.LogFault.{LogFault}
 use Rattle.event_log.specs.declared.fault.LogFault.TheVariants.{Line, Long, Memory}
+use Rattle.message_text.specs.Lines.{has_return, is_ended, words}
 use Rattle.message_text.specs.Words.{head, note, plain, quoted}
 use Rattle.message_text.specs.Shown.{line, show}
 use Rattle.message_text.specs.Nearest.{nearest}
-use Rattle.message_image.specs.Image.{has_return, is_open}
 
 -- the word of an event, and what stands behind it in a line
 pub record Form : Type 0 where
@@ -38,10 +38,6 @@ forms =
 
 abbrev pub event_words : List (List ℕ)
 event_words = map (λ f. f.word) forms
-
--- the words of a line stand between single blanks
-abbrev pub words : List ℕ → List (List ℕ)
-words shown = slice_split (λ b. b == 32) shown
 
 -- a number from 0 to 999999999: up to nine digits, of which the first of more than one is no 0
 unfoldable pub is_tick : List ℕ → Bool
@@ -85,9 +81,9 @@ words_reason processes (tick ∷ process ∷ event ∷ more) = tick_reason proce
 words_reason processes few = codes "a line has a tick, a process and an event"
 
 -- why a line is the text of no event, the first that applies
-abbrev pub reason : (processes : List (List ℕ)) (shown : List ℕ) (is_open : Bool) → List ℕ
-reason processes shown is_open =
-    if is_open then codes "the last line has no line feed"
+abbrev pub reason : (processes : List (List ℕ)) (shown : List ℕ) (is_ended : Bool) → List ℕ
+reason processes shown is_ended =
+    if not is_ended then codes "the last line has no line feed"
     else (if has_return shown then codes "a carriage return; lines end with a line feed alone" else words_reason processes (words shown))
 
 -- a log that is too long
@@ -102,7 +98,7 @@ told_line file text number code sentence = head file number 1 code sentence ++ s
 abbrev pub line_message : (file text : List ℕ) (processes : List (List ℕ)) (number : ℕ) → List ℕ
 line_message file text processes number =
     told_line file text number (codes "L1") (codes "this line is the text of no event of the program")
-    ++ note (reason processes (line text number) (is_open text number))
+    ++ note (reason processes (line text number) (is_ended text number))
 
 -- a fault of a log that is not too long
 abbrev pub fault_message : (file text : List ℕ) (names : ImageNames) (fault : LogFault) → List ℕ

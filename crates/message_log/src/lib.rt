@@ -10,8 +10,8 @@
 #![tactic(auto)]
 
 mod messages;
-mod pieces;
 mod reasons;
 mod table;
+mod ticks;
 
 pub use messages::{log_message, long_message, refused_message};

@@ -7,8 +7,7 @@ ghost use Rattle.message_log.specs.Log.{refused_message, told_line};
 use crate::reasons::reason;
 use event_log::LogFault;
 use image::ImageNames;
-use message_image::is_open;
-use message_text::{add_head, add_note, add_plain, add_show, line};
+use message_text::{add_head, add_note, add_plain, add_show, is_ended, line};
 use std::alloc::{AllocError, Global};
 use syntax_tree::{Name, Text};
 
@@ -58,7 +57,7 @@ fn line_message(
     let sentence = b"this line is the text of no event of the program";
     let mut message = told_line(alloc, file, source, number, b"L1", sentence)?;
     let shown = line(source, number);
-    let reason = reason(alloc, processes, shown, is_open(source, number))?;
+    let reason = reason(alloc, processes, shown, is_ended(source, number))?;
     add_note(&mut message, &[reason.as_bytes()])?;
     Ok(message)
 }

@@ -1,17 +1,17 @@
 //! Why a line is the text of no event.
 
-ghost use Rattle.std.specs.Prelude.{◌≡◌, ◌++◌, IfOk, OnOk, bytes_eq, codes, map, option_map};
+ghost use Rattle.std.specs.Prelude.{◌≡◌, ◌++◌, ◌∷◌, [], IfOk, OnOk, bytes_eq, codes, map, option_map};
 ghost use Rattle.std.specs.List.{list_any};
+ghost use Rattle.std.specs.Option.{option_map_or};
+ghost use Rattle.message_text.specs.Lines.{words};
 ghost use Rattle.message_text.specs.Nearest.{nearest};
 ghost use Rattle.message_log.specs.Log.{event_told, event_words, form_reason, hint};
-ghost use Rattle.message_log.specs.Log.{process_reason, reason, tick_reason, unknown, words};
-ghost use Rattle.message_log.specs.Log.{words_reason};
+ghost use Rattle.message_log.specs.Log.{process_reason, reason, tick_reason, unknown, words_reason};
 ghost use Rattle.message_log.specs.Seen.{form_of};
 
-use crate::pieces::{cut, is_tick};
 use crate::table::{Form, event_form, event_words};
-use message_image::has_return;
-use message_text::{add_parts, add_plain, add_quoted, nearest};
+use crate::ticks::is_tick;
+use message_text::{add_parts, add_plain, add_quoted, cut, has_return, nearest};
 use std::alloc::{AllocError, Global};
 use syntax_tree::{Name, Text};
 
@@ -165,6 +165,13 @@ fn add_tick_reason(
     add_unknown(text, tick, b" is no tick", None)
 }
 
+/// The first word, and what stands behind its blank, if there is one.
+fn cut_word(line: &[u8]) -> (&[u8], Option<&[u8]>)
+    ensures { words line.now ≡ result.0.now ∷ option_map_or (λ rest. words rest.now) result.1 [] }
+{
+    cut(line, b' ')
+}
+
 /// Puts what is wrong with the words of a line.
 fn add_words_reason(
     alloc: Global,
@@ -175,9 +182,9 @@ fn add_words_reason(
     ensures { OnOk result
         (text.new ≡ text.old ++ words_reason processes.now (words line.now)) }
 {
-    if let (tick, Some(behind)) = cut(line) {
-        if let (process, Some(event)) = cut(behind) {
-            return add_tick_reason(alloc, text, processes, tick, process, cut(event).0);
+    if let (tick, Some(behind)) = cut_word(line) {
+        if let (process, Some(event)) = cut_word(behind) {
+            return add_tick_reason(alloc, text, processes, tick, process, cut_word(event).0);
         }
     }
     text.extend(b"a line has a tick, a process and an event")
@@ -189,11 +196,11 @@ fn add_reason(
     text: &mut Text,
     processes: &[Name],
     line: &[u8],
-    is_open: bool,
+    is_ended: bool,
 ) -> Result<(), AllocError>
-    ensures { OnOk result (text.new ≡ text.old ++ reason processes.now line.now is_open) }
+    ensures { OnOk result (text.new ≡ text.old ++ reason processes.now line.now is_ended) }
 {
-    if is_open {
+    if !is_ended {
         return text.extend(b"the last line has no line feed");
     }
     if has_return(line) {
@@ -207,11 +214,11 @@ pub(crate) fn reason(
     alloc: Global,
     processes: &[Name],
     line: &[u8],
-    is_open: bool,
+    is_ended: bool,
 ) -> Result<Text, AllocError>
-    ensures { IfOk result (λ text. text ≡ reason processes.now line.now is_open) }
+    ensures { IfOk result (λ text. text ≡ reason processes.now line.now is_ended) }
 {
     let mut text = Text::new(alloc);
-    add_reason(alloc, &mut text, processes, line, is_open)?;
+    add_reason(alloc, &mut text, processes, line, is_ended)?;
     Ok(text)
 }

@@ -5,7 +5,8 @@ use Rattle.std.proofs.lemmas.List.{drop-drop, drop_more, get_or-drop, length-tak
 use Rattle.std.proofs.lemmas.List.Elements.{All-push}
 use Rattle.std.proofs.lemmas.List.Splits.{slice_split_at, slice_split_none}
 use Rattle.std.proofs.Math.Numerals.{add-one}
-use Rattle.message_table.specs.Marks.{Mark, line_marks, line_wanted, mark, marks_from, marks_to, wanted_behind, words}
+use Rattle.message_table.specs.Marks.{Mark, line_marks, line_wanted, mark, marks_from, marks_to, wanted_behind}
+use Rattle.message_text.specs.Lines.{words}
 use Rattle.message_table.specs.Parts.{at_first, behind, role_of}
 use Rattle.message_table.specs.declared.part.Wanted.{Wanted}
 use Rattle.message_text.specs.Shown.{line}

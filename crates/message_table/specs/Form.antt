@@ -13,6 +13,7 @@ use Rattle.message_table.specs.declared.fault.NumeralFault.TheVariants.{Plus, No
 use Rattle.message_table.specs.declared.part.Role.{Role}
 use Rattle.message_table.specs.declared.part.Role.TheVariants as role
 use Rattle.message_table.specs.declared.part.Wanted.{Wanted}
+use Rattle.message_text.specs.Lines.{is_ended, return_place}
 use Rattle.message_text.specs.Shown.{line}
 
 -- ---- the words of a line
@@ -89,7 +90,7 @@ bytes_found bytes wanted marks =
 
 -- the first CR of a line
 abbrev pub return_found : (bytes : List ℕ) → Option Found
-return_found bytes = option_map (λ at. form (at + 1) 1 CarriageReturn) (position (λ b. b == 13) bytes)
+return_found bytes = option_map (λ at. form (at + 1) 1 CarriageReturn) (return_place bytes)
 
 abbrev pub line_found : (bytes : List ℕ) → Wanted → List Mark → Found
 line_found bytes wanted marks = unwrap_or (return_found bytes) (bytes_found bytes wanted marks)
@@ -103,10 +104,6 @@ ended bytes number = line_found bytes (line_wanted bytes number) (line_marks byt
 -- the last line, which no LF ends
 abbrev pub unended : (bytes : List ℕ) → Found
 unended bytes = if is_empty bytes then form 1 1 EndMissing else form (length bytes + 1) 1 NoLineFeed
-
--- whether an LF ends the line of this number
-abbrev pub is_ended : (text : List ℕ) (number : ℕ) → Bool
-is_ended text number = nat_le number (count_by (λ b. b == 10) text)
 
 -- whether the line before this one is the last line of a table
 abbrev pub is_behind_end : (text : List ℕ) (number : ℕ) → Bool

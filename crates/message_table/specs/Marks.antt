@@ -1,9 +1,9 @@
 -- The words of a table, each with its place and with what it is there.
 use Rattle.std.specs.Prelude.{ℕ, zero, suc, ◌+◌, Bool, true, false, List, [], ◌∷◌, ◌++◌, Option, Some, None, bytes_eq, length, ◌==◌}
-use Rattle.std.specs.List.{slice_split}
 use Rattle.message_table.specs.Parts.{at_first, behind, role_of}
 use Rattle.message_table.specs.declared.part.Role.{Role}
 use Rattle.message_table.specs.declared.part.Wanted.{Wanted}
+use Rattle.message_text.specs.Lines.{words}
 use Rattle.message_text.specs.Shown.{line}
 
 -- a word: its line and the column of its first byte, both from 1, and what it is there
@@ -15,10 +15,6 @@ pub record Mark : Type 0 where
 
 abbrev pub mark : (line column : ℕ) (word : List ℕ) (role : Role) → Mark
 mark line column word role = record { line = line; column = column; word = word; role = role }
-
--- the words of a line: what stands between single blanks
-abbrev pub words : (bytes : List ℕ) → List (List ℕ)
-words bytes = slice_split (λ b. b == 32) bytes
 
 -- these words of a line, the first of them at this column, where this is wanted
 abbrev pub marks_from : (number column : ℕ) → Wanted → List (List ℕ) → List Mark

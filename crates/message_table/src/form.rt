@@ -6,8 +6,8 @@ ghost use Rattle.std.specs.List.{list_all};
 ghost use Rattle.message_table.specs.Form.{blank as blank_of, blank_found as blank_in};
 ghost use Rattle.message_table.specs.Form.{bytes_found as bytes_in, ended as ended_in};
 ghost use Rattle.message_table.specs.Form.{form_found as form_in, is_behind_end as end_test};
-ghost use Rattle.message_table.specs.Form.{is_empty as empty_test, is_ended as ended_test};
-ghost use Rattle.message_table.specs.Form.{is_misplaced as misplaced_test, line_found as line_in};
+ghost use Rattle.message_table.specs.Form.{is_empty as empty_test, is_misplaced as misplaced_test};
+ghost use Rattle.message_table.specs.Form.{line_found as line_in};
 ghost use Rattle.message_table.specs.Form.{misplaced as misplaced_at, missing as missing_behind};
 ghost use Rattle.message_table.specs.Form.{return_found as return_in, spaced_found as spaced_in};
 ghost use Rattle.message_table.specs.Form.{unended as unended_in, word_found as word_in};
@@ -18,7 +18,7 @@ use crate::fault::{Fault, FormFault, Found};
 use crate::mark::{Marked, add_marks};
 use crate::numerals::{begins_with, numeral_fault};
 use crate::part::{Role, Wanted};
-use message_text::line;
+use message_text::{is_ended, line, return_place};
 use std::alloc::{AllocError, Global};
 
 /// What is wrong with the form of a line, and where.
@@ -143,19 +143,11 @@ fn bytes_found(bytes: &[u8], wanted: Wanted, marks: &[Marked<'_>]) -> Found
     spaced_found(bytes, wanted, marks)
 }
 
-/// The place of the first CR of a line, from 0.
-fn return_at(bytes: &[u8]) -> Option<usize>
-    ensures place { result ≡ position (λ byte. byte == 13) bytes.now }
-    ensures within { IfSome result (λ at. at < length bytes.now) }
-{
-    bytes.iter().position(|byte| *byte == b'\r')
-}
-
 /// The first CR of a line.
 fn return_found(bytes: &[u8]) -> Option<Found>
     ensures { result ≡ return_in bytes.now }
 {
-    match return_at(bytes) {
+    match return_place(bytes) {
         None => None,
         Some(at) => Some(form(at + 1, 1, FormFault::CarriageReturn)),
     }
@@ -179,13 +171,6 @@ fn unended(bytes: &[u8]) -> Found
         return form(1, 1, FormFault::EndMissing);
     }
     form(bytes.len() + 1, 1, FormFault::NoLineFeed)
-}
-
-/// Whether an LF ends the line of this number.
-fn is_ended(text: &[u8], number: usize) -> bool
-    ensures { result ≡ ended_test text.now number }
-{
-    number <= text.iter().filter(|byte| **byte == b'\n').count()
 }
 
 /// Whether the line before this one is the last line of a table.

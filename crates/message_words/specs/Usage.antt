@@ -3,7 +3,7 @@ use Rattle.std.specs.Prelude.{ℕ, ◌+◌, ◌-◌, ◌++◌, not, List, [], �
 use Rattle.std.specs.List.{list_any}
 use Rattle.command_words.specs.Words.{is_word}
 use Rattle.message_text.specs.Words.{quoted}
-use Rattle.message_text.specs.Nearest.{nearest}
+use Rattle.message_text.specs.Nearest.{hint, nearest}
 
 -- a row: its command, the words behind it, what it does, and which sign of these words is explained
 pub record Row : Type 0 where
@@ -72,11 +72,6 @@ table shown =
 abbrev pub wrong : (word : List ℕ) (no_word : Option (List ℕ)) → List ℕ
 wrong word None = codes "rte: wrong words for " ++ (quoted word ++ codes "\n")
 wrong word (Some other) = codes "rte: no word is empty or begins with `-`: " ++ (quoted other ++ codes "\n")
-
--- the nearest command
-abbrev pub hint : Option (List ℕ) → List ℕ
-hint None = []
-hint (Some command) = codes "; the nearest is " ++ quoted command
 
 -- a word that is no command, and the nearest one
 abbrev pub no_command : (word : List ℕ) (near : Option (List ℕ)) → List ℕ

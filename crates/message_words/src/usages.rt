@@ -4,13 +4,13 @@ ghost use Rattle.std.specs.Prelude.{◌≡◌, ◌++◌, OnOk, IfOk, bytes_eq, c
 ghost use Rattle.std.specs.Prelude.{map, not, option_map, string_bytes};
 ghost use Rattle.command_words.specs.Words.{is_word};
 ghost use Rattle.message_text.specs.Nearest.{nearest};
-ghost use Rattle.message_words.specs.Usage.{hint, no_command, rows as all_rows, table};
+ghost use Rattle.message_words.specs.Usage.{no_command, rows as all_rows, table};
 ghost use Rattle.message_words.specs.Usage.{told, told_of, unknown, usage, wrong};
 ghost use Rattle.message_words.specs.Seen.{row_of};
 
 use crate::rows::{Row, rows};
 use crate::tables::add_table;
-use message_text::{add_quoted, nearest};
+use message_text::{add_hint, add_quoted, nearest};
 use std::alloc::{AllocError, Global};
 use syntax_tree::Text;
 
@@ -59,20 +59,6 @@ fn add_wrong(text: &mut Text, word: &[u8], words: &[String]) -> Result<(), Alloc
             text.extend(b"rte: no word is empty or begins with `-`: ")?;
             add_quoted(text, other)?;
             text.extend(b"\n")
-        }
-    }
-}
-
-/// Puts the nearest command, if there is one.
-fn add_hint(text: &mut Text, nearest: Option<&[u8]>) -> Result<(), AllocError>
-    ensures { OnOk result
-        (text.new ≡ text.old ++ hint (option_map (λ word. word.now) nearest.entry)) }
-{
-    match nearest {
-        None => Ok(()),
-        Some(command) => {
-            text.extend(b"; the nearest is ")?;
-            add_quoted(text, command)
         }
     }
 }
