@@ -1,7 +1,6 @@
 -- Steps of loops that look through the findings of one item after another.
 use Rattle.std.proofs.Common.{◌≡◌, ◌<◌, ◌≤◌, ◌+◌, ◌++◌, ℕ, Bool, true, false, cond, List, [], ◌∷◌, Option, Some, None, find, length, drop, get_or, option_map, refl, sym, ap, ◌∙◌}
 use Rattle.std.specs.Option.{option_or}
-use Rattle.std.specs.List.{flat_map}
 use Rattle.static_rule.specs.declared.violation.Violation.{Violation}
 use Rattle.static_numbers.proofs.Walks.{step, finish}
 use Rattle.message_rules.specs.declared.fault.Fault.{Fault}

@@ -1,5 +1,5 @@
 -- What the rules for declarations find wrong with a program, and the sentence that is said of it.
-use Rattle.std.specs.Prelude.{ℕ, ℤ, pos, ◌+ℤ◌, ◌-ℤ◌, Bool, ◌&&◌, ◌==◌, List, [], ◌∷◌, ◌++◌, Option, Some, None, find, option_map, unwrap_or}
+use Rattle.std.specs.Prelude.{ℕ, ℤ, pos, ◌+ℤ◌, ◌-ℤ◌, Bool, ◌&&◌, ◌==◌, List, [], ◌∷◌, ◌++◌, Option, None, find, option_map, unwrap_or}
 use Rattle.std.specs.List.{flat_map}
 use Rattle.syntax_tree.specs.Placed.{Constant, Activation, periodic, at_event, Process, Prog}
 use Rattle.syntax_tree.specs.declared.place.Place.{Place}

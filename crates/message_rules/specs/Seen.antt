@@ -1,12 +1,13 @@
 -- What contracts see of what is known to be wrong while the findings are looked through.
-use Rattle.std.specs.Prelude.{◌≡◌, ℕ, List, [], ◌∷◌, ◌++◌, Option, Some, None, nat_lt, if◌then◌else◌}
+use Rattle.std.specs.Prelude.{◌≡◌, ℕ, List, [], ◌∷◌, ◌++◌, map, Option, Some, None, nat_lt, if◌then◌else◌}
 use Rattle.std.specs.Option.{option_or}
 use Rattle.std.specs.List.{flat_map}
 use Rattle.syntax_tree.specs.Placed.{placed_constant}
+use Rattle.syntax_tree.specs.declared.expr.Constant as code_constant
 use Rattle.syntax_tree.specs.declared.place.Place.{Place}
 use Rattle.static_rule.specs.declared.violation.Violation.{Violation}
-use Rattle.static_declarations.specs.Values.{Worth}
 use Rattle.static_numbers.specs.Types.{Bounds}
+use Rattle.static_numbers.specs.Processes.{Handled}
 use Rattle.static_numbers.specs.Counts.{at_none, one_too_many}
 use Rattle.static_numbers.specs.Places.{Places}
 use Rattle.message_rules.specs.declared.bounds.Bounds as code_bounds
@@ -33,6 +34,10 @@ LookedAt {X} of broken old parts new = (xs : List X) → left of broken new xs �
 
 abbrev pub bounds_of : code_bounds.Bounds → Bounds
 bounds_of b = record { of_array = b.of_array; low = placed_constant b.low.now; high = placed_constant b.high.now }
+
+-- a number of a handler and those before it
+abbrev pub handled_of : List code_constant.Constant → code_constant.Constant → Handled
+handled_of before number = record { before = map placed_constant before; number = placed_constant number }
 
 -- ---- counts, where the places of all things are known
 

@@ -29,9 +29,13 @@ number_among before number behind = before ++ (signed_decimal number ++ behind)
 abbrev pub numbers_among : (before : List ℕ) (one : ℤ) (middle : List ℕ) (other : ℤ) (behind : List ℕ) → List ℕ
 numbers_among before one middle other behind = before ++ (signed_decimal one ++ (middle ++ (signed_decimal other ++ behind)))
 
--- how many processes the event starts
-abbrev pub starts : (name : Name) (processes : ℕ) → List ℕ
-starts name processes = codes "the event " ++ (quoted name ++ (codes " starts " ++ (decimal processes ++ codes " processes; one is wanted")))
+-- a count among some words
+abbrev pub count_among : (before : List ℕ) (count : ℕ) (behind : List ℕ) → List ℕ
+count_among before count behind = before ++ (decimal count ++ behind)
+
+-- a name and a count among some words
+abbrev pub name_among : (before name middle : List ℕ) (count : ℕ) (behind : List ℕ) → List ℕ
+name_among before name middle count behind = before ++ (quoted name ++ count_among middle count behind)
 
 -- there is one thing of a kind too many
 abbrev pub one_too_many : Counted → List ℕ
@@ -42,10 +46,6 @@ one_too_many counted_is.Event = codes "this is event number 65; 64 are the most"
 one_too_many counted_is.Condition = codes "this is condition number 257; 256 are the most"
 one_too_many counted_is.Routine = codes "this is routine number 513; 512 are the most"
 
--- how many words the variables take
-abbrev pub variable_words : (words : ℕ) → List ℕ
-variable_words words = codes "the variables take " ++ (decimal words ++ codes " words; 1048576 are the most")
-
 -- what is said of what is wrong among these declarations
 abbrev pub sentence : List (Decl Place) → Fault → List ℕ
 sentence ds (fault_is.CrossedBounds low high) = numbers_among (codes "the lower bound ") low (codes " is above the upper bound ") high []
@@ -53,9 +53,9 @@ sentence ds (fault_is.LongArray elements) = number_among (codes "the array has "
 sentence ds (fault_is.Frame ticks) = number_among (codes "the frame is ") ticks (codes "; it may be 10 to 1000000000")
 sentence ds (fault_is.Deadline ticks frame) = numbers_among (codes "the deadline is ") ticks (codes "; it may be 10 to ") frame (codes ", its frame")
 sentence ds (fault_is.FirstActivation ticks) = number_among (codes "the first activation is ") ticks (codes "; it may be 0 to 1000000000")
-sentence ds (fault_is.EventUse place processes) = starts (event_name place ds) processes
+sentence ds (fault_is.EventUse place processes) = name_among (codes "the event ") (event_name place ds) (codes " starts ") processes (codes " processes; one is wanted")
 sentence ds (fault_is.Repeated number) = number_among (codes "the handler lists ") number (codes " twice")
 sentence ds (fault_is.HandlerNumber number) = number_among (codes "the handler's number is ") number (codes "; it may be 1 to 4 or 10 to 999")
 sentence ds fault_is.NoProcess = codes "the program has no process"
 sentence ds (fault_is.OneTooMany counted) = one_too_many counted
-sentence ds (fault_is.VariableWords words) = variable_words words
+sentence ds (fault_is.VariableWords words) = count_among (codes "the variables take ") words (codes " words; 1048576 are the most")

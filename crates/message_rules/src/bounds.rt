@@ -77,7 +77,12 @@ fn pair(
     );
 }
 
-fn scalar(known: &mut Option<Fault>, declarations: &Declarations<'_>, broken: Violation, kind: &Scalar)
+fn scalar(
+    known: &mut Option<Fault>,
+    declarations: &Declarations<'_>,
+    broken: Violation,
+    kind: &Scalar,
+)
     ensures { LookedAt (bounds_findings (value (placed declarations.now))) broken known.old
         (scalar_bounds (placed_scalar kind.now)) known.new }
 {
@@ -118,7 +123,12 @@ fn vars(known: &mut Option<Fault>, declarations: &Declarations<'_>, broken: Viol
     }
 }
 
-fn params(known: &mut Option<Fault>, declarations: &Declarations<'_>, broken: Violation, list: &[Param])
+fn params(
+    known: &mut Option<Fault>,
+    declarations: &Declarations<'_>,
+    broken: Violation,
+    list: &[Param],
+)
     ensures { LookedAt (bounds_findings (value (placed declarations.now))) broken known.old
         (params_bounds (map placed_param list.now)) known.new }
 {
@@ -128,7 +138,12 @@ fn params(known: &mut Option<Fault>, declarations: &Declarations<'_>, broken: Vi
 }
 
 /// The type of a result.
-fn result(known: &mut Option<Fault>, declarations: &Declarations<'_>, broken: Violation, kind: &Option<Scalar>)
+fn result(
+    known: &mut Option<Fault>,
+    declarations: &Declarations<'_>,
+    broken: Violation,
+    kind: &Option<Scalar>,
+)
     ensures { LookedAt (bounds_findings (value (placed declarations.now))) broken known.old
         (result_bounds (optional placed_scalar kind.now)) known.new }
 {
@@ -137,7 +152,12 @@ fn result(known: &mut Option<Fault>, declarations: &Declarations<'_>, broken: Vi
     }
 }
 
-fn routine(known: &mut Option<Fault>, declarations: &Declarations<'_>, broken: Violation, routine: &Routine)
+fn routine(
+    known: &mut Option<Fault>,
+    declarations: &Declarations<'_>,
+    broken: Violation,
+    routine: &Routine,
+)
     ensures { LookedAt (bounds_findings (value (placed declarations.now))) broken known.old
         (routine_bounds (placed_routine routine.now)) known.new }
 {
@@ -146,7 +166,12 @@ fn routine(known: &mut Option<Fault>, declarations: &Declarations<'_>, broken: V
     vars(known, declarations, broken, routine.vars.as_slice());
 }
 
-fn routines(known: &mut Option<Fault>, declarations: &Declarations<'_>, broken: Violation, list: &[Routine])
+fn routines(
+    known: &mut Option<Fault>,
+    declarations: &Declarations<'_>,
+    broken: Violation,
+    list: &[Routine],
+)
     ensures { LookedAt (bounds_findings (value (placed declarations.now))) broken known.old
         (routines_bounds (map placed_routine list.now)) known.new }
 {
@@ -155,7 +180,12 @@ fn routines(known: &mut Option<Fault>, declarations: &Declarations<'_>, broken: 
     }
 }
 
-fn member(known: &mut Option<Fault>, declarations: &Declarations<'_>, broken: Violation, member: &Member)
+fn member(
+    known: &mut Option<Fault>,
+    declarations: &Declarations<'_>,
+    broken: Violation,
+    member: &Member,
+)
     ensures { LookedAt (bounds_findings (value (placed declarations.now))) broken known.old
         (member_bounds (placed_member member.now)) known.new }
 {
@@ -164,7 +194,12 @@ fn member(known: &mut Option<Fault>, declarations: &Declarations<'_>, broken: Vi
     }
 }
 
-fn members(known: &mut Option<Fault>, declarations: &Declarations<'_>, broken: Violation, list: &[Member])
+fn members(
+    known: &mut Option<Fault>,
+    declarations: &Declarations<'_>,
+    broken: Violation,
+    list: &[Member],
+)
     ensures { LookedAt (bounds_findings (value (placed declarations.now))) broken known.old
         (members_bounds (map placed_member list.now)) known.new }
 {
@@ -173,7 +208,12 @@ fn members(known: &mut Option<Fault>, declarations: &Declarations<'_>, broken: V
     }
 }
 
-fn decl(known: &mut Option<Fault>, declarations: &Declarations<'_>, broken: Violation, decl: &Declaration)
+fn decl(
+    known: &mut Option<Fault>,
+    declarations: &Declarations<'_>,
+    broken: Violation,
+    decl: &Declaration,
+)
     ensures { LookedAt (bounds_findings (value (placed declarations.now))) broken known.old
         (decl_bounds (placed_decl decl.now)) known.new }
 {
@@ -191,7 +231,12 @@ fn decl(known: &mut Option<Fault>, declarations: &Declarations<'_>, broken: Viol
     }
 }
 
-fn decls(known: &mut Option<Fault>, declarations: &Declarations<'_>, broken: Violation, list: &[Declaration])
+fn decls(
+    known: &mut Option<Fault>,
+    declarations: &Declarations<'_>,
+    broken: Violation,
+    list: &[Declaration],
+)
     ensures { LookedAt (bounds_findings (value (placed declarations.now))) broken known.old
         (decls_bounds (map placed_decl list.now)) known.new }
 {

@@ -62,7 +62,11 @@ fn count(
 fn at_many(place: Place, words: u64) -> Option<Place>
     ensures { result ≡ (if nat_lt 1048576 words then Some place else None) }
 {
-    if words > MOST_WORDS { Some(place) } else { None }
+    if words > MOST_WORDS {
+        Some(place)
+    } else {
+        None
+    }
 }
 
 /// Looks through the findings of processes, monitors, devices and events.
@@ -78,7 +82,14 @@ fn look_at_kinds(known: &mut Option<Fault>, broken: Violation, place: Place, pla
         Fault::NoProcess,
     );
     let most = MOST_OF_A_KIND;
-    count(known, broken, rule::COUNT, most, processes, Counted::Process);
+    count(
+        known,
+        broken,
+        rule::COUNT,
+        most,
+        processes,
+        Counted::Process,
+    );
     let monitors = places.monitors.as_slice();
     count(known, broken, rule::COUNT, most, monitors, Counted::Monitor);
     let devices = places.devices.as_slice();

@@ -36,9 +36,7 @@ fn is_user(declarations: &Declarations<'_>, event: Place, decl: &Declaration) ->
         (processes rest)) }
 {
     match decl {
-        Declaration::Process(process) => {
-            is_started_by(declarations, event, &process.activation)
-        }
+        Declaration::Process(process) => { is_started_by(declarations, event, &process.activation) }
         _ => false,
     }
 }

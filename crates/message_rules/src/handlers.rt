@@ -1,13 +1,13 @@
 //! The numbers of handlers.
 
-ghost use Rattle.std.specs.Prelude.{◌≡◌, ◌||◌, List, [], ◌∷◌, map};
-ghost use Rattle.syntax_tree.specs.Placed.{Constant as SpecConstant, Decl as SpecDecl, placed, placed_constant, placed_handler, placed_decl, optional};
+ghost use Rattle.std.specs.Prelude.{◌≡◌, ◌||◌, List, [], ◌∷◌, map, None, Some, if◌then◌else◌};
+ghost use Rattle.syntax_tree.specs.Placed.{Decl as SpecDecl, placed, placed_constant, placed_handler, placed_decl, optional};
 ghost use Rattle.syntax_tree.specs.declared.place.Place.{Place as SpecPlace};
 ghost use Rattle.syntax_tree.specs.Parts.{processes};
-ghost use Rattle.static_declarations.specs.Values.{value, is_within};
-ghost use Rattle.static_numbers.specs.Processes.{handled, handler_numbers, all_handled, bad_handled, has_value as has_value_of, repeated as repeated_of};
+ghost use Rattle.static_declarations.specs.Values.{value, constant_place, is_within};
+ghost use Rattle.static_numbers.specs.Processes.{handled, handler_numbers, all_handled, has_value as has_value_of, repeated as repeated_of};
 ghost use Rattle.message_rules.specs.Findings.{handled_findings};
-ghost use Rattle.message_rules.specs.Seen.{LookedAt, left};
+ghost use Rattle.message_rules.specs.Seen.{LookedAt, handled_of, left};
 
 use crate::fault::{Fault, note};
 use static_declarations::Declarations;
@@ -23,9 +23,9 @@ fn is_allowed(number: i64) -> bool
 
 /// The place of a number that no handler may have.
 fn bad_number(declarations: &Declarations<'_>, number: &Constant) -> Option<Place>
-    ensures { (before : List (SpecConstant SpecPlace)) → result ≡
-        bad_handled (value (placed declarations.now))
-        (record { before = before; number = placed_constant number.now }) }
+    ensures { let c = placed_constant number.now in let v = value (placed declarations.now) c in
+        result ≡
+        (if is_within 1 4 v || is_within 10 999 v then None else Some (constant_place c)) }
 {
     if is_allowed(declarations.value(number)) {
         None
@@ -53,10 +53,8 @@ fn repeated(
     before: &[Constant],
     number: &Constant,
 ) -> Option<Place>
-    ensures { result ≡ repeated_of (value (placed declarations.now)) (record {
-      before = map placed_constant before.now;
-      number = placed_constant number.now;
-    }) }
+    ensures { result ≡
+        repeated_of (value (placed declarations.now)) (handled_of before.now number.now) }
 {
     if has_value(declarations, declarations.value(number), before) {
         Some(number.place)
@@ -74,11 +72,8 @@ fn number_at(
     before: &[Constant],
     number: &Constant,
 )
-    ensures { let one = record {
-      before = map placed_constant before.now;
-      number = placed_constant number.now;
-    } in LookedAt (handled_findings (value (placed declarations.now))) broken known.old
-        (λ more. one ∷ more) known.new }
+    ensures { LookedAt (handled_findings (value (placed declarations.now))) broken known.old
+        (λ more. handled_of before.now number.now ∷ more) known.new }
 {
     let value = declarations.value(number);
     note(
@@ -105,11 +100,8 @@ fn number(
     before: &[Constant],
     number: &Constant,
 )
-    ensures { let one = record {
-      before = map placed_constant before.now;
-      number = placed_constant number.now;
-    } in LookedAt (handled_findings (value (placed declarations.now))) broken known.old
-        (λ more. one ∷ more) known.new }
+    ensures { LookedAt (handled_findings (value (placed declarations.now))) broken known.old
+        (λ more. handled_of before.now number.now ∷ more) known.new }
 {
     if number.place == broken.place {
         number_at(known, declarations, broken, before, number);
@@ -125,8 +117,8 @@ fn numbers(
     ensures { LookedAt (handled_findings (value (placed declarations.now))) broken known.old
         (handled [] (map placed_constant list.now)) known.new }
 {
-    for index in 0..list.len() {
-        number(known, declarations, broken, &list[..index], &list[index]);
+    for (index, one) in list.iter().enumerate() {
+        number(known, declarations, broken, &list[..index], one);
     }
 }
 

@@ -15,8 +15,8 @@ mod events;
 mod fault;
 mod handlers;
 mod places;
-mod told;
 mod sentences;
+mod told;
 mod words;
 
 pub use told::rule_sentence;

@@ -1,9 +1,9 @@
 //! What is said.
 
-ghost use Rattle.std.specs.Prelude.{◌≡◌, ◌++◌, OnOk, decimal, map};
+ghost use Rattle.std.specs.Prelude.{◌≡◌, ◌++◌, OnOk, map};
 ghost use Rattle.std.specs.Fmt.{signed_decimal};
 ghost use Rattle.syntax_tree.specs.Placed.{placed_decl};
-ghost use Rattle.message_rules.specs.Sentences.{event_name as event_name_of, number_among, numbers_among, one_too_many, sentence, starts, variable_words};
+ghost use Rattle.message_rules.specs.Sentences.{count_among, event_name as event_name_of, name_among, number_among, numbers_among, one_too_many, sentence};
 
 use crate::fault::{Counted, Fault};
 use itoa::Buffer;
@@ -34,12 +34,7 @@ fn add_signed(text: &mut Text, number: i64) -> Result<(), AllocError>
 }
 
 /// Puts a number among some words.
-fn add_among(
-    text: &mut Text,
-    before: &[u8],
-    number: i64,
-    behind: &[u8],
-) -> Result<(), AllocError>
+fn add_among(text: &mut Text, before: &[u8], number: i64, behind: &[u8]) -> Result<(), AllocError>
     ensures { OnOk result (text.new ≡ text.old ++ number_among before.now number behind.now) }
 {
     text.extend(before)?;
@@ -65,27 +60,29 @@ fn add_both(
 }
 
 /// Puts a count among some words.
-fn add_count(
-    text: &mut Text,
-    before: &[u8],
-    count: usize,
-    behind: &[u8],
-) -> Result<(), AllocError>
-    ensures { OnOk result
-        (text.new ≡ text.old ++ (before.now ++ (decimal count ++ behind.now))) }
+fn add_count(text: &mut Text, before: &[u8], count: usize, behind: &[u8]) -> Result<(), AllocError>
+    ensures { OnOk result (text.new ≡ text.old ++ count_among before.now count behind.now) }
 {
     text.extend(before)?;
     add_number(text, count)?;
     text.extend(behind)
 }
 
-/// Puts how many processes the event starts.
-fn add_starts(text: &mut Text, name: &[u8], processes: usize) -> Result<(), AllocError>
-    ensures { OnOk result (text.new ≡ text.old ++ starts name.now processes) }
+/// Puts a name and a count among some words.
+fn add_name(
+    text: &mut Text,
+    before: &[u8],
+    name: &[u8],
+    middle: &[u8],
+    count: usize,
+    behind: &[u8],
+) -> Result<(), AllocError>
+    ensures { OnOk result
+        (text.new ≡ text.old ++ name_among before.now name.now middle.now count behind.now) }
 {
-    text.extend(b"the event ")?;
+    text.extend(before)?;
     add_quoted(text, name)?;
-    add_count(text, b" starts ", processes, b" processes; one is wanted")
+    add_count(text, middle, count, behind)
 }
 
 /// What is said where there is one of these too many.
@@ -100,18 +97,6 @@ fn one_too_many(counted: Counted) -> &'static [u8]
         Counted::Condition => b"this is condition number 257; 256 are the most",
         Counted::Routine => b"this is routine number 513; 512 are the most",
     }
-}
-
-/// Puts how many words the variables take.
-fn add_variable_words(text: &mut Text, words: u64) -> Result<(), AllocError>
-    ensures { OnOk result (text.new ≡ text.old ++ variable_words words) }
-{
-    add_count(
-        text,
-        b"the variables take ",
-        words as usize,
-        b" words; 1048576 are the most",
-    )
 }
 
 /// Puts what is said of what is wrong among these declarations.
@@ -138,7 +123,12 @@ pub(crate) fn add_sentence(
             b" elements; 65536 are the most",
         ),
         Fault::Frame { ticks } => {
-            add_among(text, b"the frame is ", ticks, b"; it may be 10 to 1000000000")
+            add_among(
+                text,
+                b"the frame is ",
+                ticks,
+                b"; it may be 10 to 1000000000",
+            )
         }
         Fault::Deadline { ticks, frame } => add_both(
             text,
@@ -154,9 +144,14 @@ pub(crate) fn add_sentence(
             ticks,
             b"; it may be 0 to 1000000000",
         ),
-        Fault::EventUse { event, processes } => {
-            add_starts(text, event_name(event, list), processes)
-        }
+        Fault::EventUse { event, processes } => add_name(
+            text,
+            b"the event ",
+            event_name(event, list),
+            b" starts ",
+            processes,
+            b" processes; one is wanted",
+        ),
         Fault::Repeated { number } => add_among(text, b"the handler lists ", number, b" twice"),
         Fault::HandlerNumber { number } => add_among(
             text,
@@ -166,6 +161,11 @@ pub(crate) fn add_sentence(
         ),
         Fault::NoProcess => text.extend(b"the program has no process"),
         Fault::OneTooMany(counted) => text.extend(one_too_many(counted)),
-        Fault::VariableWords { words } => add_variable_words(text, words),
+        Fault::VariableWords { words } => add_count(
+            text,
+            b"the variables take ",
+            words as usize,
+            b" words; 1048576 are the most",
+        ),
     }
 }
