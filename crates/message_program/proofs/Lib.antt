@@ -1,2 +1,4 @@
 pub mod Examples
 pub mod Joined
+pub mod Faults
+pub mod Lists

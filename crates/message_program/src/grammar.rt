@@ -1,15 +1,19 @@
 //! The message for a text that goes on with no word of the grammar.
 
-ghost use Rattle.std.specs.Prelude.{◌≡◌, IfOk, List};
-ghost use Rattle.message_program.specs.Program.{IsExpectedTold, before, stands_elsewhere};
-ghost use Rattle.message_program.specs.Program.{expected_message};
+ghost use Rattle.std.specs.Prelude.{◌≡◌, ◌≢◌, IfOk, List};
+ghost use Rattle.std.specs.List.{prefix_len};
+ghost use Rattle.message_expected.specs.Expected.{IsExpectedSet, front};
+ghost use Rattle.message_expected.specs.Notes.{expected_note};
+ghost use Rattle.message_expected.specs.declared.kinds.Kind.{Kind};
+ghost use Rattle.message_program.specs.Program.{IsExpectedTold, before, expected_message};
+ghost use Rattle.message_program.specs.Program.{stands_elsewhere};
 ghost use Rattle.syntax.specs.Tokens.{tokens as are_tokens};
 ghost use Rattle.syntax.specs.declared.token.Token.{Token as SpecToken};
 
 use crate::messages::{told, word_message, word_sentence};
 use message_expected::{add_expected_note, expected};
 use std::alloc::{AllocError, Global};
-use syntax::{LexFault, Token, Tokens, lex, one_list, tokens_or_fault};
+use syntax::{LexFault, Token, lex, one_list};
 use syntax_tree::{Place, Text};
 
 /// Whether the token stands elsewhere.
@@ -19,15 +23,21 @@ fn stands_elsewhere(place: Place, token: &Token) -> bool
     token.line != place.line || token.col != place.col
 }
 
+/// How many tokens stand before that of a place.
+fn count_before(tokens: &[Token], place: Place) -> usize
+    ensures { result ≡ prefix_len (stands_elsewhere place) tokens.now }
+{
+    tokens
+        .iter()
+        .take_while(|token| stands_elsewhere(place, token))
+        .count()
+}
+
 /// The tokens before that of a place.
 fn before(tokens: &[Token], place: Place) -> &[Token]
     ensures { result.now ≡ before place tokens.now }
 {
-    let count = tokens
-        .iter()
-        .take_while(|token| stands_elsewhere(place, token))
-        .count();
-    &tokens[..count]
+    &tokens[..count_before(tokens, place).min(tokens.len())]
 }
 
 /// The note of what is expected behind these tokens.
@@ -69,6 +79,16 @@ fn expected_message(
     with_note(alloc, file, text, place, note.as_bytes())
 }
 
+/// That a text of this fault has no tokens: an error where memory was wanting for them.
+fn has_no_tokens(fault: LexFault) -> Result<(), AllocError>
+    ensures { IfOk result (λ done. fault ≢ LexFault.Memory) }
+{
+    match fault {
+        LexFault::Memory => Err(AllocError),
+        _ => Ok(()),
+    }
+}
+
 /// The message for a text whose tokens stop beginning a program at the place.
 pub(crate) fn grammar_message(
     alloc: Global,
@@ -80,10 +100,11 @@ pub(crate) fn grammar_message(
         IsExpectedTold file.now text.now place toks message) }
 {
     one_list();
-    tokens_or_fault();
     match lex(alloc, text) {
         Ok(tokens) => expected_message(alloc, file, text, tokens.as_slice(), place),
-        Err(LexFault::Memory) => Err(AllocError),
-        Err(_) => word_message(alloc, file, text, 10, place),
+        Err(fault) => {
+            has_no_tokens(fault)?;
+            word_message(alloc, file, text, 10, place)
+        }
     }
 }

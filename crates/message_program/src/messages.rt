@@ -42,7 +42,11 @@ pub(crate) fn word_sentence(
     ensures { IfOk result (λ told. told ≡ word_sentence source.now number place) }
 {
     let mut sentence = Text::new(alloc);
-    add_sentence(&mut sentence, number, word_of(number, bytes_at(source, place)))?;
+    add_sentence(
+        &mut sentence,
+        number,
+        word_of(number, bytes_at(source, place)),
+    )?;
     Ok(sentence)
 }
 
@@ -113,7 +117,14 @@ pub(crate) fn told(
 {
     let mut message = Text::new(alloc);
     add_first_line(alloc, &mut message, file, number, place, sentence)?;
-    add_notes(&mut message, source, number, place, bytes_at(source, place), expected)?;
+    add_notes(
+        &mut message,
+        source,
+        number,
+        place,
+        bytes_at(source, place),
+        expected,
+    )?;
     Ok(message)
 }
 

@@ -4,7 +4,7 @@ ghost use Rattle.std.specs.Prelude.{◌≡◌, IfOk, IfSome, None};
 ghost use Rattle.front_end.specs.Source.{IsTreeOf};
 ghost use Rattle.message_program.specs.Program.{rule_message};
 ghost use Rattle.message_rules.specs.Findings as findings;
-ghost use Rattle.static_names.specs.Resolved.{IsNamed};
+ghost use Rattle.static_names.specs.Resolved.{IsNamed, IsRead};
 ghost use Rattle.syntax_tree.specs.Placed.{Prog as SpecProg, placed};
 ghost use Rattle.syntax_tree.specs.declared.place.Place.{Place as SpecPlace};
 
