@@ -1,5 +1,8 @@
 //! Reads, writes and puts that fail, each in turn, and words that name one file.
 
+use crate::valve::{
+    JSON, LATE, LATE_REPORT, LOG, ONE_LINE, PRINTED, REPORT, TWO_LINES, UP_TO_ONE, UP_TO_TWO, WHOLE,
+};
 use std::alloc::Global;
 use std::test::Fail;
 use tests_calls::{
@@ -7,21 +10,6 @@ use tests_calls::{
 };
 
 const SCRIPT: &str = "end 15\n";
-
-/// What `go` puts: the report, in four lines, and the log.
-const WHOLE: &str =
-    "program a\nprocess p frame 15 rank 1 cost 15 suspend 0 waits 0 block 0 bound 15 data 0 stack 1\ncode 3\ntimely\n0 p release\n10 p put valve 7\n14 p end\n";
-
-const REPORT: &str =
-    "program a\nprocess p frame 15 rank 1 cost 15 suspend 0 waits 0 block 0 bound 15 data 0 stack 1\ncode 3\ntimely\n";
-
-const LOG: &str = "0 p release\n10 p put valve 7\n14 p end\n";
-
-const JSON: &str =
-    "{\"code\":3,\"monitors\":[],\"processes\":[{\"block\":0,\"bound\":15,\"cost\":15,\"data\":0,\"frame\":15,\"name\":\"p\",\"rank\":1,\"stack\":1,\"suspend\":0,\"waits\":0}],\"program\":\"a\",\"timely\":true}\n";
-
-const PRINTED: &str =
-    "program a\ndevice valve : out\nprocess p : periodic frame 15\nbegin\nput valve 7\nend p\nend a\n";
 
 /// The call of a device that fails, by its number from 1.
 #[derive(Clone, Copy)]
@@ -47,189 +35,216 @@ fn failures_of(device: Device) -> Failures {
     }
 }
 
-/// A command, and what is due of it: the text, and the file that is written.
-struct Due {
-    line: &'static str,
-    text: &'static str,
-    target: Option<&'static str>,
-    rows: &'static [Row],
+/// The file in which the image of the second version is stored.
+#[derive(Clone, Copy)]
+enum Stored {
+    Nowhere,
+    P,
+    S,
+    I,
+    J,
 }
 
-/// What fails, the status, how many lines of the text are put, and whether the image is stored.
-type Row = (Device, u8, usize, bool);
+/// What is left where nothing else is stored than this image.
+fn left_behind<'x>(before: Left<'x>, place: Stored, image: &'x [u8]) -> Left<'x> {
+    let image = Some(image);
+    match place {
+        Stored::Nowhere => before,
+        Stored::P => Left {
+            program: image,
+            ..before
+        },
+        Stored::S => Left {
+            script: image,
+            ..before
+        },
+        Stored::I => Left { image, ..before },
+        Stored::J => Left {
+            migrated: image,
+            ..before
+        },
+    }
+}
 
-const CALLS: &[Due] = &[
-    Due {
-        line: "go P I S",
-        text: WHOLE,
-        target: Some("I"),
-        rows: &[
-            (Device::Never, 0, 7, true),
-            (Device::Read(1), 6, 0, false),
-            (Device::Read(2), 6, 0, false),
-            (Device::Read(3), 0, 7, true),
-            (Device::Write(1), 7, 0, false),
-            (Device::Write(2), 0, 7, true),
-            (Device::Put(1), 7, 0, true),
-            (Device::Put(2), 7, 4, true),
-            (Device::Put(3), 7, 5, true),
-            (Device::Put(4), 7, 6, true),
-            (Device::Put(5), 0, 7, true),
-        ],
-    },
-    Due {
-        line: "compile P I",
-        text: REPORT,
-        target: Some("I"),
-        rows: &[
-            (Device::Read(1), 6, 0, false),
-            (Device::Read(2), 0, 4, true),
-            (Device::Write(1), 7, 0, false),
-            (Device::Write(2), 0, 4, true),
-            (Device::Put(1), 7, 0, true),
-            (Device::Put(2), 0, 4, true),
-        ],
-    },
-    Due {
-        line: "check P",
-        text: REPORT,
-        target: None,
-        rows: &[
-            (Device::Read(1), 6, 0, false),
-            (Device::Read(2), 0, 4, false),
-            (Device::Write(1), 0, 4, false),
-            (Device::Put(1), 7, 0, false),
-            (Device::Put(2), 0, 4, false),
-        ],
-    },
-    Due {
-        line: "json P",
-        text: JSON,
-        target: None,
-        rows: &[
-            (Device::Read(1), 6, 0, false),
-            (Device::Read(2), 0, 1, false),
-            (Device::Write(1), 0, 1, false),
-            (Device::Put(1), 7, 0, false),
-            (Device::Put(2), 0, 1, false),
-        ],
-    },
-    Due {
-        line: "print P",
-        text: PRINTED,
-        target: None,
-        rows: &[
-            (Device::Read(1), 6, 0, false),
-            (Device::Read(2), 0, 7, false),
-            (Device::Write(1), 0, 7, false),
-            (Device::Put(1), 7, 0, false),
-            (Device::Put(2), 0, 7, false),
-        ],
-    },
-    Due {
-        line: "run K S",
-        text: LOG,
-        target: None,
-        rows: &[
-            (Device::Never, 0, 3, false),
-            (Device::Read(1), 6, 0, false),
-            (Device::Read(2), 6, 0, false),
-            (Device::Read(3), 0, 3, false),
-            (Device::Write(1), 0, 3, false),
-            (Device::Put(1), 7, 0, false),
-            (Device::Put(2), 7, 1, false),
-            (Device::Put(3), 7, 2, false),
-            (Device::Put(4), 0, 3, false),
-        ],
-    },
-    Due {
-        line: "migrate K J",
-        text: "",
-        target: Some("J"),
-        rows: &[
-            (Device::Read(1), 6, 0, false),
-            (Device::Read(2), 0, 0, true),
-            (Device::Write(1), 7, 0, false),
-            (Device::Write(2), 0, 0, true),
-            (Device::Put(1), 0, 0, true),
-        ],
-    },
+/// The words of a call, the texts in P and S, and what fails.
+#[derive(Clone, Copy)]
+struct Given<'x> {
+    line: &'x str,
+    program: &'x str,
+    script: &'x str,
+    device: Device,
+}
+
+/// The call comes to what is wanted, where the file of this name holds the bytes.
+fn leaves(
+    alloc: Global,
+    given: &Given<'_>,
+    name: &str,
+    bytes: &[u8],
+    want: &Left<'_>,
+) -> Result<(), Fail> {
+    let Given {
+        line,
+        program,
+        script,
+        device,
+    } = *given;
+    let failures = failures_of(device);
+    call_beside(alloc, line, program, script, name, bytes, failures)?.left(line, want)
+}
+
+/// A call, what fails, the status, what is put, and where the image of the second version is
+/// stored.
+type Row = (&'static str, Device, u8, &'static str, Stored);
+
+/// P holds the program, S the script and K the image of the first version; I and J are missing.
+const CALLS: &[Row] = &[
+    ("go P I S", Device::Never, 0, WHOLE, Stored::I),
+    ("go P I S", Device::Read(1), 6, "", Stored::Nowhere),
+    ("go P I S", Device::Read(2), 6, "", Stored::Nowhere),
+    ("go P I S", Device::Read(3), 0, WHOLE, Stored::I),
+    ("go P I S", Device::Write(1), 7, "", Stored::Nowhere),
+    ("go P I S", Device::Write(2), 0, WHOLE, Stored::I),
+    ("go P I S", Device::Put(1), 7, "", Stored::I),
+    ("go P I S", Device::Put(2), 7, REPORT, Stored::I),
+    ("go P I S", Device::Put(3), 7, UP_TO_ONE, Stored::I),
+    ("go P I S", Device::Put(4), 7, UP_TO_TWO, Stored::I),
+    ("go P I S", Device::Put(5), 0, WHOLE, Stored::I),
+    ("compile P I", Device::Read(1), 6, "", Stored::Nowhere),
+    ("compile P I", Device::Read(2), 0, REPORT, Stored::I),
+    ("compile P I", Device::Write(1), 7, "", Stored::Nowhere),
+    ("compile P I", Device::Write(2), 0, REPORT, Stored::I),
+    ("compile P I", Device::Put(1), 7, "", Stored::I),
+    ("compile P I", Device::Put(2), 0, REPORT, Stored::I),
+    ("check P", Device::Read(1), 6, "", Stored::Nowhere),
+    ("check P", Device::Read(2), 0, REPORT, Stored::Nowhere),
+    ("check P", Device::Write(1), 0, REPORT, Stored::Nowhere),
+    ("check P", Device::Put(1), 7, "", Stored::Nowhere),
+    ("check P", Device::Put(2), 0, REPORT, Stored::Nowhere),
+    ("json P", Device::Read(1), 6, "", Stored::Nowhere),
+    ("json P", Device::Read(2), 0, JSON, Stored::Nowhere),
+    ("json P", Device::Write(1), 0, JSON, Stored::Nowhere),
+    ("json P", Device::Put(1), 7, "", Stored::Nowhere),
+    ("json P", Device::Put(2), 0, JSON, Stored::Nowhere),
+    ("print P", Device::Read(1), 6, "", Stored::Nowhere),
+    ("print P", Device::Read(2), 0, PRINTED, Stored::Nowhere),
+    ("print P", Device::Write(1), 0, PRINTED, Stored::Nowhere),
+    ("print P", Device::Put(1), 7, "", Stored::Nowhere),
+    ("print P", Device::Put(2), 0, PRINTED, Stored::Nowhere),
+    ("run K S", Device::Never, 0, LOG, Stored::Nowhere),
+    ("run K S", Device::Read(1), 6, "", Stored::Nowhere),
+    ("run K S", Device::Read(2), 6, "", Stored::Nowhere),
+    ("run K S", Device::Read(3), 0, LOG, Stored::Nowhere),
+    ("run K S", Device::Write(1), 0, LOG, Stored::Nowhere),
+    ("run K S", Device::Put(1), 7, "", Stored::Nowhere),
+    ("run K S", Device::Put(2), 7, ONE_LINE, Stored::Nowhere),
+    ("run K S", Device::Put(3), 7, TWO_LINES, Stored::Nowhere),
+    ("run K S", Device::Put(4), 0, LOG, Stored::Nowhere),
+    ("migrate K J", Device::Read(1), 6, "", Stored::Nowhere),
+    ("migrate K J", Device::Read(2), 0, "", Stored::J),
+    ("migrate K J", Device::Write(1), 7, "", Stored::Nowhere),
+    ("migrate K J", Device::Write(2), 0, "", Stored::J),
+    ("migrate K J", Device::Put(1), 0, "", Stored::J),
 ];
 
-/// The first lines of a text, so many, each with its end.
-fn first_lines(alloc: Global, text: &str, count: usize) -> Result<String, Fail> {
-    let mut front = String::new(alloc);
-    for line in text.lines().take(count) {
-        front.push_str(line)?;
-        front.push_str("\n")?;
-    }
-    Ok(front)
-}
+/// Two words of each call name one file. All is read before anything is written, and what is read
+/// is what the files held before: P the program, S the script and I the image of the first version.
+const ONE_FILE: &[Row] = &[
+    ("go P P S", Device::Never, 0, WHOLE, Stored::P),
+    ("go P S S", Device::Never, 0, WHOLE, Stored::S),
+    ("go P I P", Device::Never, 5, "S1 1\n", Stored::Nowhere),
+    ("go P P P", Device::Never, 5, "S1 1\n", Stored::Nowhere),
+    ("go I I S", Device::Never, 2, "E1 1:5\n", Stored::Nowhere),
+    ("go S S S", Device::Never, 2, "E10 1:1\n", Stored::Nowhere),
+    ("go P P S", Device::Read(2), 6, "", Stored::Nowhere),
+    ("go P P S", Device::Write(1), 7, "", Stored::Nowhere),
+    ("go P P S", Device::Put(1), 7, "", Stored::P),
+    ("go P P S", Device::Put(2), 7, REPORT, Stored::P),
+    ("go P S S", Device::Read(2), 6, "", Stored::Nowhere),
+    ("go P S S", Device::Write(1), 7, "", Stored::Nowhere),
+    ("go P S S", Device::Put(2), 7, REPORT, Stored::S),
+    ("compile P P", Device::Never, 0, REPORT, Stored::P),
+    ("compile I I", Device::Never, 2, "E1 1:5\n", Stored::Nowhere),
+    (
+        "compile S S",
+        Device::Never,
+        2,
+        "E10 1:1\n",
+        Stored::Nowhere,
+    ),
+    ("compile P P", Device::Write(1), 7, "", Stored::Nowhere),
+    ("compile P P", Device::Put(1), 7, "", Stored::P),
+    ("run I I", Device::Never, 5, "S1 1\n", Stored::Nowhere),
+    ("run P P", Device::Never, 4, "I1 0\n", Stored::Nowhere),
+    ("run S S", Device::Never, 4, "I1 0\n", Stored::Nowhere),
+    ("run I I", Device::Read(2), 6, "", Stored::Nowhere),
+    ("run I I", Device::Put(1), 7, "", Stored::Nowhere),
+    ("migrate I I", Device::Never, 0, "", Stored::I),
+    ("migrate P P", Device::Never, 4, "I1 0\n", Stored::Nowhere),
+    ("migrate I I", Device::Read(1), 6, "", Stored::Nowhere),
+    ("migrate I I", Device::Write(1), 7, "", Stored::Nowhere),
+    ("migrate I I", Device::Put(1), 0, "", Stored::I),
+];
 
-/// What the file of this name holds, which is missing unless the image is stored in it.
-fn stored_in<'a>(name: &str, stored: Option<&str>, image: &'a [u8]) -> Option<&'a [u8]> {
-    if stored == Some(name) {
-        Some(image)
-    } else {
-        None
-    }
-}
-
-/// One row of a call, where `first` is the image in K, `second` the one that is due, and `put` what is
-/// put.
-fn fails_so<'x>(
+/// One row, where the file of this name holds the image `first`, and `second` is the one that is
+/// due. `held` is that file, if it is one of P, S, I and J.
+fn row_leaves<'x>(
     alloc: Global,
-    due: &'x Due,
     row: &Row,
-    first: &[u8],
+    name: &str,
+    held: Stored,
+    first: &'x [u8],
     second: &'x [u8],
-    put: &'x str,
 ) -> Result<(), Fail> {
-    let (device, status, _, stores) = *row;
-    let stored = if stores { due.target } else { None };
-    let want = Left {
+    let (line, device, status, put, place) = *row;
+    let given = Given {
+        line,
+        program: VALVE,
+        script: SCRIPT,
+        device,
+    };
+    let texts = Left {
         status,
         put,
         program: Some(VALVE.as_bytes()),
         script: Some(SCRIPT.as_bytes()),
-        image: stored_in("I", stored, second),
-        migrated: stored_in("J", stored, second),
+        image: None,
+        migrated: None,
     };
-    let failures = failures_of(device);
-    call_beside(alloc, due.line, VALVE, SCRIPT, "K", first, failures)?.left(due.line, &want)
+    let want = left_behind(left_behind(texts, held, first), place, second);
+    leaves(alloc, &given, name, first, &want)
 }
 
-/// The same: the first lines of the text are put, as many as the row says.
-fn device_fails(
+fn rows_leave(
     alloc: Global,
-    due: &Due,
-    row: &Row,
+    rows: &[Row],
+    name: &str,
+    held: Stored,
     first: &[u8],
     second: &[u8],
 ) -> Result<(), Fail> {
-    let put = first_lines(alloc, due.text, row.2)?;
-    fails_so(alloc, due, row, first, second, put.as_str())
-}
-
-/// P holds the program, S the script and K an image of the first version; I and J are missing.
-#[test]
-fn each_device_call_fails_in_turn(rt: HostRuntime) -> Result<(), Fail> {
-    let alloc = rt.alloc();
-    let first = hex::decode(alloc, VALVE_FIRST)?;
-    let second = hex::decode(alloc, VALVE_SECOND)?;
-    for due in CALLS {
-        for row in due.rows {
-            device_fails(alloc, due, row, first.as_slice(), second.as_slice())?;
-        }
+    for row in rows {
+        row_leaves(alloc, row, name, held, first, second)?;
     }
     Ok(())
 }
 
-const LATE: &str =
-    "program a device valve : out process p : periodic frame 14 begin put valve 7 end p end a";
+/// Each row comes to what it says, where the file of this name holds the image of the first version.
+fn come_to_their_ends(alloc: Global, rows: &[Row], name: &str, held: Stored) -> Result<(), Fail> {
+    let first = hex::decode(alloc, VALVE_FIRST)?;
+    let second = hex::decode(alloc, VALVE_SECOND)?;
+    rows_leave(alloc, rows, name, held, first.as_slice(), second.as_slice())
+}
 
-const LATE_REPORT: &str =
-    "program a\nprocess p frame 14 rank 1 cost 15 suspend 0 waits 0 block 0 bound none data 0 stack 1\ncode 3\nuntimely p\n";
+#[test]
+fn each_device_call_fails_in_turn(rt: HostRuntime) -> Result<(), Fail> {
+    come_to_their_ends(rt.alloc(), CALLS, "K", Stored::Nowhere)
+}
+
+#[test]
+fn two_words_name_one_file(rt: HostRuntime) -> Result<(), Fail> {
+    come_to_their_ends(rt.alloc(), ONE_FILE, "I", Stored::I)
+}
 
 const FAULTY: &str = "program a ;";
 
@@ -280,114 +295,63 @@ const REFUSALS: &[Refused] = &[
 ];
 
 /// I holds the first four bytes of an image, and keeps them.
-#[test]
-fn refusals_come_before_later_failures(rt: HostRuntime) -> Result<(), Fail> {
-    let alloc = rt.alloc();
-    for &(line, program, script, device, status, put) in REFUSALS {
-        let image = b"RTEU".as_slice();
-        let want = Left {
-            status,
-            put,
-            program: Some(program.as_bytes()),
-            script: Some(script.as_bytes()),
-            image: Some(image),
-            migrated: None,
-        };
-        let failures = failures_of(device);
-        call_beside(alloc, line, program, script, "I", image, failures)?.left(line, &want)?;
-    }
-    Ok(())
-}
-
-/// A call two of whose words name one file, what fails, the status, what is put, and which file
-/// then holds the image of the second version.
-type OneFile = (&'static str, Device, u8, &'static str, Option<&'static str>);
-
-/// All is read before anything is written, and what is read is what the files held before.
-const ONE_FILE: &[OneFile] = &[
-    ("go P P S", Device::Never, 0, WHOLE, Some("P")),
-    ("go P S S", Device::Never, 0, WHOLE, Some("S")),
-    ("go P I P", Device::Never, 5, "S1 1\n", None),
-    ("go P P P", Device::Never, 5, "S1 1\n", None),
-    ("go I I S", Device::Never, 2, "E1 1:5\n", None),
-    ("go S S S", Device::Never, 2, "E10 1:1\n", None),
-    ("go P P S", Device::Read(2), 6, "", None),
-    ("go P P S", Device::Write(1), 7, "", None),
-    ("go P P S", Device::Put(1), 7, "", Some("P")),
-    ("go P P S", Device::Put(2), 7, REPORT, Some("P")),
-    ("go P S S", Device::Read(2), 6, "", None),
-    ("go P S S", Device::Write(1), 7, "", None),
-    ("go P S S", Device::Put(2), 7, REPORT, Some("S")),
-    ("compile P P", Device::Never, 0, REPORT, Some("P")),
-    ("compile I I", Device::Never, 2, "E1 1:5\n", None),
-    ("compile S S", Device::Never, 2, "E10 1:1\n", None),
-    ("compile P P", Device::Write(1), 7, "", None),
-    ("compile P P", Device::Put(1), 7, "", Some("P")),
-    ("run I I", Device::Never, 5, "S1 1\n", None),
-    ("run P P", Device::Never, 4, "I1 0\n", None),
-    ("run S S", Device::Never, 4, "I1 0\n", None),
-    ("run I I", Device::Read(2), 6, "", None),
-    ("run I I", Device::Put(1), 7, "", None),
-    ("migrate I I", Device::Never, 0, "", Some("I")),
-    ("migrate P P", Device::Never, 4, "I1 0\n", None),
-    ("migrate I I", Device::Read(1), 6, "", None),
-    ("migrate I I", Device::Write(1), 7, "", None),
-    ("migrate I I", Device::Put(1), 0, "", Some("I")),
-];
-
-/// What the file of this name holds: what it held before, or the image where that is stored in it.
-fn kept<'a>(name: &str, before: &'a [u8], changed: Option<&str>, image: &'a [u8]) -> &'a [u8] {
-    if changed == Some(name) { image } else { before }
-}
-
-/// One such call, where `first` is the image in I and `second` the one that is due.
-fn name_one_file<'x>(
-    alloc: Global,
-    row: &'x OneFile,
-    first: &'x [u8],
-    second: &'x [u8],
-) -> Result<(), Fail> {
-    let (line, device, status, put, changed) = *row;
+fn is_refused(alloc: Global, row: &Refused) -> Result<(), Fail> {
+    let (line, program, script, device, status, put) = *row;
+    let image = b"RTEU".as_slice();
     let want = Left {
         status,
         put,
-        program: Some(kept("P", VALVE.as_bytes(), changed, second)),
-        script: Some(kept("S", SCRIPT.as_bytes(), changed, second)),
-        image: Some(kept("I", first, changed, second)),
+        program: Some(program.as_bytes()),
+        script: Some(script.as_bytes()),
+        image: Some(image),
         migrated: None,
     };
-    let failures = failures_of(device);
-    call_beside(alloc, line, VALVE, SCRIPT, "I", first, failures)?.left(line, &want)
+    let given = Given {
+        line,
+        program,
+        script,
+        device,
+    };
+    leaves(alloc, &given, "I", image, &want)
 }
 
-/// P holds the program, S the script and I the image of the first version.
-#[test]
-fn two_words_name_one_file(rt: HostRuntime) -> Result<(), Fail> {
-    let alloc = rt.alloc();
-    let first = hex::decode(alloc, VALVE_FIRST)?;
-    let second = hex::decode(alloc, VALVE_SECOND)?;
-    for row in ONE_FILE {
-        name_one_file(alloc, row, first.as_slice(), second.as_slice())?;
+fn are_refused(alloc: Global, rows: &[Refused]) -> Result<(), Fail> {
+    for row in rows {
+        is_refused(alloc, row)?;
     }
     Ok(())
 }
 
-/// An image of the second version is migrated to itself.
+#[test]
+fn refusals_come_before_later_failures(rt: HostRuntime) -> Result<(), Fail> {
+    are_refused(rt.alloc(), REFUSALS)
+}
+
+/// `migrate` of an image of the second version stores the same image.
+fn migrates_to(alloc: Global, line: &str, second: &[u8], place: Stored) -> Result<(), Fail> {
+    let before = Left {
+        status: 0,
+        put: "",
+        program: None,
+        script: Some(b""),
+        image: Some(second),
+        migrated: None,
+    };
+    let want = left_behind(before, place, second);
+    call_on_image(alloc, line, second, "")?.left(line, &want)
+}
+
+fn migrates_anywhere(alloc: Global, second: &[u8]) -> Result<(), Fail> {
+    if second.len() != 142 {
+        return Err(Fail::new(format_args!("an image of {} bytes", second.len())));
+    }
+    migrates_to(alloc, "migrate I I", second, Stored::I)?;
+    migrates_to(alloc, "migrate I J", second, Stored::J)
+}
+
 #[test]
 fn migrates_the_second_version(rt: HostRuntime) -> Result<(), Fail> {
     let alloc = rt.alloc();
     let second = hex::decode(alloc, VALVE_SECOND)?;
-    assert_eq!(rt; second.len(), 142);
-    for (line, target) in [("migrate I I", "I"), ("migrate I J", "J")] {
-        let want = Left {
-            status: 0,
-            put: "",
-            program: None,
-            script: Some(b""),
-            image: Some(second.as_slice()),
-            migrated: stored_in("J", Some(target), second.as_slice()),
-        };
-        call_on_image(alloc, line, second.as_slice(), "")?.left(line, &want)?;
-    }
-    Ok(())
+    migrates_anywhere(alloc, second.as_slice())
 }

@@ -19,4 +19,6 @@ mod stops;
 #[cfg(test)]
 mod tables;
 #[cfg(test)]
+mod valve;
+#[cfg(test)]
 mod words;

@@ -1,5 +1,6 @@
 //! Messages for a person.
 
+use std::alloc::Global;
 use std::test::Fail;
 use tests_calls::{Failures, NO_FAILURES, VALVE, status_untold, told};
 
@@ -186,31 +187,53 @@ rte: `rte why P 1` takes the bounds apart; `rte fit P 1` tells what would fit
     },
 ];
 
-#[test]
-fn calls_tell_why_they_end(rt: HostRuntime) -> Result<(), Fail> {
-    let alloc = rt.alloc();
-    for row in MESSAGES {
-        let message = told(alloc, row.line, row.given, row.failures)?;
-        if message.as_str() != row.told {
-            return Err(Fail::new(format_args!("{}: {}", row.line, message.as_str())));
-        }
+/// Just this is told.
+fn is_told(line: &str, message: &str, want: &str) -> Result<(), Fail> {
+    if message == want {
+        return Ok(());
+    }
+    Err(Fail::new(format_args!("{line}: {message}")))
+}
+
+fn tells(alloc: Global, row: &Row) -> Result<(), Fail> {
+    let message = told(alloc, row.line, row.given, row.failures)?;
+    is_told(row.line, message.as_str(), row.told)
+}
+
+fn tell(alloc: Global, rows: &[Row]) -> Result<(), Fail> {
+    for row in rows {
+        tells(alloc, row)?;
     }
     Ok(())
 }
 
 #[test]
-fn unknown_commands_have_a_nearest(rt: HostRuntime) -> Result<(), Fail> {
-    let alloc = rt.alloc();
-    let message = told(alloc, "chek P", &[("P", VALVE)], NO_FAILURES)?;
-    let first = message.as_str().lines().next().unwrap_or("");
-    assert_eq!(rt; first, "rte: `chek` is no command; the nearest is `check`");
-    Ok(())
+fn calls_tell_why_they_end(rt: HostRuntime) -> Result<(), Fail> {
+    tell(rt.alloc(), MESSAGES)
 }
+
+#[test]
+fn unknown_commands_have_a_nearest(rt: HostRuntime) -> Result<(), Fail> {
+    let message = told(rt.alloc(), "chek P", &[("P", VALVE)], NO_FAILURES)?;
+    let first = message.as_str().lines().next().unwrap_or("");
+    is_told(
+        "chek P",
+        first,
+        "rte: `chek` is no command; the nearest is `check`",
+    )
+}
+
+/// Calls where P holds no program, and their status.
+const UNTOLD: &[(&str, u8)] = &[("check P", 2), ("check nofile", 6)];
 
 #[test]
 fn a_message_that_fails_changes_nothing(rt: HostRuntime) -> Result<(), Fail> {
     let alloc = rt.alloc();
-    assert_eq!(rt; status_untold(alloc, "check P", &[("P", "x")])?, 2);
-    assert_eq!(rt; status_untold(alloc, "check nofile", &[("P", "x")])?, 6);
+    for &(line, want) in UNTOLD {
+        let status = status_untold(alloc, line, &[("P", "x")])?;
+        if status != want {
+            return Err(Fail::new(format_args!("{line}: status {status}")));
+        }
+    }
     Ok(())
 }

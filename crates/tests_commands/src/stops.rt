@@ -1,7 +1,8 @@
 //! The machine at a stop.
 
+use std::alloc::Global;
 use std::test::Fail;
-use tests_calls::{Expected, VALVE, answers_on_image, image_of, lines};
+use tests_calls::{Expected, VALVE, answers_on_image, image_of};
 
 /// A counter in a monitor, and a process that holds two others up. Its code begins with ENTER, LDM,
 /// PUSH, ADD, STM, LEAVE and RET of the entry; CALL and END of l are at 7, those of u at 9.
@@ -17,8 +18,7 @@ const MEETING: &str =
 const KEEPER: &str =
     "program a process p : periodic frame 100 var x : int begin x := 5 end p end a";
 
-/// A stop in the run of a program that is compiled with an overhead, and the lines that are put,
-/// parted by bars.
+/// A stop in the run of a program that is compiled with an overhead, and the lines that are put.
 struct Stop {
     program: &'static str,
     compile: &'static str,
@@ -60,84 +60,91 @@ const KEPT: Stop = Stop {
 const STOPS: &[Stop] = &[
     Stop {
         watch: "watch I S 0",
-        put: "tick 0|process p idle data|last 0",
+        put: "tick 0\nprocess p idle data\nlast 0\n",
         ..OPENED
     },
     Stop {
         watch: "watch I S 5",
-        put: "tick 5|process p ready 1 6 - data|last 1|0 p release",
+        put: "tick 5\nprocess p ready 1 6 - data\nlast 1\n0 p release\n",
         ..OPENED
     },
     Stop {
         watch: "watch I S @1",
-        put: "tick 11|process p ready 2 4 - data|last 2|0 p release|10 p put valve 7",
+        put: "tick 11\nprocess p ready 2 4 - data\nlast 2\n0 p release\n10 p put valve 7\n",
         ..OPENED
     },
     Stop {
         watch: "watch I S 99",
-        put: "tick 15|process p idle data|last 3|0 p release|10 p put valve 7|14 p end",
+        put: "tick 15\nprocess p idle data\nlast 3\n0 p release\n10 p put valve 7\n14 p end\n",
         ..OPENED
     },
     Stop {
         watch: "watch I S @9",
-        put: "tick 15|process p idle data|last 3|0 p release|10 p put valve 7|14 p end",
+        put: "tick 15\nprocess p idle data\nlast 3\n0 p release\n10 p put valve 7\n14 p end\n",
         ..OPENED
     },
     Stop {
         watch: "watch I S 20",
-        put: "tick 20|process l ready 2 1 m data|process u ready 9 6 - data|process h ready 12 5 - data|monitor m l data 0|last 4|0 l release|10 l enter m|12 u release|14 h release",
+        put: "tick 20\nprocess l ready 2 1 m data\nprocess u ready 9 6 - data\nprocess h ready 12 5 - data\nmonitor m l data 0\nlast 4\n0 l release\n10 l enter m\n12 u release\n14 h release\n",
         ..COUNTED
     },
     Stop {
         watch: "watch I S @5",
-        put: "tick 38|process l ready 6 4 - data|process u ready 9 6 - data|process h idle data|monitor m free data 1|last 7|0 l release|10 l enter m|12 u release|14 h release|24 h put a 1|28 h end|37 l leave m",
+        put: "tick 38\nprocess l ready 6 4 - data\nprocess u ready 9 6 - data\nprocess h idle data\nmonitor m free data 1\nlast 7\n0 l release\n10 l enter m\n12 u release\n14 h release\n24 h put a 1\n28 h end\n37 l leave m\n",
         ..COUNTED
     },
     Stop {
         compile: "compile P I",
         watch: "watch I S @1",
-        put: "tick 17|process p waiting m c 47 data|process q idle data|monitor m free data|last 3|0 p release|10 p enter m|16 p wait m c",
+        put: "tick 17\nprocess p waiting m c 47 data\nprocess q idle data\nmonitor m free data\nlast 3\n0 p release\n10 p enter m\n16 p wait m c\n",
         ..MET
     },
     Stop {
         watch: "watch I S 2",
-        put: "tick 2|process p ready 9 4 - data|process q idle data|monitor m free data|last 1|0 p release",
+        put: "tick 2\nprocess p ready 9 4 - data\nprocess q idle data\nmonitor m free data\nlast 1\n0 p release\n",
         ..MET
     },
     Stop {
         watch: "watch I S 6",
-        put: "tick 6|process p ready 9 6 - data|process q idle data|monitor m free data|last 1|0 p release",
+        put: "tick 6\nprocess p ready 9 6 - data\nprocess q idle data\nmonitor m free data\nlast 1\n0 p release\n",
         ..MET
     },
     Stop {
         watch: "watch I S @9",
-        put: "tick 12|process p ready 0 5 - data|process q idle data|monitor m free data|last 1|0 p release",
+        put: "tick 12\nprocess p ready 0 5 - data\nprocess q idle data\nmonitor m free data\nlast 1\n0 p release\n",
         ..MET
     },
     Stop {
         watch: "watch I S 2",
-        put: "tick 2|process p ready 1 1 - data 0|last 1|0 p release",
+        put: "tick 2\nprocess p ready 1 1 - data 0\nlast 1\n0 p release\n",
         ..KEPT
     },
     Stop {
         watch: "watch I S 3",
-        put: "tick 3|process p ready 2 4 - data 5|last 1|0 p release",
+        put: "tick 3\nprocess p ready 2 4 - data 5\nlast 1\n0 p release\n",
         ..KEPT
     },
 ];
 
-#[test]
-fn stops_are_told(rt: HostRuntime) -> Result<(), Fail> {
-    let alloc = rt.alloc();
-    for stop in STOPS {
-        let image = image_of(alloc, stop.compile, stop.program.as_bytes(), None)?;
-        let put = lines(alloc, stop.put)?;
-        let want = Expected {
-            status: 0,
-            put: put.as_str(),
-            puts: Some(1),
-        };
-        answers_on_image(alloc, stop.watch, image.as_slice(), stop.script, want)?;
+/// The image of the program is told so at the stop.
+fn is_told(alloc: Global, stop: &Stop) -> Result<(), Fail> {
+    let image = image_of(alloc, stop.compile, stop.program.as_bytes(), None)?;
+    let want = Expected {
+        status: 0,
+        put: stop.put,
+        puts: Some(1),
+    };
+    answers_on_image(alloc, stop.watch, image.as_slice(), stop.script, want)
+}
+
+fn are_told(alloc: Global, stops: &[Stop]) -> Result<(), Fail> {
+    for stop in stops {
+        is_told(alloc, stop)?;
     }
     Ok(())
+}
+
+#[test]
+fn stops_are_told(rt: HostRuntime) -> Result<(), Fail> {
+    are_told(rt.alloc(), STOPS)
 }
