@@ -1,12 +1,11 @@
 -- What was put of a message.
-use Rattle.std.proofs.Common.{◌≡◌, ◌⊎◌, ℕ, List, [], Result, Ok, Err, IfOk, OnErr, OnOk, inl, inr, refl, subst}
-use Rattle.std.specs.Prelude.{MatchResult, String}
+use Rattle.std.proofs.Common.{◌≡◌, ◌⊎◌, ℕ, List, [], Result, Ok, Err, OnErr, OnOk, ◌∙◌, inl, inr, refl, subst}
+use Rattle.std.specs.Prelude.{String}
 use Rattle.std.specs.Global.{Global}
 use Rattle.outside.specs.Outside.{SinkState, Rose, Appends, Appends-nothing, AppendsFront}
 use Rattle.command_answers.specs.declared.status.Status.{Status}
 use Rattle.command_answers.specs.declared.status.Status.TheVariants as status
-use Rattle.message_failure.specs.Failure.{out_of_memory}
-use Rattle.command.specs.Told.{HasMessage, HasPut, HasTold, IsMadeAtEnd, message_of, too_short, told}
+use Rattle.command.specs.Told.{HasPut, HasTold, message_of, silent, told}
 
 -- nothing of nothing
 pub nothing_put : (s : SinkState) → HasPut [] s s
@@ -20,9 +19,20 @@ piece_put (Err e) before now piece whole quiet front rose = inr (front, rose)
 
 -- ---- by the status
 
--- a message that was made at the end, or want of memory for it
-pub made_told : (words : List (String Global)) (refusal : List ℕ) (answer : Status) (before now : SinkState) {E : Type 0} (made : Result (List ℕ) E) → HasMessage answer → IsMadeAtEnd answer
-    → IfOk made (λ text. text ≡ message_of words refusal answer) → MatchResult made (λ text. HasPut text before now) (λ why. HasPut out_of_memory before now)
-    → HasTold words refusal answer before now
-made_told words refusal answer before now (Ok text) has at_end is put = told has (subst (λ (t : List ℕ). HasPut t before now) is put)
-made_told words refusal answer before now (Err why) has at_end is put = too_short at_end put
+module _ (words : List (String Global)) (refusal : List ℕ) (before now : SinkState) where
+  by_status : (answer : Status) → HasPut (message_of words refusal answer) before now → (message_of words refusal answer ≡ [] → now ≡ before) → HasTold words refusal answer before now
+  by_status status.Done put nothing = silent (λ has. has) (nothing refl)
+  by_status status.Usage put nothing = told tt put
+  by_status status.Text put nothing = told tt put
+  by_status status.Late put nothing = told tt put
+  by_status status.Image put nothing = told tt put
+  by_status status.Script put nothing = told tt put
+  by_status (status.Unread name) put nothing = told tt put
+  by_status (status.Unwritten name) put nothing = told tt put
+  by_status status.Unput put nothing = told tt put
+  by_status status.Memory put nothing = told tt put
+  by_status status.Log put nothing = told tt put
+
+  pub told_by : (answer : Status) (text : List ℕ) → text ≡ message_of words refusal answer → HasPut text before now → (text ≡ [] → now ≡ before) → HasTold words refusal answer before now
+  told_by answer text is put nothing =
+      by_status answer (subst (λ (t : List ℕ). HasPut t before now) is put) (λ none. nothing (is ∙ none))

@@ -26,12 +26,14 @@ message_of words refusal status.Unput = cannot_put
 message_of words refusal status.Memory = out_of_memory
 message_of words refusal other = refusal
 
--- a status whose message is made at the end of the call, of the words, and takes memory
-abbrev pub IsMadeAtEnd : Status → Type 0
-IsMadeAtEnd status.Usage = Unit {0}
-IsMadeAtEnd (status.Unread name) = Unit {0}
-IsMadeAtEnd (status.Unwritten name) = Unit {0}
-IsMadeAtEnd other = ⊥
+-- a status that has a message which is made at the end of the call
+abbrev pub IsOwnMessage : Status → Type 0
+IsOwnMessage status.Usage = Unit {0}
+IsOwnMessage (status.Unread name) = Unit {0}
+IsOwnMessage (status.Unwritten name) = Unit {0}
+IsOwnMessage status.Unput = Unit {0}
+IsOwnMessage status.Memory = Unit {0}
+IsOwnMessage other = ⊥
 
 -- a status that has a message
 abbrev pub HasMessage : Status → Type 0
@@ -49,4 +51,4 @@ HasPut piece before now =
 pub data HasTold (words : List (String Global)) (refusal : List ℕ) (answer : Status) (before now : SinkState) : Type 0 where
   silent : ¬ HasMessage answer → now ≡ before → HasTold words refusal answer before now
   told : HasMessage answer → HasPut (message_of words refusal answer) before now → HasTold words refusal answer before now
-  too_short : IsMadeAtEnd answer → HasPut out_of_memory before now → HasTold words refusal answer before now
+  too_short : IsOwnMessage answer → HasPut out_of_memory before now → HasTold words refusal answer before now

@@ -1,8 +1,8 @@
 //! The message for a person.
 
-ghost use Rattle.std.specs.Prelude.{◌≡◌, [], MatchResult};
+ghost use Rattle.std.specs.Prelude.{◌≡◌, ◌≢◌, [], IfErr, IfOk};
 ghost use Rattle.message_failure.specs.Failure.{out_of_memory};
-ghost use Rattle.command.specs.Told.{HasPut, HasTold};
+ghost use Rattle.command.specs.Told.{HasMessage, HasPut, HasTold, IsOwnMessage, message_of};
 
 use command_answers::Status;
 use message_failure::{cannot_put, cannot_read, cannot_write, out_of_memory};
@@ -10,6 +10,28 @@ use message_words::usage;
 use outside::Sink;
 use std::alloc::{AllocError, Global};
 use syntax_tree::Text;
+
+/// The message of the status of a call of these words, which is this one where what a file holds was
+/// refused; empty where there is none.
+fn message(
+    alloc: Global,
+    words: &[String],
+    refusal: Text,
+    status: Status<'_>,
+) -> Result<Text, AllocError>
+    ensures text { IfOk result (λ text. text ≡ message_of words.now refusal status.entry) }
+    ensures some { IfErr result (λ why. IsOwnMessage status.entry) }
+{
+    match status {
+        Status::Usage => usage(alloc, words),
+        Status::Unread(name) => cannot_read(alloc, name),
+        Status::Unwritten(name) => cannot_write(alloc, name),
+        Status::Unput => Text::from_bytes(alloc, cannot_put()),
+        Status::Memory => Text::from_bytes(alloc, out_of_memory()),
+        Status::Text | Status::Late | Status::Image | Status::Script | Status::Log => Ok(refusal),
+        Status::Done => Ok(Text::new(alloc)),
+    }
+}
 
 /// Puts a piece by one put, unless it is empty. What the put answers is not looked at.
 #[tactic(auto, using(crate::proofs::Putting::nothing_put, crate::proofs::Putting::piece_put))]
@@ -23,17 +45,6 @@ fn put<E: Sink>(piece: &[u8], err: &mut E)
     let _ = err.put(piece);
 }
 
-/// Puts a message that was made, or, where there was not enough memory for it, the one that says so.
-fn put_made<E: Sink>(made: Result<Text, AllocError>, err: &mut E)
-    ensures { MatchResult made (λ text. HasPut text (E.state err.old) (E.state err.new))
-        (λ why. HasPut out_of_memory (E.state err.old) (E.state err.new)) }
-{
-    match made {
-        Ok(text) => put(text.as_bytes(), err),
-        Err(_) => put(out_of_memory(), err),
-    }
-}
-
 /// The status of a call whose words could not be had for want of memory; its message is put.
 pub fn words_are_short<E: Sink>(err: &mut E) -> Status<'static>
     ensures status { result ≡ Status.Memory }
@@ -43,11 +54,10 @@ pub fn words_are_short<E: Sink>(err: &mut E) -> Status<'static>
     Status::Memory
 }
 
-/// Puts the message of the status, by one put: that of words that are no call, or of a file that
-/// failed, where there is not enough memory for it the one that says so; that of an output that took
-/// no more, or of want of memory; or the given one, where what a file holds was refused. With status
-/// 0 nothing is put.
-#[tactic(auto, using(crate::proofs::Putting::made_told))]
+/// Puts the message of the status, by one put: that of words that are no call, or that the outside
+/// failed, where there is not enough memory for it the one that says so; or the given one, where
+/// what a file holds was refused. Where there is none nothing is put.
+#[tactic(auto, using(crate::proofs::Putting::told_by))]
 pub fn tell<E: Sink>(
     alloc: Global,
     words: &[String],
@@ -57,15 +67,8 @@ pub fn tell<E: Sink>(
 )
     ensures { HasTold words.now refusal status.entry (E.state err.old) (E.state err.new) }
 {
-    match status {
-        Status::Usage => put_made(usage(alloc, words), err),
-        Status::Unread(name) => put_made(cannot_read(alloc, name), err),
-        Status::Unwritten(name) => put_made(cannot_write(alloc, name), err),
-        Status::Unput => put(cannot_put(), err),
-        Status::Memory => put(out_of_memory(), err),
-        Status::Text | Status::Late | Status::Image | Status::Script | Status::Log => {
-            put(refusal.as_bytes(), err);
-        }
-        Status::Done => {}
+    match message(alloc, words, refusal, status) {
+        Ok(text) => put(text.as_bytes(), err),
+        Err(_) => put(out_of_memory(), err),
     }
 }

@@ -108,8 +108,8 @@ pub fn whole_call<'a, F: Files, S: Sink, E: Sink>(
     // The other sink got the message of the status: with 1 what is wrong with the words, and the
     // usage; with 6 and 7 which file failed, or that the output did; with 8 that memory is wanting;
     // with 2, 4, 5 and 9 the message of the fault whose line was put, with 3 that of the lateness,
-    // where the files tell. With 1, and with 6 and 7 of a file, the line for memory may stand in its
-    // place. With status 0 nothing was put there.
+    // where the files tell. With 1, 6 and 7 the line for memory may stand in its place. With status 0
+    // nothing was put there.
     ensures told { HasInformed F.tells words.now (outside (F.state files.old) (S.state sink))
         (outside (F.state files.new) (S.state result.1)) result.0 (E.state err.old)
         (E.state err.new) }
