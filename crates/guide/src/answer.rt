@@ -8,13 +8,45 @@ use std::{fs, io};
 /// The bytes that the sink of a command takes.
 const ROOM: usize = 1_048_576;
 
-/// The words of a line.
-fn words_of(alloc: Global, line: &str) -> Result<Vec<String>, AllocError> {
-    let mut words = Vec::new(alloc);
+fn push_words(alloc: Global, words: &mut Vec<String>, line: &str) -> Result<(), AllocError> {
     for word in line.split_whitespace() {
         words.push(String::from_str(alloc, word)?)?;
     }
+    Ok(())
+}
+
+/// The words of a line.
+fn words_of(alloc: Global, line: &str) -> Result<Vec<String>, AllocError> {
+    let mut words = Vec::new(alloc);
+    push_words(alloc, &mut words, line)?;
     Ok(words)
+}
+
+fn push_bytes(alloc: Global, text: &mut String, bytes: &[u8]) -> Result<(), AllocError> {
+    let part = String::from_utf8_lossy(alloc, bytes)?;
+    text.push_str(part.as_str())
+}
+
+/// The one behind the other, as a text.
+fn joined(alloc: Global, put: &[u8], told: &[u8]) -> Result<String, AllocError> {
+    let mut all = String::from_utf8_lossy(alloc, put)?;
+    push_bytes(alloc, &mut all, told)?;
+    Ok(all)
+}
+
+/// What `rte` puts for these words, and then what it tells.
+fn of_words<R: std::rt::Files + AllocGlobal>(
+    rt: &R,
+    words: &[String],
+    status: &mut u8,
+) -> io::Result<String> {
+    let alloc = rt.alloc();
+    let out = MemorySink::new(alloc, ROOM, Vec::new(alloc))?;
+    let mut err = MemorySink::new(alloc, ROOM, Vec::new(alloc))?;
+    let mut files = RealFiles::new(alloc, rt);
+    let (ended, out) = whole_call(alloc, words, &mut files, out, &mut err);
+    *status = ended.code();
+    Ok(joined(alloc, out.bytes(), err.bytes())?)
 }
 
 /// What `rte` puts for these words, over the files of the system, and then what it tells a person. Its
@@ -24,19 +56,28 @@ pub fn of_rte<R: std::rt::Files + AllocGlobal>(
     words: &str,
     status: &mut u8,
 ) -> io::Result<String> {
-    let alloc = rt.alloc();
-    let words = words_of(alloc, words)?;
-    let mut files = RealFiles::new(alloc, rt);
-    let out = MemorySink::new(alloc, ROOM, Vec::new(alloc))?;
-    let mut err = MemorySink::new(alloc, ROOM, Vec::new(alloc))?;
-    let (ended, out) = whole_call(alloc, words.as_slice(), &mut files, out, &mut err);
-    *status = ended.code();
-    let mut all = String::from_utf8_lossy(alloc, out.bytes())?;
-    all.push_str(String::from_utf8_lossy(alloc, err.bytes())?.as_str())?;
-    Ok(all)
+    let words = words_of(rt.alloc(), words)?;
+    of_words(rt, words.as_slice(), status)
 }
 
-/// The lines of a text that the call keeps, each with its end.
+/// Puts the lines of a text that the call keeps, each with its end.
+fn push_kept(
+    all: &mut String,
+    text: &str,
+    least: usize,
+    most: usize,
+    word: &str,
+) -> Result<(), AllocError> {
+    for line in text.lines().skip(least).take(most) {
+        if line.contains(word) {
+            all.push_str(line)?;
+            all.push_str("\n")?;
+        }
+    }
+    Ok(())
+}
+
+/// The lines of a text that the call keeps.
 fn kept(
     alloc: Global,
     text: &str,
@@ -45,13 +86,19 @@ fn kept(
     word: &str,
 ) -> Result<String, AllocError> {
     let mut all = String::new(alloc);
-    for line in text.lines().skip(least).take(most) {
-        if line.contains(word) {
-            all.push_str(line)?;
-            all.push_str("\n")?;
-        }
-    }
+    push_kept(&mut all, text, least, most, word)?;
     Ok(all)
+}
+
+/// What `diff` puts of a text and the file of this name.
+fn difference<R: fs::Files + AllocGlobal>(rt: &R, text: &str, name: &str) -> io::Result<String> {
+    let held = fs::read_to_string(rt, name)?;
+    let answer = if held.as_str() == text {
+        ""
+    } else {
+        "differs\n"
+    };
+    Ok(String::from_str(rt.alloc(), answer)?)
 }
 
 /// The text behind a filter.
@@ -69,15 +116,22 @@ fn filtered<R: fs::Files + AllocGlobal>(rt: &R, text: &str, filter: &str) -> io:
         return Ok(kept(alloc, text, all.saturating_sub(number), all, "")?);
     }
     if let Some(name) = filter.strip_prefix("diff - ") {
-        let held = fs::read_to_string(rt, name)?;
-        let answer = if held.as_str() == text {
-            ""
-        } else {
-            "differs\n"
-        };
-        return Ok(String::from_str(alloc, answer)?);
+        return difference(rt, text, name);
     }
     Ok(format!(in alloc; "no such filter: {filter}\n")?)
+}
+
+/// What `rte` puts for these words, behind a filter if one stands there.
+fn of_filtered<R: std::rt::Files + AllocGlobal>(
+    rt: &R,
+    words: &str,
+    status: &mut u8,
+) -> io::Result<String> {
+    let Some((words, filter)) = words.split_once(" | ") else {
+        return of_rte(rt, words, status);
+    };
+    let put = of_rte(rt, words, status)?;
+    filtered(rt, put.as_str(), filter)
 }
 
 /// What a command puts. The status of `rte` goes to `status`, from which `echo $?` puts it.
@@ -91,11 +145,7 @@ pub fn of<R: std::rt::Files + AllocGlobal>(
         return fs::read_to_string(rt, name);
     }
     if let Some(words) = command.strip_prefix("rte ") {
-        let Some((words, filter)) = words.split_once(" | ") else {
-            return of_rte(rt, words, status);
-        };
-        let put = of_rte(rt, words, status)?;
-        return filtered(rt, put.as_str(), filter);
+        return of_filtered(rt, words, status);
     }
     if command == "echo $?" {
         let status = *status;

@@ -57,6 +57,66 @@ fn compare_row<R: std::rt::Files + Print + AllocGlobal>(
     Ok(())
 }
 
+/// A block of commands, if it is open: the last command, and what is shown of it so far.
+#[derive(Drop)]
+struct Block {
+    is_open: bool,
+    command: String,
+    shown: String,
+}
+
+/// Compares the last command, if there is one, and begins the next.
+fn begin<R: std::rt::Files + Print + AllocGlobal>(
+    rt: &R,
+    standing: &mut Standing,
+    block: &mut Block,
+    command: &str,
+) -> io::Result<()> {
+    if block.command.as_str() != "" {
+        compare(rt, standing, block.command.as_str(), block.shown.as_str())?;
+    }
+    block.shown.clear();
+    block.command.clear();
+    Ok(block.command.push_str(command)?)
+}
+
+/// Puts a line behind what is shown.
+fn show(shown: &mut String, line: &str) -> io::Result<()> {
+    shown.push_str(line)?;
+    Ok(shown.push_str("\n")?)
+}
+
+fn read_line<R: std::rt::Files + Print + AllocGlobal>(
+    rt: &R,
+    standing: &mut Standing,
+    block: &mut Block,
+    line: &str,
+) -> io::Result<()> {
+    if line.starts_with("```") {
+        block.is_open = !block.is_open;
+        return begin(rt, standing, block, "");
+    }
+    if !block.is_open {
+        return compare_row(rt, standing, line);
+    }
+    match line.strip_prefix("$ ") {
+        Some(command) => begin(rt, standing, block, command),
+        None => show(&mut block.shown, line),
+    }
+}
+
+fn read_lines<R: std::rt::Files + Print + AllocGlobal>(
+    rt: &R,
+    standing: &mut Standing,
+    block: &mut Block,
+    text: &str,
+) -> io::Result<()> {
+    for line in text.lines() {
+        read_line(rt, standing, block, line)?;
+    }
+    Ok(())
+}
+
 /// Runs a document, and puts what differs.
 pub fn run<R: std::rt::Files + Print + AllocGlobal>(rt: &R, text: &str) -> io::Result<Told> {
     let alloc = rt.alloc();
@@ -70,31 +130,11 @@ pub fn run<R: std::rt::Files + Print + AllocGlobal>(rt: &R, text: &str) -> io::R
         status: 0,
         told,
     };
-    let mut command = String::new(alloc);
-    let mut shown = String::new(alloc);
-    let mut in_block = false;
-    for line in text.lines() {
-        let is_fence = line.starts_with("```");
-        let next = if in_block {
-            line.strip_prefix("$ ")
-        } else {
-            None
-        };
-        if is_fence || next.is_some() {
-            if command.as_str() != "" {
-                compare(rt, &mut standing, command.as_str(), shown.as_str())?;
-            }
-            command = String::from_str(alloc, next.unwrap_or(""))?;
-            shown = String::new(alloc);
-        } else if in_block {
-            shown.push_str(line)?;
-            shown.push_str("\n")?;
-        } else {
-            compare_row(rt, &mut standing, line)?;
-        }
-        if is_fence {
-            in_block = !in_block;
-        }
-    }
+    let mut block = Block {
+        is_open: false,
+        command: String::new(alloc),
+        shown: String::new(alloc),
+    };
+    read_lines(rt, &mut standing, &mut block, text)?;
     Ok(standing.told)
 }

@@ -38,13 +38,18 @@ fn stands<R: fs::Files + Print + AllocGlobal>(rt: &R, name: &str) -> io::Result<
     Ok(differing == 0)
 }
 
-fn main(rt: HostRuntime) -> io::Result<ExitCode> {
+fn all_stand<R: fs::Files + Print + AllocGlobal>(rt: &R, names: &[String]) -> io::Result<bool> {
     let mut all = true;
-    let names = system_words(&rt)?;
-    for name in names.iter() {
-        if !stands(&rt, name.as_str())? {
+    for name in names {
+        if !stands(rt, name.as_str())? {
             all = false;
         }
     }
+    Ok(all)
+}
+
+fn main(rt: HostRuntime) -> io::Result<ExitCode> {
+    let names = system_words(&rt)?;
+    let all = all_stand(&rt, names.as_slice())?;
     Ok(ExitCode::from(if all { 0 } else { 1 }))
 }

@@ -4,11 +4,14 @@ use crate::answer;
 use std::alloc::{AllocError, Global};
 use std::{fs, io};
 
-/// The program whose scripts the rows on scripts are.
-const SCRIPTED: &str = "guide/five.rte";
-
 /// Where the texts of a row are written.
 const TEXT: &str = "row.txt";
+
+/// The words by which a program of a row is judged.
+const CHECK: &str = "check row.txt";
+
+/// The words by which a script of a row is judged: that of the program of the guide.
+const GO: &str = "go guide/five.rte row.img row.txt";
 
 /// A row: a fault, what a person is told of it, a text that has it, and one that is mended.
 #[derive(Clone, Copy)]
@@ -39,6 +42,20 @@ fn row_of(line: &str) -> Option<Row<'_>> {
     })
 }
 
+/// What is put for these words where the text is written, and then told.
+fn put_of<R: std::rt::Files + AllocGlobal>(rt: &R, text: &str, words: &str) -> io::Result<String> {
+    fs::write(rt, TEXT, text)?;
+    let mut status = 0;
+    answer::of_rte(rt, words, &mut status)
+}
+
+/// The same of a script, whose lines are parted.
+fn put_of_script<R: std::rt::Files + AllocGlobal>(rt: &R, script: &str) -> io::Result<String> {
+    let mut lines = script.replace(rt.alloc(), " / ", "\n")?;
+    lines.push_str("\n")?;
+    put_of(rt, lines.as_str(), GO)
+}
+
 /// What is put for the text of a cell, and then told: its fault where it has one, else a report.
 fn put<R: std::rt::Files + AllocGlobal>(
     rt: &R,
@@ -46,20 +63,12 @@ fn put<R: std::rt::Files + AllocGlobal>(
     fault: &str,
     cell: &str,
 ) -> io::Result<String> {
-    let alloc = rt.alloc();
     let text = cell.trim_matches('`');
-    let mut status = 0;
     if fault.starts_with('S') {
-        let mut lines = text.replace(alloc, " / ", "\n")?;
-        lines.push_str("\n")?;
-        fs::write(rt, TEXT, lines.as_str())?;
-        let words = format!(in alloc; "go {SCRIPTED} row.img {TEXT}")?;
-        return answer::of_rte(rt, words.as_str(), &mut status);
+        return put_of_script(rt, text);
     }
-    let whole = frame.replace(alloc, "HERE", text)?;
-    fs::write(rt, TEXT, whole.as_str())?;
-    let words = format!(in alloc; "check {TEXT}")?;
-    answer::of_rte(rt, words.as_str(), &mut status)
+    let whole = frame.replace(rt.alloc(), "HERE", text)?;
+    put_of(rt, whole.as_str(), CHECK)
 }
 
 /// Whether a line is the first of a program's message: the place of the fault, its code, and what a
@@ -108,6 +117,21 @@ fn is_told(alloc: Global, row: Row<'_>, put: &str) -> Result<bool, AllocError> {
     }
 }
 
+/// Whether the row is told of what is put for its wrong line, and the mended one has a report. Puts
+/// both where this is not so.
+fn agrees<R: Print + AllocGlobal>(
+    rt: &R,
+    row: Row<'_>,
+    wrong: &str,
+    right: &str,
+) -> io::Result<bool> {
+    if is_told(rt.alloc(), row, wrong)? && right.starts_with("program") {
+        return Ok(true);
+    }
+    println!(rt; "{}: {wrong}\n{}: {right}", row.wrong, row.mended)?;
+    Ok(false)
+}
+
 /// Whether a row's wrong line has its fault, told as in the row, and the mended one has none. None
 /// where it is no row of a fault.
 pub fn stands<R: std::rt::Files + Print + AllocGlobal>(
@@ -120,15 +144,5 @@ pub fn stands<R: std::rt::Files + Print + AllocGlobal>(
     };
     let wrong = put(rt, frame, row.fault, row.wrong)?;
     let right = put(rt, frame, row.fault, row.mended)?;
-    let stands = is_told(rt.alloc(), row, wrong.as_str())? && right.starts_with("program");
-    if !stands {
-        println!(rt;
-            "{}: {}\n{}: {}",
-            row.wrong,
-            wrong.as_str(),
-            row.mended,
-            right.as_str()
-        )?;
-    }
-    Ok(Some(stands))
+    Ok(Some(agrees(rt, row, wrong.as_str(), right.as_str())?))
 }

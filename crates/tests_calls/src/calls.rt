@@ -36,14 +36,18 @@ pub const NO_FAILURES: Failures = Failures {
     put: 0,
 };
 
+fn push_words(alloc: Global, words: &mut Vec<String>, line: &str) -> Result<(), Fail> {
+    for word in line.split(' ') {
+        words.push(String::from_str(alloc, word)?)?;
+    }
+    Ok(())
+}
+
 /// The words of a line, which has one space between them; an empty line has none.
 pub(crate) fn words_of(alloc: Global, line: &str) -> Result<Vec<String>, Fail> {
     let mut words = Vec::new(alloc);
-    if line.is_empty() {
-        return Ok(words);
-    }
-    for word in line.split(' ') {
-        words.push(String::from_str(alloc, word)?)?;
+    if !line.is_empty() {
+        push_words(alloc, &mut words, line)?;
     }
     Ok(words)
 }
@@ -133,12 +137,13 @@ pub fn call_with(
     script: Option<&str>,
     failures: Failures,
 ) -> Result<CallResult, Fail> {
-    let mut files = failing(alloc, failures)?;
-    files.place("P", program)?;
-    if let Some(text) = script {
-        files.place("S", text.as_bytes())?;
+    match script {
+        Some(text) => {
+            let given: &[(&str, &[u8])] = &[("P", program), ("S", text.as_bytes())];
+            given_call(alloc, line, given, failures)
+        }
+        None => given_call(alloc, line, &[("P", program)], failures),
     }
-    made_call(alloc, line, files, failures)
 }
 
 /// A call where I holds the image and S the script.
@@ -148,10 +153,8 @@ pub fn call_on_image(
     image: &[u8],
     script: &str,
 ) -> Result<CallResult, Fail> {
-    let mut files = failing(alloc, NO_FAILURES)?;
-    files.place("I", image)?;
-    files.place("S", script.as_bytes())?;
-    made_call(alloc, line, files, NO_FAILURES)
+    let given: &[(&str, &[u8])] = &[("I", image), ("S", script.as_bytes())];
+    given_call(alloc, line, given, NO_FAILURES)
 }
 
 /// A call where P holds the program, S the script, and the file of this name the bytes, with
@@ -165,11 +168,12 @@ pub fn call_beside(
     bytes: &[u8],
     failures: Failures,
 ) -> Result<CallResult, Fail> {
-    let mut files = failing(alloc, failures)?;
-    files.place("P", program.as_bytes())?;
-    files.place("S", script.as_bytes())?;
-    files.place(name, bytes)?;
-    made_call(alloc, line, files, failures)
+    let given: &[(&str, &[u8])] = &[
+        ("P", program.as_bytes()),
+        ("S", script.as_bytes()),
+        (name, bytes),
+    ];
+    given_call(alloc, line, given, failures)
 }
 
 /// What a call has to answer, put and leave behind: what P, S, I and J hold then, `None` where the
@@ -244,25 +248,71 @@ fn held(alloc: Global, files: &MemoryFiles, name: &str) -> Result<Option<Vec<u8>
     }
 }
 
-fn made_call(
+/// Keeps what the sink and the files hold.
+fn keep(
+    alloc: Global,
+    made: &mut CallResult,
+    out: &MemorySink,
+    files: &MemoryFiles,
+) -> Result<(), Fail> {
+    made.put.extend_from_slice(out.bytes())?;
+    made.program = held(alloc, files, "P")?;
+    made.script = held(alloc, files, "S")?;
+    made.image = held(alloc, files, "I")?;
+    made.migrated = held(alloc, files, "J")?;
+    Ok(())
+}
+
+/// What a call with this status came to.
+fn result_of(
+    alloc: Global,
+    status: u8,
+    out: &MemorySink,
+    files: &MemoryFiles,
+) -> Result<CallResult, Fail> {
+    let mut made = CallResult {
+        status,
+        put: Vec::new(alloc),
+        puts: out.puts(),
+        program: None,
+        script: None,
+        image: None,
+        migrated: None,
+    };
+    keep(alloc, &mut made, out, files)?;
+    Ok(made)
+}
+
+fn call_of(
+    alloc: Global,
+    words: &[String],
+    files: &mut MemoryFiles,
+    failures: Failures,
+) -> Result<CallResult, Fail> {
+    let mut out = MemorySink::new(alloc, ROOM, vec![in alloc; failures.put]?)?;
+    let mut message = Text::new(alloc);
+    let status = rte(alloc, words, files, &mut out, &mut message);
+    result_of(alloc, status.code(), &out, files)
+}
+
+fn place(files: &mut MemoryFiles, given: &[(&str, &[u8])]) -> Result<(), Fail> {
+    for &(name, bytes) in given {
+        files.place(name, bytes)?;
+    }
+    Ok(())
+}
+
+/// A call where the files of these names hold these bytes, with failures.
+fn given_call(
     alloc: Global,
     line: &str,
-    mut files: MemoryFiles,
+    given: &[(&str, &[u8])],
     failures: Failures,
 ) -> Result<CallResult, Fail> {
     let words = words_of(alloc, line)?;
-    let mut out = MemorySink::new(alloc, ROOM, vec![in alloc; failures.put]?)?;
-    let mut message = Text::new(alloc);
-    let status = rte(alloc, words.as_slice(), &mut files, &mut out, &mut message);
-    Ok(CallResult {
-        status: status.code(),
-        put: Vec::from_slice(alloc, out.bytes())?,
-        puts: out.puts(),
-        program: held(alloc, &files, "P")?,
-        script: held(alloc, &files, "S")?,
-        image: held(alloc, &files, "I")?,
-        migrated: held(alloc, &files, "J")?,
-    })
+    let mut files = failing(alloc, failures)?;
+    place(&mut files, given)?;
+    call_of(alloc, words.as_slice(), &mut files, failures)
 }
 
 /// Lines that are parted by bars, each with its end.

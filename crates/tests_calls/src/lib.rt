@@ -19,4 +19,6 @@ pub use calls::{
 };
 pub use known::{IDLE_FIRST, IDLE_SECOND, VALVE, VALVE_FIRST, VALVE_SECOND, with_byte};
 pub use messages::{status_untold, told};
-pub use programs::{GoCase, MINE, MINE_LOG, MINE_REPORT, Put, ROWS};
+pub use programs::{
+    GoCase, MINE, MINE_LOG, MINE_REPORT, Put, mine_cases, several_cases, single_cases, slack_cases,
+};

@@ -16,7 +16,8 @@ pub enum Put {
     Report(&'static str),
 }
 
-pub const ROWS: &[GoCase] = &[
+/// Runs of several processes.
+const SEVERAL: &[GoCase] = &[
     GoCase {
         line: "go P I S",
         program: "program b device a : out process p1 : periodic frame 20 begin put a 1 end p1 process p2 : periodic frame 60 begin put a 2 end p2 end b",
@@ -89,6 +90,10 @@ pub const ROWS: &[GoCase] = &[
             "0 a release|0 b release|0 l release|10 a enter m|22 a leave m|30 a end|41 b enter k|47 b wait k c|60 a release|70 a enter m|82 a leave m|90 a end|94 l enter m|106 l leave m|120 a release|130 a enter m|142 a leave m|150 a end|162 l enter m|174 l leave m|180 a release|190 a enter m|198 b timeout k c 10|202 a leave m|210 a end|214 b end|234 l enter m|240 a release|246 l leave m|257 a enter m|269 a leave m|277 a end",
         ),
     },
+];
+
+/// Runs, refusals and bounds, most of them of one process.
+const SINGLE: &[GoCase] = &[
     GoCase {
         line: "go P I S",
         program: "program a process p : periodic frame 10 var x : int begin x := 2147483647 + 1 end p end a",
@@ -192,6 +197,10 @@ pub const ROWS: &[GoCase] = &[
             "program b|process p frame 100 rank 2 cost 15 suspend 0 waits 0 block 0 bound 30 data 0 stack 1|process q frame 200 deadline 14 rank 1 cost 15 suspend 0 waits 0 block 0 bound none data 0 stack 1|code 6|untimely q",
         ),
     },
+];
+
+/// What the slack of programs is.
+const SLACKS: &[GoCase] = &[
     GoCase {
         line: "slack P",
         program: "program a device valve : out process p : periodic frame 20 begin put valve 7 end p end a",
@@ -243,6 +252,10 @@ pub const ROWS: &[GoCase] = &[
         status: 2,
         put: Put::All("E2 1:64"),
     },
+];
+
+/// The pump of the mine.
+const MINES: &[GoCase] = &[
     GoCase {
         line: "check P",
         program: MINE,
@@ -258,6 +271,25 @@ pub const ROWS: &[GoCase] = &[
         put: Put::Log(MINE_LOG),
     },
 ];
+
+// Each table is named in a function of its own: a table is dear to name, by the square of its
+// length.
+
+pub fn several_cases() -> &'static [GoCase] {
+    SEVERAL
+}
+
+pub fn single_cases() -> &'static [GoCase] {
+    SINGLE
+}
+
+pub fn slack_cases() -> &'static [GoCase] {
+    SLACKS
+}
+
+pub fn mine_cases() -> &'static [GoCase] {
+    MINES
+}
 
 /// Control of a mine's pump.
 pub const MINE: &str = "program mine

@@ -229,7 +229,8 @@ fn rows_leave(
     Ok(())
 }
 
-/// Each row comes to what it says, where the file of this name holds the image of the first version.
+/// Each row comes to what it says, where the file of this name holds the image of the first
+/// version.
 fn come_to_their_ends(alloc: Global, rows: &[Row], name: &str, held: Stored) -> Result<(), Fail> {
     let first = hex::decode(alloc, VALVE_FIRST)?;
     let second = hex::decode(alloc, VALVE_SECOND)?;

@@ -91,6 +91,10 @@ const SECOND_CHANGED: &[Changed] = &[
     (103, 1, "I7 100"),
 ];
 
+fn leaves(alloc: Global, line: &str, image: &[u8], want: &Left<'_>) -> Result<(), Fail> {
+    call_on_image(alloc, line, image, SCRIPT)?.left(line, want)
+}
+
 /// Both `run` and `migrate` put this line of the image; no file changes.
 fn refuses_with<'x>(alloc: Global, image: &'x [u8], line: &'x str) -> Result<(), Fail> {
     let want = Left {
@@ -101,8 +105,8 @@ fn refuses_with<'x>(alloc: Global, image: &'x [u8], line: &'x str) -> Result<(),
         image: Some(image),
         migrated: None,
     };
-    call_on_image(alloc, "run I S", image, SCRIPT)?.left("run I S", &want)?;
-    call_on_image(alloc, "migrate I J", image, SCRIPT)?.left("migrate I J", &want)
+    leaves(alloc, "run I S", image, &want)?;
+    leaves(alloc, "migrate I J", image, &want)
 }
 
 /// Both refuse the image with this fault.
@@ -121,41 +125,67 @@ fn runs(alloc: Global, image: &[u8], script: &str, put: &str) -> Result<(), Fail
     answers_on_image(alloc, "run I S", image, script, want)
 }
 
-fn refuses_changed(alloc: Global, digits: &str, rows: &[Changed]) -> Result<(), Fail> {
+fn refuses_change(alloc: Global, image: &[u8], change: &Changed) -> Result<(), Fail> {
+    let (at, value, fault) = *change;
+    let bytes = with_byte(alloc, image, at, value)?;
+    refuses(alloc, bytes.as_slice(), fault)
+}
+
+fn refuses_changes(alloc: Global, image: &[u8], changes: &[Changed]) -> Result<(), Fail> {
+    for change in changes {
+        refuses_change(alloc, image, change)?;
+    }
+    Ok(())
+}
+
+fn refuses_changed(alloc: Global, digits: &str, changes: &[Changed]) -> Result<(), Fail> {
     let image = hex::decode(alloc, digits)?;
-    for &(at, value, fault) in rows {
-        let bytes = with_byte(alloc, image.as_slice(), at, value)?;
-        refuses(alloc, bytes.as_slice(), fault)?;
+    refuses_changes(alloc, image.as_slice(), changes)
+}
+
+#[test]
+fn one_byte_of_the_first_version_changed(rt: HostRuntime) -> Result<(), Fail> {
+    refuses_changed(rt.alloc(), IDLE_FIRST, FIRST_CHANGED)
+}
+
+#[test]
+fn one_byte_of_the_second_version_changed(rt: HostRuntime) -> Result<(), Fail> {
+    refuses_changed(rt.alloc(), IDLE_SECOND, SECOND_CHANGED)
+}
+
+/// Cut here the image ends inside a field.
+fn refuses_cut(alloc: Global, image: &[u8], place: usize) -> Result<(), Fail> {
+    let Some(front) = image.get(..place) else {
+        return Err(Fail::new("no such place"));
+    };
+    let line = format!(in alloc; "I2 {place}\n")?;
+    refuses_with(alloc, front, line.as_str())
+}
+
+/// The image has this length, and runs; cut after each of its bytes but the last it does not.
+fn refuses_cuts(alloc: Global, image: &[u8], length: usize) -> Result<(), Fail> {
+    if image.len() != length {
+        return Err(Fail::new(format_args!("an image of {} bytes", image.len())));
+    }
+    runs(alloc, image, SCRIPT, "0 p release\n3 p end\n")?;
+    for place in 0..length {
+        refuses_cut(alloc, image, place)?;
     }
     Ok(())
 }
 
 #[test]
-fn one_byte_changed(rt: HostRuntime) -> Result<(), Fail> {
+fn the_first_version_cut(rt: HostRuntime) -> Result<(), Fail> {
     let alloc = rt.alloc();
-    refuses_changed(alloc, IDLE_FIRST, FIRST_CHANGED)?;
-    refuses_changed(alloc, IDLE_SECOND, SECOND_CHANGED)
+    let image = hex::decode(alloc, IDLE_FIRST)?;
+    refuses_cuts(alloc, image.as_slice(), 98)
 }
 
-/// Both versions, and how many bytes they have.
-const WHOLE: &[(&str, usize)] = &[(IDLE_FIRST, 98), (IDLE_SECOND, 104)];
-
-/// Whole they run; cut after each of their bytes but the last they end inside a field.
 #[test]
-fn cut_after_each_byte(rt: HostRuntime) -> Result<(), Fail> {
+fn the_second_version_cut(rt: HostRuntime) -> Result<(), Fail> {
     let alloc = rt.alloc();
-    for &(digits, length) in WHOLE {
-        let image = hex::decode(alloc, digits)?;
-        assert_eq!(rt; image.len(), length);
-        runs(alloc, image.as_slice(), SCRIPT, "0 p release\n3 p end\n")?;
-        let mut front = Vec::with_capacity(alloc, length)?;
-        for (place, &byte) in image.iter().enumerate() {
-            let fault = format!(in alloc; "I2 {place}")?;
-            refuses(alloc, front.as_slice(), fault.as_str())?;
-            front.push(byte)?;
-        }
-    }
-    Ok(())
+    let image = hex::decode(alloc, IDLE_SECOND)?;
+    refuses_cuts(alloc, image.as_slice(), 104)
 }
 
 /// The first version up to the tree of its process, which begins at 81.
@@ -166,7 +196,15 @@ const UP_TO_TREE: &str =
 /// loop opens a tree with 9 bytes (a count, its tag, its turns), a fork with 5, a stay with 7, where
 /// there is no monitor. At most 130 trees are open inside one another, and one more is refused at
 /// its count, where the bytes do not end inside that. A wait has its tag alone.
-const TREES: &[(&str, &str, usize, &str, &str)] = &[
+type Tree = (
+    &'static str,
+    &'static str,
+    usize,
+    &'static str,
+    &'static str,
+);
+
+const TREES: &[Tree] = &[
     ("", "000000010300000001", 129, "", "I2 1242"),
     ("", "000000010300000001", 130, "", "I2 1251"),
     ("", "000000010300000001", 130, "00", "I2 1252"),
@@ -197,27 +235,46 @@ const TREES: &[(&str, &str, usize, &str, &str)] = &[
     ("00000001", "030000000000000000", 1, "", "I4 86"),
 ];
 
+fn put_times(image: &mut Vec<u8>, bytes: &[u8], times: usize) -> Result<(), Fail> {
+    for _ in 0..times {
+        image.extend_from_slice(bytes)?;
+    }
+    Ok(())
+}
+
 /// Puts bytes, told by their digits, so many times.
 fn put_digits(alloc: Global, image: &mut Vec<u8>, digits: &str, times: usize) -> Result<(), Fail> {
     let bytes = hex::decode(alloc, digits)?;
-    for _ in 0..times {
-        image.extend_from_slice(bytes.as_slice())?;
+    put_times(image, bytes.as_slice(), times)
+}
+
+/// Puts what the row says behind the 81 bytes up to the tree.
+fn put_tree_bytes(alloc: Global, image: &mut Vec<u8>, tree: &Tree) -> Result<(), Fail> {
+    if image.len() != 81 {
+        return Err(Fail::new(format_args!("{} bytes up to the tree", image.len())));
+    }
+    let (front, part, times, tail, _) = *tree;
+    put_digits(alloc, image, front, 1)?;
+    put_digits(alloc, image, part, times)?;
+    put_digits(alloc, image, tail, 1)
+}
+
+fn refuses_tree(alloc: Global, tree: &Tree) -> Result<(), Fail> {
+    let mut image = hex::decode(alloc, UP_TO_TREE)?;
+    put_tree_bytes(alloc, &mut image, tree)?;
+    refuses(alloc, image.as_slice(), tree.4)
+}
+
+fn refuses_trees(alloc: Global, trees: &[Tree]) -> Result<(), Fail> {
+    for tree in trees {
+        refuses_tree(alloc, tree)?;
     }
     Ok(())
 }
 
 #[test]
 fn deep_and_wide_trees(rt: HostRuntime) -> Result<(), Fail> {
-    let alloc = rt.alloc();
-    for &(front, part, times, tail, fault) in TREES {
-        let mut image = hex::decode(alloc, UP_TO_TREE)?;
-        assert_eq!(rt; image.len(), 81);
-        put_digits(alloc, &mut image, front, 1)?;
-        put_digits(alloc, &mut image, part, times)?;
-        put_digits(alloc, &mut image, tail, 1)?;
-        refuses(alloc, image.as_slice(), fault)?;
-    }
-    Ok(())
+    refuses_trees(rt.alloc(), TREES)
 }
 
 /// Loops inside one another, with nothing inside the last one: how many, the turns of each, the
@@ -358,41 +415,51 @@ const NESTS: &[(Nest, &str)] = &[
     ),
 ];
 
-/// The deepest tree that there may be runs; one that is deeper is refused at the tree too many, and
-/// costs that are declared too low are refused.
-#[test]
-fn loops_in_one_another(rt: HostRuntime) -> Result<(), Fail> {
-    let alloc = rt.alloc();
-    let deepest = nest_image(alloc, DEEPEST)?;
-    runs(
-        alloc,
-        deepest.as_slice(),
-        "end 1000\n",
-        "0 p release\n648 p end\n",
-    )?;
-    for &(nest, fault) in NESTS {
-        let image = nest_image(alloc, nest)?;
-        refuses(alloc, image.as_slice(), fault)?;
+fn refuses_nest(alloc: Global, nest: Nest, fault: &str) -> Result<(), Fail> {
+    let image = nest_image(alloc, nest)?;
+    refuses(alloc, image.as_slice(), fault)
+}
+
+fn refuses_nests(alloc: Global, rows: &[(Nest, &str)]) -> Result<(), Fail> {
+    for &(nest, fault) in rows {
+        refuses_nest(alloc, nest, fault)?;
     }
     Ok(())
+}
+
+/// The deepest tree that there may be runs.
+#[test]
+fn the_deepest_tree_runs(rt: HostRuntime) -> Result<(), Fail> {
+    let alloc = rt.alloc();
+    let image = nest_image(alloc, DEEPEST)?;
+    runs(
+        alloc,
+        image.as_slice(),
+        "end 1000\n",
+        "0 p release\n648 p end\n",
+    )
+}
+
+/// One that is deeper is refused at the tree too many, and so are costs that are declared too low.
+#[test]
+fn loops_in_one_another(rt: HostRuntime) -> Result<(), Fail> {
+    refuses_nests(rt.alloc(), NESTS)
+}
+
+/// So many letters that are none of an image are refused with this line.
+fn refuses_letters(alloc: Global, count: usize, put: &str) -> Result<(), Fail> {
+    let image = vec![in alloc; 0x52; count]?;
+    let want = Expected {
+        status: 4,
+        put,
+        puts: None,
+    };
+    answers_on_image(alloc, "run I S", image.as_slice(), SCRIPT, want)
 }
 
 /// A byte more than an image may have is told before all others: the letters are none.
 #[test]
 fn longer_than_an_image_may_be(rt: HostRuntime) -> Result<(), Fail> {
-    let alloc = rt.alloc();
-    let mut image = Vec::with_capacity(alloc, 8_388_609)?;
-    for _ in 0..8_388_608 {
-        image.push(0x52)?;
-    }
-    for fault in ["I1 0\n", "I9 8388608\n"] {
-        let want = Expected {
-            status: 4,
-            put: fault,
-            puts: None,
-        };
-        answers_on_image(alloc, "run I S", image.as_slice(), SCRIPT, want)?;
-        image.push(0x52)?;
-    }
-    Ok(())
+    refuses_letters(rt.alloc(), 8_388_608, "I1 0\n")?;
+    refuses_letters(rt.alloc(), 8_388_609, "I9 8388608\n")
 }

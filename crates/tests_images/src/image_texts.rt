@@ -3,8 +3,8 @@
 use std::alloc::Global;
 use std::test::Fail;
 use tests_calls::{
-    CallResult, Failures, GoCase, IDLE_SECOND, Left, ROWS, VALVE_SECOND, call, call_beside,
-    call_on_image, image_of, lines, with_byte,
+    CallResult, Failures, GoCase, IDLE_SECOND, Left, VALVE_SECOND, call, call_beside,
+    call_on_image, image_of, lines, mine_cases, several_cases, single_cases, with_byte,
 };
 
 const SCRIPT: &str = "end 15\n";
@@ -30,42 +30,63 @@ fn is_assembled<'x>(alloc: Global, text: &'x [u8], image: &'x [u8]) -> Result<()
     call(alloc, "asm P I", text, None)?.left("asm P I", &want)
 }
 
-/// The text that `dis` stores of the image.
-fn told(alloc: Global, image: &[u8]) -> Result<Vec<u8>, Fail> {
-    let CallResult {
-        status,
-        puts,
-        migrated,
-        ..
-    } = call_on_image(alloc, "dis I J", image, SCRIPT)?;
-    if status != 0 || puts != 0 {
-        return Err(Fail::new("the image is not told"));
+/// The text that a call of `dis` stored.
+fn stored_text(made: &CallResult) -> Result<&[u8], Fail> {
+    match &made.migrated {
+        Some(text) if made.status == 0 && made.puts == 0 => Ok(text.as_slice()),
+        _ => Err(Fail::new("the image is not told")),
     }
-    Ok(migrated.ok_or("no text")?)
 }
 
-/// `dis` stores this text of the image.
-fn is_told(alloc: Global, image: &[u8], text: &[u8]) -> Result<(), Fail> {
-    if told(alloc, image)?.as_slice() == text {
+fn has_stored(made: &CallResult, text: &[u8]) -> Result<(), Fail> {
+    if stored_text(made)? == text {
         return Ok(());
     }
     Err(Fail::new("the image has another text"))
 }
 
-#[test]
-fn texts_are_assembled(rt: HostRuntime) -> Result<(), Fail> {
-    let alloc = rt.alloc();
-    let rows = [
-        (IDLE_TEXT, IDLE_SECOND, 104),
-        (VALVE_TEXT, VALVE_SECOND, 142),
-    ];
-    for (text, digits, length) in rows {
-        let image = hex::decode(alloc, digits)?;
-        assert_eq!(rt; image.len(), length);
-        is_assembled(alloc, text.as_bytes(), image.as_slice())?;
-        is_told(alloc, image.as_slice(), text.as_bytes())?;
+/// `dis` stores this text of the image.
+fn is_told(alloc: Global, image: &[u8], text: &[u8]) -> Result<(), Fail> {
+    let made = call_on_image(alloc, "dis I J", image, SCRIPT)?;
+    has_stored(&made, text)
+}
+
+/// Of the text that `dis` stores `asm` makes the image again.
+fn comes_again(alloc: Global, image: &[u8]) -> Result<(), Fail> {
+    let made = call_on_image(alloc, "dis I J", image, SCRIPT)?;
+    is_assembled(alloc, stored_text(&made)?, image)
+}
+
+/// The image has this length, and is that of the text.
+fn is_image(alloc: Global, text: &[u8], image: &[u8], length: usize) -> Result<(), Fail> {
+    if image.len() != length {
+        return Err(Fail::new(format_args!("an image of {} bytes", image.len())));
     }
-    Ok(())
+    is_assembled(alloc, text, image)?;
+    is_told(alloc, image, text)
+}
+
+#[test]
+fn the_smallest_text_is_assembled(rt: HostRuntime) -> Result<(), Fail> {
+    let alloc = rt.alloc();
+    let image = hex::decode(alloc, IDLE_SECOND)?;
+    is_image(alloc, IDLE_TEXT.as_bytes(), image.as_slice(), 104)
+}
+
+#[test]
+fn the_text_of_the_valve_is_assembled(rt: HostRuntime) -> Result<(), Fail> {
+    let alloc = rt.alloc();
+    let image = hex::decode(alloc, VALVE_SECOND)?;
+    is_image(alloc, VALVE_TEXT.as_bytes(), image.as_slice(), 142)
+}
+
+/// The text of the smallest image, where it declares a cost that is too low.
+const CHEAPER_TEXT: &str =
+    "image a overhead 0\nprocess p periodic frame 10 deadline 10 first 0 rank 1 run 3 suspend 0 waits 0 block 0 bound 4 data 0 stack 0 locals 0 start 0\ntree\nEND\nend\n";
+
+fn is_told_cheaper(alloc: Global, image: &[u8]) -> Result<(), Fail> {
+    let cheaper = with_byte(alloc, image, 48, 3)?;
+    is_told(alloc, cheaper.as_slice(), CHEAPER_TEXT.as_bytes())
 }
 
 /// An image that declares a cost that is too low is told, though it is not valid.
@@ -73,9 +94,7 @@ fn texts_are_assembled(rt: HostRuntime) -> Result<(), Fail> {
 fn images_are_told_unverified(rt: HostRuntime) -> Result<(), Fail> {
     let alloc = rt.alloc();
     let image = hex::decode(alloc, IDLE_SECOND)?;
-    let image = with_byte(alloc, image.as_slice(), 48, 3)?;
-    let want = IDLE_TEXT.replace(alloc, "run 4", "run 3")?;
-    is_told(alloc, image.as_slice(), want.as_bytes())
+    is_told_cheaper(alloc, image.as_slice())
 }
 
 /// Words of the smallest text, others in their place, and what is put of that.
@@ -115,66 +134,76 @@ fn is_refused(alloc: Global, right: &str, wrong: &str, put: &str) -> Result<(), 
     is_refused_with(alloc, text.as_str(), put)
 }
 
-#[test]
-fn faulty_texts_are_refused(rt: HostRuntime) -> Result<(), Fail> {
-    for &(right, wrong, put) in FAULTY {
-        is_refused(rt.alloc(), right, wrong, put)?;
+fn are_refused(alloc: Global, rows: &[(&str, &str, &str)]) -> Result<(), Fail> {
+    for &(right, wrong, put) in rows {
+        is_refused(alloc, right, wrong, put)?;
     }
     Ok(())
 }
 
-/// A line of so many loops in one another.
-fn loops(alloc: Global, count: usize) -> Result<String, Fail> {
-    let mut line = String::from_str(alloc, "tree")?;
+#[test]
+fn faulty_texts_are_refused(rt: HostRuntime) -> Result<(), Fail> {
+    are_refused(rt.alloc(), FAULTY)
+}
+
+/// Puts the line of so many loops in one another.
+fn put_loops(line: &mut String, count: usize) -> Result<(), Fail> {
+    line.push_str("tree")?;
     for _ in 0..count {
         line.push_str(" rep 1 (")?;
     }
     for _ in 0..count {
         line.push_str(" )")?;
     }
-    line.push_str("\n")?;
-    Ok(line)
+    Ok(line.push_str("\n")?)
+}
+
+/// So many loops in one another are refused with this line.
+fn loops_are_refused(alloc: Global, count: usize, put: &str) -> Result<(), Fail> {
+    let mut line = String::new(alloc);
+    put_loops(&mut line, count)?;
+    is_refused(alloc, "tree\n", line.as_str(), put)
 }
 
 /// 129 loops are 130 trees in one another, which may be, but the code is not that of the loops.
 #[test]
 fn trees_that_are_too_deep_are_refused(rt: HostRuntime) -> Result<(), Fail> {
     let alloc = rt.alloc();
-    for (count, put) in [(129, "V1 0 0\n"), (130, "A2 3\n"), (131, "A2 3\n")] {
-        let line = loops(alloc, count)?;
-        is_refused(alloc, "tree\n", line.as_str(), put)?;
-    }
-    Ok(())
+    loops_are_refused(alloc, 129, "V1 0 0\n")?;
+    loops_are_refused(alloc, 130, "A2 3\n")?;
+    loops_are_refused(alloc, 131, "A2 3\n")
 }
 
-/// The image of a worked program.
-fn worked_image(alloc: Global, row: &GoCase) -> Result<Vec<u8>, Fail> {
+/// The image of a worked program is there again after it was told.
+fn worked_comes_again(alloc: Global, row: &GoCase) -> Result<(), Fail> {
     let script = lines(alloc, row.script)?;
-    image_of(
-        alloc,
-        row.line,
-        row.program.as_bytes(),
-        Some(script.as_str()),
-    )
+    let program = row.program.as_bytes();
+    let image = image_of(alloc, row.line, program, Some(script.as_str()))?;
+    comes_again(alloc, image.as_slice())
 }
 
-/// Each image of a worked program is there again after it was told.
-#[test]
-fn worked_images_are_told_and_assembled(rt: HostRuntime) -> Result<(), Fail> {
-    let alloc = rt.alloc();
-    for row in ROWS {
+fn come_again(alloc: Global, rows: &[GoCase]) -> Result<(), Fail> {
+    for row in rows {
         if row.status == 0 && row.line.starts_with("go") {
-            let image = worked_image(alloc, row)?;
-            let text = told(alloc, image.as_slice())?;
-            is_assembled(alloc, text.as_slice(), image.as_slice())?;
+            worked_comes_again(alloc, row)?;
         }
     }
     Ok(())
 }
 
+#[test]
+fn worked_images_are_told_and_assembled(rt: HostRuntime) -> Result<(), Fail> {
+    let alloc = rt.alloc();
+    come_again(alloc, several_cases())?;
+    come_again(alloc, single_cases())?;
+    come_again(alloc, mine_cases())
+}
+
 /// A call, which read, write or put fails, the status, and whether a file is written. P holds a
 /// text, S a script and K an image; nothing is put.
-const FAILING: &[(&str, u64, u64, u64, u8, bool)] = &[
+type FailingCall = (&'static str, u64, u64, u64, u8, bool);
+
+const FAILING: &[FailingCall] = &[
     ("asm P I", 1, 0, 0, 6, false),
     ("asm P I", 0, 1, 0, 7, false),
     ("asm P I", 2, 2, 1, 0, true),
@@ -186,29 +215,36 @@ const FAILING: &[(&str, u64, u64, u64, u8, bool)] = &[
     ("watch K S 5", 0, 0, 1, 7, false),
 ];
 
-fn device_fails(
-    alloc: Global,
-    line: &str,
-    image: &[u8],
-    failures: Failures,
-    status: u8,
-    stores: bool,
-) -> Result<(), Fail> {
-    let made = call_beside(alloc, line, IDLE_TEXT, SCRIPT, "K", image, failures)?;
-    let written = made.image.is_some() || made.migrated.is_some();
-    if made.status == status && made.put.is_empty() && written == stores {
+/// The call came to what the row says.
+fn failed_so(made: &CallResult, row: &FailingCall) -> Result<(), Fail> {
+    let (line, .., status, stores) = *row;
+    let stored = made.image.is_some() || made.migrated.is_some();
+    if stored != stores || !made.put.is_empty() {
+        return Err(Fail::new(format_args!("{line}: files are otherwise, or something is put")));
+    }
+    if made.status == status {
         return Ok(());
     }
     Err(Fail::new(format_args!("{line}: status {}, wanted {status}", made.status)))
+}
+
+fn fails_so(alloc: Global, row: &FailingCall, image: &[u8]) -> Result<(), Fail> {
+    let (line, read, write, put, ..) = *row;
+    let failures = Failures { read, write, put };
+    let made = call_beside(alloc, line, IDLE_TEXT, SCRIPT, "K", image, failures)?;
+    failed_so(&made, row)
+}
+
+fn fail_so(alloc: Global, rows: &[FailingCall], image: &[u8]) -> Result<(), Fail> {
+    for row in rows {
+        fails_so(alloc, row, image)?;
+    }
+    Ok(())
 }
 
 #[test]
 fn devices_fail_in_turn(rt: HostRuntime) -> Result<(), Fail> {
     let alloc = rt.alloc();
     let image = hex::decode(alloc, VALVE_SECOND)?;
-    for &(line, read, write, put, status, stores) in FAILING {
-        let failures = Failures { read, write, put };
-        device_fails(alloc, line, image.as_slice(), failures, status, stores)?;
-    }
-    Ok(())
+    fail_so(alloc, FAILING, image.as_slice())
 }

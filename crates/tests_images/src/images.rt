@@ -24,28 +24,80 @@ fn has_answer(
     answers_on_image(alloc, line, image, script, want)
 }
 
-/// `run` of the stored image of the valve with one byte changed.
-fn run_changed(alloc: Global, at: usize, byte: u8, status: u8, put: &str) -> Result<(), Fail> {
-    let image = image_of(alloc, "go P I S", VALVE.as_bytes(), Some("end 0\n"))?;
-    let image = with_byte(alloc, image.as_slice(), at, byte)?;
-    has_answer(alloc, "run I S", image.as_slice(), "end 15\n", status, put)
+/// A byte of an image that is changed, to what, the script, the status of `run`, and what is put.
+struct Changed {
+    at: usize,
+    byte: u8,
+    script: &'static str,
+    status: u8,
+    put: &'static str,
 }
+
+fn runs_changed(alloc: Global, image: &[u8], changed: &Changed) -> Result<(), Fail> {
+    let bytes = with_byte(alloc, image, changed.at, changed.byte)?;
+    let want = Expected {
+        status: changed.status,
+        put: changed.put,
+        puts: None,
+    };
+    answers_on_image(alloc, "run I S", bytes.as_slice(), changed.script, want)
+}
+
+fn run_changed(alloc: Global, image: &[u8], rows: &[Changed]) -> Result<(), Fail> {
+    for changed in rows {
+        runs_changed(alloc, image, changed)?;
+    }
+    Ok(())
+}
+
+/// The stored image of the valve.
+fn stored_image(alloc: Global) -> Result<Vec<u8>, Fail> {
+    image_of(alloc, "go P I S", VALVE.as_bytes(), Some("end 0\n"))
+}
+
+/// Changes of the stored image of the valve.
+const STORED: &[Changed] = &[
+    Changed {
+        at: 55,
+        byte: 15,
+        script: "end 15\n",
+        status: 0,
+        put: "0 p release\n10 p put valve 7\n14 p end\n",
+    },
+    Changed {
+        at: 55,
+        byte: 14,
+        script: "end 15\n",
+        status: 4,
+        put: "V2 14 15\n",
+    },
+    Changed {
+        at: 71,
+        byte: 14,
+        script: "end 15\n",
+        status: 4,
+        put: "V5 14 15\n",
+    },
+];
 
 #[test]
 fn runs_stored_images(rt: HostRuntime) -> Result<(), Fail> {
-    let alloc = rt.alloc();
-    let log = "0 p release\n10 p put valve 7\n14 p end\n";
-    run_changed(alloc, 55, 15, 0, log)?;
-    run_changed(alloc, 55, 14, 4, "V2 14 15\n")?;
-    run_changed(alloc, 71, 14, 4, "V5 14 15\n")
+    let image = stored_image(rt.alloc())?;
+    run_changed(rt.alloc(), image.as_slice(), STORED)
 }
 
 #[test]
-fn refuses_bytes_that_are_no_image(rt: HostRuntime) -> Result<(), Fail> {
+fn refuses_a_byte_behind_an_image(rt: HostRuntime) -> Result<(), Fail> {
     let alloc = rt.alloc();
-    let mut image = image_of(alloc, "go P I S", VALVE.as_bytes(), Some("end 0\n"))?;
+    let mut image = stored_image(alloc)?;
     image.push(0)?;
-    has_answer(alloc, "migrate I J", image.as_slice(), "", 4, "I3 142\n")?;
+    has_answer(alloc, "migrate I J", image.as_slice(), "", 4, "I3 142\n")
+}
+
+#[test]
+fn refuses_an_image_that_is_cut(rt: HostRuntime) -> Result<(), Fail> {
+    let alloc = rt.alloc();
+    let mut image = stored_image(alloc)?;
     image.truncate(141);
     has_answer(
         alloc,
@@ -57,25 +109,31 @@ fn refuses_bytes_that_are_no_image(rt: HostRuntime) -> Result<(), Fail> {
     )
 }
 
+/// A program of which an overhead of one tick leaves nothing over.
+const FULL: &str =
+    "program a device valve : out process p : periodic frame 17 begin put valve 7 end p end a";
+
+/// Its image, where the overhead is one tick more.
+const SLOWER: Changed = Changed {
+    at: 7,
+    byte: 2,
+    script: "end 17\n",
+    status: 4,
+    put: "V2 17 19\n",
+};
+
 #[test]
 fn an_overhead_is_part_of_the_image(rt: HostRuntime) -> Result<(), Fail> {
     let alloc = rt.alloc();
-    let program =
-        "program a device valve : out process p : periodic frame 17 begin put valve 7 end p end a";
-    let image = image_of(alloc, "compile P I 1", program.as_bytes(), None)?;
-    let image = with_byte(alloc, image.as_slice(), 7, 2)?;
-    has_answer(
-        alloc,
-        "run I S",
-        image.as_slice(),
-        "end 17\n",
-        4,
-        "V2 17 19\n",
-    )
+    let image = image_of(alloc, "compile P I 1", FULL.as_bytes(), None)?;
+    runs_changed(alloc, image.as_slice(), &SLOWER)
 }
 
-/// `migrate` of the first image stores the second.
+/// `migrate` of the first image, which has 98 bytes, stores the second.
 fn migrates<'x>(alloc: Global, first: &'x [u8], second: &'x [u8]) -> Result<(), Fail> {
+    if first.len() != 98 {
+        return Err(Fail::new(format_args!("an image of {} bytes", first.len())));
+    }
     let want = Left {
         status: 0,
         put: "",
@@ -92,7 +150,6 @@ fn migrates_the_first_version(rt: HostRuntime) -> Result<(), Fail> {
     let alloc = rt.alloc();
     let first = hex::decode(alloc, IDLE_FIRST)?;
     let second = hex::decode(alloc, IDLE_SECOND)?;
-    assert_eq!(rt; first.len(), 98);
     migrates(alloc, first.as_slice(), second.as_slice())
 }
 
@@ -101,8 +158,21 @@ fn runs_the_first_version(rt: HostRuntime) -> Result<(), Fail> {
     let alloc = rt.alloc();
     let first = hex::decode(alloc, IDLE_FIRST)?;
     let log = "0 p release\n3 p end\n";
-    has_answer(alloc, "run I S", first.as_slice(), "end 10\n", 0, log)?;
+    has_answer(alloc, "run I S", first.as_slice(), "end 10\n", 0, log)
+}
+
+/// A deadline that is a tick behind the frame.
+const TOO_LATE: Changed = Changed {
+    at: 36,
+    byte: 11,
+    script: "end 10\n",
+    status: 4,
+    put: "I4 33\n",
+};
+
+#[test]
+fn refuses_a_deadline_behind_the_frame(rt: HostRuntime) -> Result<(), Fail> {
+    let alloc = rt.alloc();
     let second = hex::decode(alloc, IDLE_SECOND)?;
-    let late = with_byte(alloc, second.as_slice(), 36, 11)?;
-    has_answer(alloc, "run I S", late.as_slice(), "end 10\n", 4, "I4 33\n")
+    runs_changed(alloc, second.as_slice(), &TOO_LATE)
 }

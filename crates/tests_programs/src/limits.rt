@@ -1,161 +1,202 @@
 //! Programs at the limits: most processes, most routines, longest loops, through the top call.
 
 use std::alloc::Global;
+use std::fmt::Write;
 use std::test::Fail;
-use tests_calls::{Expected, answers, lines};
+use tests_calls::{Expected, answers};
 
-/// So many processes that do nothing, all released at tick 0.
-fn idle_processes(alloc: Global, count: u64, frame: u64) -> Result<String, Fail> {
-    let mut text = String::from_str(alloc, "program a")?;
+/// Puts so many processes that do nothing, all released at tick 0.
+fn put_idle_processes(text: &mut String, count: u64, frame: u64) -> Result<(), Fail> {
+    text.push_str("program a")?;
     for k in 0..count {
-        let process = format!(in alloc; " process p{k} : periodic frame {frame} begin end p{k}")?;
-        text.push_str(process.as_str())?;
+        write!(
+            text,
+            " process p{k} : periodic frame {frame} begin end p{k}"
+        )?;
     }
-    text.push_str(" end a")?;
-    Ok(text)
+    Ok(text.push_str(" end a")?)
 }
 
-/// Their report, where each has the same cost, code and stack, and so many have a bound: each takes
-/// its turn behind those before it.
-fn report_of_equals(
-    alloc: Global,
+/// Processes that all have the same frame, cost and stack, and how many of them have a bound.
+#[derive(Clone, Copy)]
+struct Equals {
     frame: u64,
     cost: u64,
+    stack: u64,
     timely: u64,
-    last: &str,
-) -> Result<String, Fail> {
-    let mut text = String::from_str(alloc, "program a\n")?;
-    let stack = if cost == 4 { 0 } else { 1 };
-    for k in 0..64 {
-        let rank = k + 1;
-        let bound = if k < timely {
-            format!(in alloc; "{}", rank.saturating_mul(cost))?
-        } else {
-            String::from_str(alloc, "none")?
-        };
-        let row = format!(in alloc;
-            "process p{k} frame {frame} rank {rank} cost {cost} suspend 0 waits 0 block 0 bound {bound} data 0 stack {stack}\n"
-        )?;
-        text.push_str(row.as_str())?;
+}
+
+/// Puts the line of one of them: each takes its turn behind those before it.
+fn put_row(report: &mut String, equals: Equals, k: u64) -> Result<(), Fail> {
+    let Equals {
+        frame,
+        cost,
+        stack,
+        timely,
+    } = equals;
+    let rank = k.saturating_add(1);
+    write!(
+        report,
+        "process p{k} frame {frame} rank {rank} cost {cost} suspend 0 waits 0 block 0 bound "
+    )?;
+    if k < timely {
+        write!(report, "{}", rank.saturating_mul(cost))?;
+    } else {
+        report.push_str("none")?;
     }
-    text.push_str(last)?;
-    Ok(text)
+    Ok(write!(report, " data 0 stack {stack}\n")?)
+}
+
+/// Puts the report of 64 of them, which ends so.
+fn put_report(report: &mut String, equals: Equals, last: &str) -> Result<(), Fail> {
+    report.push_str("program a\n")?;
+    for k in 0..64 {
+        put_row(report, equals, k)?;
+    }
+    Ok(report.push_str(last)?)
+}
+
+/// Idle processes that are timely, just so.
+const IDLE: Equals = Equals {
+    frame: 256,
+    cost: 4,
+    stack: 0,
+    timely: 64,
+};
+
+/// Puts the report and the log of 64 idle processes that are timely.
+fn put_idle_run(put: &mut String) -> Result<(), Fail> {
+    put_report(put, IDLE, "code 64\ntimely\n")?;
+    for k in 0..64 {
+        write!(put, "0 p{k} release\n")?;
+    }
+    for k in 0_u64..64 {
+        write!(put, "{} p{k} end\n", 4 * k + 3)?;
+    }
+    Ok(())
+}
+
+/// So many idle processes of a frame have this answer.
+fn idle_answers(
+    alloc: Global,
+    count: u64,
+    frame: u64,
+    script: &str,
+    want: Expected<'_>,
+) -> Result<(), Fail> {
+    let mut program = String::new(alloc);
+    put_idle_processes(&mut program, count, frame)?;
+    answers(alloc, "go P I S", program.as_bytes(), Some(script), want)
 }
 
 #[test]
 fn all_released_at_one_tick(rt: HostRuntime) -> Result<(), Fail> {
     let alloc = rt.alloc();
-    let program = idle_processes(alloc, 64, 256)?;
-    let mut want = report_of_equals(alloc, 256, 4, 64, "code 64\ntimely\n")?;
-    for k in 0..64 {
-        let line = format!(in alloc; "0 p{k} release\n")?;
-        want.push_str(line.as_str())?;
-    }
-    for k in 0_u64..64 {
-        let line = format!(in alloc; "{} p{k} end\n", 4 * k + 3)?;
-        want.push_str(line.as_str())?;
-    }
-    let answer = Expected {
+    let mut put = String::new(alloc);
+    put_idle_run(&mut put)?;
+    let want = Expected {
         status: 0,
-        put: want.as_str(),
+        put: put.as_str(),
         puts: Some(129),
     };
-    answers(
-        alloc,
-        "go P I S",
-        program.as_bytes(),
-        Some("end 256\n"),
-        answer,
-    )
+    idle_answers(alloc, 64, 256, "end 256\n", want)
 }
 
-/// So many idle processes of a frame have this answer.
-fn idle_answers(alloc: Global, count: u64, frame: u64, status: u8, put: &str) -> Result<(), Fail> {
-    let program = idle_processes(alloc, count, frame)?;
-    let answer = Expected {
-        status,
-        put,
+/// A tick less, and the last one is late.
+#[test]
+fn one_tick_less(rt: HostRuntime) -> Result<(), Fail> {
+    let alloc = rt.alloc();
+    let late = Equals {
+        frame: 255,
+        timely: 63,
+        ..IDLE
+    };
+    let mut put = String::new(alloc);
+    put_report(&mut put, late, "code 64\nuntimely p63\n")?;
+    let want = Expected {
+        status: 3,
+        put: put.as_str(),
         puts: None,
     };
-    answers(
-        alloc,
-        "go P I S",
-        program.as_bytes(),
-        Some("end 9\n"),
-        answer,
-    )
+    idle_answers(alloc, 64, 255, "end 9\n", want)
 }
 
-/// A tick less, and the last one is late; a process more, and there are too many.
+/// A process more, and there are too many.
 #[test]
-fn one_tick_less_or_one_process_more(rt: HostRuntime) -> Result<(), Fail> {
-    let alloc = rt.alloc();
-    let late = report_of_equals(alloc, 255, 4, 63, "code 64\nuntimely p63\n")?;
-    idle_answers(alloc, 64, 255, 3, late.as_str())?;
-    idle_answers(alloc, 65, 256, 2, "E40 1:3007\n")
+fn one_process_more(rt: HostRuntime) -> Result<(), Fail> {
+    let want = Expected {
+        status: 2,
+        put: "E40 1:3007\n",
+        puts: None,
+    };
+    idle_answers(rt.alloc(), 65, 256, "end 9\n", want)
 }
 
-/// 64 events, each with a device to which its process puts a number.
-fn putting_processes(alloc: Global) -> Result<String, Fail> {
-    let mut text = String::from_str(alloc, "program a")?;
+/// Puts 64 events, each with a device to which its process puts a number.
+fn put_events(text: &mut String) -> Result<(), Fail> {
+    text.push_str("program a")?;
     for k in 0..64 {
-        let process = format!(in alloc;
-            " event e{k} device d{k} : out process p{k} : atEvent e{k} frame 960 begin put d{k} {k} end p{k}"
+        write!(text, " event e{k} device d{k} : out")?;
+        write!(
+            text,
+            " process p{k} : atEvent e{k} frame 960 begin put d{k} {k} end p{k}"
         )?;
-        text.push_str(process.as_str())?;
     }
-    text.push_str(" end a")?;
-    Ok(text)
+    Ok(text.push_str(" end a")?)
 }
 
-/// The script: all events occur at tick 5, the last one first.
-fn all_at_once(alloc: Global) -> Result<String, Fail> {
-    let mut script = String::new(alloc);
+/// Puts the script: all events occur at tick 5, the last one first.
+fn put_script(script: &mut String) -> Result<(), Fail> {
     for k in 0_u64..64 {
-        let number = 63 - k;
-        let line = format!(in alloc; "5 event e{number}\n")?;
-        script.push_str(line.as_str())?;
+        write!(script, "5 event e{}\n", 63 - k)?;
     }
-    script.push_str("end 965\n")?;
-    Ok(script)
+    Ok(script.push_str("end 965\n")?)
 }
 
-/// Its log.
-fn log_all_at_once(alloc: Global, log: &mut String) -> Result<(), Fail> {
+const PUTTING: Equals = Equals {
+    frame: 960,
+    cost: 15,
+    stack: 1,
+    timely: 64,
+};
+
+/// Puts the report and the log: the processes run by their ranks.
+fn put_run(put: &mut String) -> Result<(), Fail> {
+    put_report(put, PUTTING, "code 192\ntimely\n")?;
     for k in 0_u64..64 {
-        let number = 63 - k;
-        let release = format!(in alloc; "5 p{number} release\n")?;
-        log.push_str(release.as_str())?;
+        write!(put, "5 p{} release\n", 63 - k)?;
     }
     for k in 0_u64..64 {
-        let put = 15 * k + 15;
-        let end = 15 * k + 19;
-        let lines = format!(in alloc; "{put} p{k} put d{k} {k}\n{end} p{k} end\n")?;
-        log.push_str(lines.as_str())?;
+        write!(
+            put,
+            "{} p{k} put d{k} {k}\n{} p{k} end\n",
+            15 * k + 15,
+            15 * k + 19
+        )?;
     }
     Ok(())
 }
 
-/// The events occur at tick 5, the last one first; the processes run by their ranks.
+/// The program over the script has this answer.
+fn events_answer(alloc: Global, program: &str, script: &str) -> Result<(), Fail> {
+    let mut put = String::new(alloc);
+    put_run(&mut put)?;
+    let want = Expected {
+        status: 0,
+        put: put.as_str(),
+        puts: Some(193),
+    };
+    answers(alloc, "go P I S", program.as_bytes(), Some(script), want)
+}
+
 #[test]
 fn all_events_at_one_tick(rt: HostRuntime) -> Result<(), Fail> {
     let alloc = rt.alloc();
-    let program = putting_processes(alloc)?;
-    let script = all_at_once(alloc)?;
-    let mut want = report_of_equals(alloc, 960, 15, 64, "code 192\ntimely\n")?;
-    log_all_at_once(alloc, &mut want)?;
-    let answer = Expected {
-        status: 0,
-        put: want.as_str(),
-        puts: Some(193),
-    };
-    answers(
-        alloc,
-        "go P I S",
-        program.as_bytes(),
-        Some(script.as_str()),
-        answer,
-    )
+    let mut program = String::new(alloc);
+    put_events(&mut program)?;
+    let mut script = String::new(alloc);
+    put_script(&mut script)?;
+    events_answer(alloc, program.as_str(), script.as_str())
 }
 
 /// In which order the routines of a chain stand in the text.
@@ -165,196 +206,218 @@ enum Order {
     CallerFirst,
 }
 
-/// A chain of routines, each of which calls the next one so many times.
+/// A chain of routines, each of which calls the next one so many times; a call on its program,
+/// which has a process of this frame, a script, the status and what is put.
+#[derive(Clone, Copy)]
 struct Chain {
     routines: u64,
     calls: u64,
     frame: u64,
+    line: &'static str,
+    script: Option<&'static str>,
     status: u8,
     put: &'static str,
 }
+
+const ONCE: Chain = Chain {
+    routines: 512,
+    calls: 1,
+    frame: 5124,
+    line: "go P I S",
+    script: Some("end 5124\n"),
+    status: 0,
+    put: "",
+};
+
+const OFTEN: Chain = Chain {
+    calls: 2,
+    frame: 1_000_000_000,
+    script: Some("end 1\n"),
+    status: 3,
+    ..ONCE
+};
+
+const REFUSED: Chain = Chain {
+    line: "check P",
+    script: None,
+    status: 2,
+    ..OFTEN
+};
 
 /// A routine that does nothing costs the 4 ticks of its RET; one that calls it costs 10 more for a
 /// call, and takes two words more of the stack.
 const CHAINS: &[Chain] = &[
     Chain {
-        routines: 512,
-        calls: 1,
-        frame: 5124,
-        status: 0,
-        put: "program a|process p frame 5124 rank 1 cost 5124 suspend 0 waits 0 block 0 bound 5124 data 0 stack 1024|code 1025|timely|0 p release|5123 p end",
+        put: "program a\nprocess p frame 5124 rank 1 cost 5124 suspend 0 waits 0 block 0 bound 5124 data 0 stack 1024\ncode 1025\ntimely\n0 p release\n5123 p end\n",
+        ..ONCE
     },
     Chain {
-        routines: 512,
-        calls: 1,
         frame: 5123,
         status: 3,
-        put: "program a|process p frame 5123 rank 1 cost 5124 suspend 0 waits 0 block 0 bound none data 0 stack 1024|code 1025|untimely p",
+        put: "program a\nprocess p frame 5123 rank 1 cost 5124 suspend 0 waits 0 block 0 bound none data 0 stack 1024\ncode 1025\nuntimely p\n",
+        ..ONCE
     },
     Chain {
         routines: 26,
-        calls: 2,
-        frame: 1_000_000_000,
         status: 0,
-        put: "program a|process p frame 1000000000 rank 1 cost 671088634 suspend 0 waits 0 block 0 bound 671088634 data 0 stack 52|code 78|timely|0 p release",
+        put: "program a\nprocess p frame 1000000000 rank 1 cost 671088634 suspend 0 waits 0 block 0 bound 671088634 data 0 stack 52\ncode 78\ntimely\n0 p release\n",
+        ..OFTEN
     },
     Chain {
         routines: 27,
-        calls: 2,
-        frame: 1_000_000_000,
-        status: 3,
-        put: "program a|process p frame 1000000000 rank 1 cost over suspend 0 waits 0 block 0 bound none data 0 stack 54|code 81|untimely p",
+        put: "program a\nprocess p frame 1000000000 rank 1 cost over suspend 0 waits 0 block 0 bound none data 0 stack 54\ncode 81\nuntimely p\n",
+        ..OFTEN
     },
     Chain {
         routines: 512,
-        calls: 2,
-        frame: 1_000_000_000,
-        status: 3,
-        put: "program a|process p frame 1000000000 rank 1 cost over suspend 0 waits 0 block 0 bound none data 0 stack 1024|code 1536|untimely p",
+        put: "program a\nprocess p frame 1000000000 rank 1 cost over suspend 0 waits 0 block 0 bound none data 0 stack 1024\ncode 1536\nuntimely p\n",
+        ..OFTEN
     },
     Chain {
         routines: 512,
         calls: 8,
-        frame: 1_000_000_000,
-        status: 3,
-        put: "program a|process p frame 1000000000 rank 1 cost over suspend 0 waits 0 block 0 bound none data 0 stack 1024|code 4602|untimely p",
+        put: "program a\nprocess p frame 1000000000 rank 1 cost over suspend 0 waits 0 block 0 bound none data 0 stack 1024\ncode 4602\nuntimely p\n",
+        ..OFTEN
     },
 ];
 
-/// The routine that calls the one before it, if there is one.
-fn link(alloc: Global, number: u64, calls: u64) -> Result<String, Fail> {
-    let mut body = String::new(alloc);
-    if number > 0 {
-        let call = format!(in alloc; "f{}() ", number - 1)?;
+/// Puts the routine that calls the one before it so many times, if there is one.
+fn put_link(text: &mut String, number: u64, calls: u64) -> Result<(), Fail> {
+    write!(text, " procedure f{number}() begin ")?;
+    if let Some(before) = number.checked_sub(1) {
         for _ in 0..calls {
-            body.push_str(call.as_str())?;
+            write!(text, "f{before}() ")?;
         }
     }
-    Ok(format!(in alloc; " procedure f{number}() begin {body}end f{number}")?)
+    Ok(write!(text, "end f{number}")?)
 }
 
-fn chain_text(
-    alloc: Global,
-    order: Order,
-    routines: u64,
-    calls: u64,
-    frame: u64,
-) -> Result<String, Fail> {
-    let mut text = String::from_str(alloc, "program a")?;
-    for k in 0..routines {
+/// Puts the program of a chain.
+fn put_chain(text: &mut String, chain: &Chain, order: Order) -> Result<(), Fail> {
+    let last = chain.routines.saturating_sub(1);
+    text.push_str("program a")?;
+    for k in 0..chain.routines {
         let number = match order {
             Order::CalledFirst => k,
-            Order::CallerFirst => routines - 1 - k,
+            Order::CallerFirst => last.saturating_sub(k),
         };
-        text.push_str(link(alloc, number, calls)?.as_str())?;
+        put_link(text, number, chain.calls)?;
     }
-    let last = routines.saturating_sub(1);
-    let process = format!(in alloc;
+    let frame = chain.frame;
+    Ok(write!(
+        text,
         " process p : periodic frame {frame} begin f{last}() end p end a"
-    )?;
-    text.push_str(process.as_str())?;
-    Ok(text)
+    )?)
 }
 
-/// The chain has the answer of the row in this order too.
-fn chain_answers(alloc: Global, row: &Chain, order: Order) -> Result<(), Fail> {
-    let program = chain_text(alloc, order, row.routines, row.calls, row.frame)?;
-    let want = lines(alloc, row.put)?;
-    let script = if row.calls == 1 {
-        "end 5124\n"
-    } else {
-        "end 1\n"
-    };
-    let answer = Expected {
-        status: row.status,
-        put: want.as_str(),
+/// The program of the chain has the answer of the row.
+fn program_answers(alloc: Global, chain: &Chain, program: &str) -> Result<(), Fail> {
+    let want = Expected {
+        status: chain.status,
+        put: chain.put,
         puts: None,
     };
-    answers(alloc, "go P I S", program.as_bytes(), Some(script), answer)
+    answers(alloc, chain.line, program.as_bytes(), chain.script, want)
+}
+
+fn chain_answers(alloc: Global, chain: &Chain, order: Order) -> Result<(), Fail> {
+    let mut program = String::new(alloc);
+    put_chain(&mut program, chain, order)?;
+    program_answers(alloc, chain, program.as_str())
+}
+
+/// Each chain has its answer in this order.
+fn chains_answer(alloc: Global, chains: &[Chain], order: Order) -> Result<(), Fail> {
+    for chain in chains {
+        chain_answers(alloc, chain, order)?;
+    }
+    Ok(())
 }
 
 #[test]
 fn chains_of_routines(rt: HostRuntime) -> Result<(), Fail> {
-    let alloc = rt.alloc();
-    for row in CHAINS {
-        chain_answers(alloc, row, Order::CalledFirst)?;
-        chain_answers(alloc, row, Order::CallerFirst)?;
-    }
-    Ok(())
+    chains_answer(rt.alloc(), CHAINS, Order::CalledFirst)
+}
+
+#[test]
+fn chains_of_routines_that_come_later(rt: HostRuntime) -> Result<(), Fail> {
+    chains_answer(rt.alloc(), CHAINS, Order::CallerFirst)
 }
 
 /// A routine too many, told at its name, and instructions too many, told at that of the program.
-const TOO_LONG: &[(u64, u64, &str)] = &[(513, 1, "E42 1:19652\n"), (512, 128, "E46 1:9\n")];
+const TOO_LONG: &[Chain] = &[
+    Chain {
+        routines: 513,
+        calls: 1,
+        put: "E42 1:19652\n",
+        ..REFUSED
+    },
+    Chain {
+        routines: 512,
+        calls: 128,
+        put: "E46 1:9\n",
+        ..REFUSED
+    },
+];
 
 #[test]
 fn chains_that_are_too_long(rt: HostRuntime) -> Result<(), Fail> {
-    let alloc = rt.alloc();
-    for &(routines, calls, fault) in TOO_LONG {
-        let program = chain_text(alloc, Order::CalledFirst, routines, calls, 1_000_000_000)?;
-        let answer = Expected {
-            status: 2,
-            put: fault,
-            puts: None,
-        };
-        answers(alloc, "check P", program.as_bytes(), None, answer)?;
-    }
-    Ok(())
+    chains_answer(rt.alloc(), TOO_LONG, Order::CalledFirst)
 }
 
-/// Loops of 1,000,000 turns inside one another, so many; what is put of them.
-const LOOPS: &[(u64, u8, &str)] = &[
+/// Loops of 1,000,000 turns inside one another, so many; the status, and what is put of them.
+type Nested = (u64, u8, &'static str);
+
+const LOOPS: &[Nested] = &[
     (
         1,
         0,
-        "program a|process p frame 1000000000 rank 1 cost 10000009 suspend 0 waits 0 block 0 bound 10000009 data 0 stack 4|code 9|timely|0 p release",
+        "program a\nprocess p frame 1000000000 rank 1 cost 10000009 suspend 0 waits 0 block 0 bound 10000009 data 0 stack 4\ncode 9\ntimely\n0 p release\n",
     ),
     (
         3,
         3,
-        "program a|process p frame 1000000000 rank 1 cost over suspend 0 waits 0 block 0 bound none data 0 stack 8|code 25|untimely p",
+        "program a\nprocess p frame 1000000000 rank 1 cost over suspend 0 waits 0 block 0 bound none data 0 stack 8\ncode 25\nuntimely p\n",
     ),
     (
         64,
         3,
-        "program a|process p frame 1000000000 rank 1 cost over suspend 0 waits 0 block 0 bound none data 0 stack 130|code 513|untimely p",
+        "program a\nprocess p frame 1000000000 rank 1 cost over suspend 0 waits 0 block 0 bound none data 0 stack 130\ncode 513\nuntimely p\n",
     ),
-    (65, 2, "E11 1:1709"),
+    (65, 2, "E11 1:1709\n"),
 ];
 
-fn nested_loops(alloc: Global, depth: u64) -> Result<String, Fail> {
-    let mut text = String::from_str(
-        alloc,
-        "program a process p : periodic frame 1000000000 begin",
-    )?;
+/// Puts a program of so many loops inside one another.
+fn put_loops(text: &mut String, depth: u64) -> Result<(), Fail> {
+    text.push_str("program a process p : periodic frame 1000000000 begin")?;
     for k in 0..depth {
-        let head = format!(in alloc; " for i{k} : 1 .. 1000000 do")?;
-        text.push_str(head.as_str())?;
+        write!(text, " for i{k} : 1 .. 1000000 do")?;
     }
     for _ in 0..depth {
         text.push_str(" end for")?;
     }
-    text.push_str(" end p end a")?;
-    Ok(text)
+    Ok(text.push_str(" end p end a")?)
+}
+
+fn loops_answer(alloc: Global, depth: u64, status: u8, put: &str) -> Result<(), Fail> {
+    let mut program = String::new(alloc);
+    put_loops(&mut program, depth)?;
+    let want = Expected {
+        status,
+        put,
+        puts: None,
+    };
+    answers(alloc, "go P I S", program.as_bytes(), Some("end 1\n"), want)
+}
+
+fn all_loops_answer(alloc: Global, rows: &[Nested]) -> Result<(), Fail> {
+    for &(depth, status, put) in rows {
+        loops_answer(alloc, depth, status, put)?;
+    }
+    Ok(())
 }
 
 #[test]
 fn loops_of_a_million_turns(rt: HostRuntime) -> Result<(), Fail> {
-    let alloc = rt.alloc();
-    for &(depth, status, bars) in LOOPS {
-        let program = nested_loops(alloc, depth)?;
-        let want = lines(alloc, bars)?;
-        let answer = Expected {
-            status,
-            put: want.as_str(),
-            puts: None,
-        };
-        answers(
-            alloc,
-            "go P I S",
-            program.as_bytes(),
-            Some("end 1\n"),
-            answer,
-        )?;
-    }
-    Ok(())
+    all_loops_answer(rt.alloc(), LOOPS)
 }

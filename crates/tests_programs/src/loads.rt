@@ -22,8 +22,12 @@ fn text_of(file: &Option<Vec<u8>>) -> &[u8] {
     }
 }
 
-/// How many lines the bytes have, how many they are, and their mark.
-fn told(alloc: Global, log: &[u8]) -> Result<String, Fail> {
+/// The line of a load, by what `go` puts of its texts: how many lines its log has, how many bytes,
+/// and their mark. The log stands behind the report, which has so many bytes.
+fn log_line(alloc: Global, front: &str, went: &[u8], report: usize) -> Result<String, Fail> {
+    let Some(log) = went.get(report..) else {
+        return Err(Fail::new("no log behind the report"));
+    };
     let mut lines: u64 = 0;
     let mut mark: u32 = 0;
     for byte in log {
@@ -33,29 +37,22 @@ fn told(alloc: Global, log: &[u8]) -> Result<String, Fail> {
         mark = mark.wrapping_mul(31).wrapping_add(u32::from(*byte));
     }
     let bytes = log.len();
-    Ok(format!(in alloc; "{lines} bytes {bytes} mark {mark}\n")?)
+    Ok(format!(in alloc; "{front}{lines} bytes {bytes} mark {mark}\n")?)
 }
 
-/// The line of a load, by what `check` and `go` put of its texts.
+/// The line of a load, by its texts.
 fn load_line(alloc: Global, front: &str, program: &[u8], script: &str) -> Result<String, Fail> {
-    let report = put_of(alloc, "check P", program, None)?;
+    let report = put_of(alloc, "check P", program, None)?.len();
     let went = put_of(alloc, "go P I S", program, Some(script))?;
-    let Some(log) = went.as_slice().get(report.len()..) else {
-        return Err(Fail::new("no log behind the report"));
-    };
-    let told = told(alloc, log)?;
-    Ok(format!(in alloc; "{front}{}", told.as_str())?)
+    log_line(alloc, front, went.as_slice(), report)
 }
 
-/// The texts of a load are those of a timely program and of a script for it, and its line tells of
-/// the log that `go` puts behind the report; the same words make the same load.
-fn is_load(alloc: Global, line: &str, front: &str, made: &CallResult) -> Result<(), Fail> {
+/// The call put this; so does another of the same words, and the program is printed as it is.
+fn is_made(alloc: Global, line: &str, made: &CallResult, put: &str) -> Result<(), Fail> {
     let program = text_of(&made.program);
-    let script = str::from_utf8(text_of(&made.script))?;
-    let put = load_line(alloc, front, program, script)?;
     let want = Expected {
         status: 0,
-        put: put.as_str(),
+        put,
         puts: Some(1),
     };
     made.answered(alloc, line, want)?;
@@ -67,14 +64,29 @@ fn is_load(alloc: Global, line: &str, front: &str, made: &CallResult) -> Result<
     answers(alloc, "print P", program, None, printed)
 }
 
-#[test]
-fn loads_are_made(rt: HostRuntime) -> Result<(), Fail> {
-    let alloc = rt.alloc();
-    for &(line, front) in LOADS {
-        let made = call(alloc, line, b"", None)?;
-        is_load(alloc, line, front, &made)?;
+/// The texts of a load are those of a timely program and of a script for it, and its line tells of
+/// the log that `go` puts behind the report; the same words make the same load.
+fn is_load(alloc: Global, line: &str, front: &str, made: &CallResult) -> Result<(), Fail> {
+    let script = str::from_utf8(text_of(&made.script))?;
+    let put = load_line(alloc, front, text_of(&made.program), script)?;
+    is_made(alloc, line, made, put.as_str())
+}
+
+fn makes_load(alloc: Global, line: &str, front: &str) -> Result<(), Fail> {
+    let made = call(alloc, line, b"", None)?;
+    is_load(alloc, line, front, &made)
+}
+
+fn make_loads(alloc: Global, rows: &[(&str, &str)]) -> Result<(), Fail> {
+    for &(line, front) in rows {
+        makes_load(alloc, line, front)?;
     }
     Ok(())
+}
+
+#[test]
+fn loads_are_made(rt: HostRuntime) -> Result<(), Fail> {
+    make_loads(rt.alloc(), LOADS)
 }
 
 const NO_WRITE: Failures = Failures {
@@ -108,37 +120,51 @@ fn kept(text: &[u8], stored: bool) -> Option<&[u8]> {
     Some(if stored { text } else { BEFORE.as_bytes() })
 }
 
-/// One row, where `whole` is the call in which nothing fails.
-fn make_fails(
+/// The call leaves what is wanted, where P holds the program, and S the text from before if it is
+/// there.
+fn leaves(
     alloc: Global,
-    whole: &CallResult,
+    line: &str,
+    program: &str,
+    script: Option<&str>,
+    failures: Failures,
+    want: &Left<'_>,
+) -> Result<(), Fail> {
+    call_with(alloc, line, program.as_bytes(), script, failures)?.left(line, want)
+}
+
+/// One row, where `whole` is the call in which nothing fails, and `put` what it puts.
+fn make_fails<'x>(
+    alloc: Global,
+    whole: &'x CallResult,
+    put: &'x str,
     row: &(Failures, u8, bool, bool),
 ) -> Result<(), Fail> {
     let (failures, status, program, script) = *row;
     let want = Left {
         status,
-        put: if status == 0 {
-            str::from_utf8(whole.put.as_slice())?
-        } else {
-            ""
-        },
+        put: if status == 0 { put } else { "" },
         program: kept(text_of(&whole.program), program),
         script: kept(text_of(&whole.script), script),
         image: None,
         migrated: None,
     };
-    let line = "make 7 2 P S";
-    call_with(alloc, line, BEFORE.as_bytes(), Some(BEFORE), failures)?.left(line, &want)
+    leaves(alloc, "make 7 2 P S", BEFORE, Some(BEFORE), failures, &want)
+}
+
+fn make_fails_in_turn(alloc: Global, whole: &CallResult) -> Result<(), Fail> {
+    let put = str::from_utf8(whole.put.as_slice())?;
+    for row in FAILING {
+        make_fails(alloc, whole, put, row)?;
+    }
+    Ok(())
 }
 
 #[test]
 fn each_device_call_of_make_fails_in_turn(rt: HostRuntime) -> Result<(), Fail> {
     let alloc = rt.alloc();
     let whole = call(alloc, "make 7 2 P S", BEFORE.as_bytes(), Some(BEFORE))?;
-    for row in FAILING {
-        make_fails(alloc, &whole, row)?;
-    }
-    Ok(())
+    make_fails_in_turn(alloc, &whole)
 }
 
 /// The program is stored first: where both words are one, the script stands there.
@@ -151,7 +177,7 @@ fn holds_the_script(alloc: Global, apart: &CallResult) -> Result<(), Fail> {
         image: None,
         migrated: None,
     };
-    call(alloc, "make 7 2 P P", b"", Some(BEFORE))?.left("make 7 2 P P", &want)
+    leaves(alloc, "make 7 2 P P", "", Some(BEFORE), NO_FAILURES, &want)
 }
 
 #[test]
@@ -174,8 +200,7 @@ const NO_LOADS: &[&str] = &[
     "make 7 2 P -S",
 ];
 
-#[test]
-fn other_words_make_nothing(rt: HostRuntime) -> Result<(), Fail> {
+fn make_nothing(alloc: Global, words: &[&str]) -> Result<(), Fail> {
     let want = Left {
         status: 1,
         put: "usage\n",
@@ -184,8 +209,13 @@ fn other_words_make_nothing(rt: HostRuntime) -> Result<(), Fail> {
         image: None,
         migrated: None,
     };
-    for &line in NO_LOADS {
-        call(rt.alloc(), line, BEFORE.as_bytes(), None)?.left(line, &want)?;
+    for line in words {
+        leaves(alloc, line, BEFORE, None, NO_FAILURES, &want)?;
     }
     Ok(())
+}
+
+#[test]
+fn other_words_make_nothing(rt: HostRuntime) -> Result<(), Fail> {
+    make_nothing(rt.alloc(), NO_LOADS)
 }

@@ -3,12 +3,11 @@
 use std::alloc::Global;
 use std::test::Fail;
 use tests_calls::{
-    CallResult, Expected, GoCase, NO_FAILURES, ROWS, VALVE, call_beside, call_on_image, image_of,
-    lines,
+    Expected, GoCase, NO_FAILURES, VALVE, call_beside, call_on_image, image_of, lines, mine_cases,
+    several_cases, single_cases,
 };
 
-/// A script and a log of the program that opens a valve, both with their lines parted by bars, and
-/// what is answered and put.
+/// A script and a log of the program that opens a valve, and what is answered and put.
 struct Recorded {
     script: &'static str,
     log: &'static str,
@@ -79,20 +78,7 @@ const RECORDED: &[Recorded] = &[
     },
 ];
 
-/// The call of `replay P S L`, where L holds the log.
-fn replayed(alloc: Global, program: &str, script: &str, log: &[u8]) -> Result<CallResult, Fail> {
-    call_beside(
-        alloc,
-        "replay P S L",
-        program,
-        script,
-        "L",
-        log,
-        NO_FAILURES,
-    )
-}
-
-/// The log has this answer.
+/// `replay P S L` has this answer, where L holds the log.
 fn is_judged(
     alloc: Global,
     program: &str,
@@ -100,20 +86,25 @@ fn is_judged(
     log: &[u8],
     want: Expected<'_>,
 ) -> Result<(), Fail> {
-    replayed(alloc, program, script, log)?.answered(alloc, "replay P S L", want)
+    let line = "replay P S L";
+    call_beside(alloc, line, program, script, "L", log, NO_FAILURES)?.answered(alloc, line, want)
 }
 
-#[test]
-fn logs_are_judged(rt: HostRuntime) -> Result<(), Fail> {
-    for row in RECORDED {
+fn are_judged(alloc: Global, rows: &[Recorded]) -> Result<(), Fail> {
+    for row in rows {
         let want = Expected {
             status: row.status,
             put: row.put,
             puts: Some(1),
         };
-        is_judged(rt.alloc(), VALVE, row.script, row.log.as_bytes(), want)?;
+        is_judged(alloc, VALVE, row.script, row.log.as_bytes(), want)?;
     }
     Ok(())
+}
+
+#[test]
+fn logs_are_judged(rt: HostRuntime) -> Result<(), Fail> {
+    are_judged(rt.alloc(), RECORDED)
 }
 
 /// The number of lines of a text.
@@ -127,33 +118,45 @@ fn count(text: &[u8]) -> u64 {
     lines
 }
 
-/// The log of a worked program over its script.
-fn worked_log(alloc: Global, row: &GoCase, script: &str) -> Result<Vec<u8>, Fail> {
-    let image = image_of(alloc, row.line, row.program.as_bytes(), Some(script))?;
-    let run = call_on_image(alloc, "run I S", image.as_slice(), script)?;
-    Ok(run.put)
-}
-
-/// The log of a worked program is that of a run, with as many events as it has lines.
-fn is_run(alloc: Global, row: &GoCase) -> Result<(), Fail> {
-    let script = lines(alloc, row.script)?;
-    let log = worked_log(alloc, row, script.as_str())?;
-    let put = format!(in alloc; "run {}\n", count(log.as_slice()))?;
+/// The log is that of a run, with as many events as it has lines.
+fn is_run(alloc: Global, program: &str, script: &str, log: &[u8]) -> Result<(), Fail> {
+    let put = format!(in alloc; "run {}\n", count(log))?;
     let want = Expected {
         status: 0,
         put: put.as_str(),
         puts: None,
     };
-    is_judged(alloc, row.program, script.as_str(), log.as_slice(), want)
+    is_judged(alloc, program, script, log, want)
+}
+
+/// The log of the program's image is that of a run.
+fn image_has_run(alloc: Global, program: &str, script: &str, image: &[u8]) -> Result<(), Fail> {
+    let run = call_on_image(alloc, "run I S", image, script)?;
+    is_run(alloc, program, script, run.put.as_slice())
+}
+
+/// The log of a worked program over its script is that of a run.
+fn has_run(alloc: Global, row: &GoCase) -> Result<(), Fail> {
+    let script = lines(alloc, row.script)?;
+    let script = script.as_str();
+    let image = image_of(alloc, row.line, row.program.as_bytes(), Some(script))?;
+    image_has_run(alloc, row.program, script, image.as_slice())
 }
 
 /// The log of each worked program that is timely is that of a run.
-#[test]
-fn logs_of_runs_are_runs(rt: HostRuntime) -> Result<(), Fail> {
-    for row in ROWS {
+fn have_runs(alloc: Global, rows: &[GoCase]) -> Result<(), Fail> {
+    for row in rows {
         if row.status == 0 && row.line.starts_with("go") {
-            is_run(rt.alloc(), row)?;
+            has_run(alloc, row)?;
         }
     }
     Ok(())
+}
+
+#[test]
+fn logs_of_runs_are_runs(rt: HostRuntime) -> Result<(), Fail> {
+    let alloc = rt.alloc();
+    have_runs(alloc, several_cases())?;
+    have_runs(alloc, single_cases())?;
+    have_runs(alloc, mine_cases())
 }

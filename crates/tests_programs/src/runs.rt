@@ -1,6 +1,7 @@
 //! Images that are stored, and a long run.
 
 use std::alloc::Global;
+use std::fmt::Write;
 use std::test::Fail;
 use tests_calls::{Expected, answers, image_of};
 
@@ -10,24 +11,37 @@ const IDLE: &str = "program a process p : periodic frame 10 begin end p end a";
 const IDLE_IMAGE: &str =
     "52544555 0002 0000 0001 0000 0000 0000 0000 0000 00000001 0161 0170 00 0000000a 0000000a 00000000 0000 0001 00000004 00000000 00000000 00000000 00000004 00000000 00000000 00000000 00000000 00000000 0000 00000000 30 00000000 00000000 00000000";
 
-/// The digits of bytes, two for each.
-fn hexadecimal(alloc: Global, bytes: &[u8]) -> Result<String, Fail> {
-    let mut text = String::new(alloc);
+/// Puts the digits of bytes, two for each.
+fn put_digits(digits: &mut String, bytes: &[u8]) -> Result<(), Fail> {
     for byte in bytes {
-        let digits = format!(in alloc; "{byte:02x}")?;
-        text.push_str(digits.as_str())?;
+        write!(digits, "{byte:02x}")?;
     }
-    Ok(text)
+    Ok(())
+}
+
+/// The digits are those of the image.
+fn are_digits(alloc: Global, digits: &str) -> Result<(), Fail> {
+    let want = IDLE_IMAGE.replace(alloc, " ", "")?;
+    if digits == want.as_str() {
+        return Ok(());
+    }
+    Err(Fail::new(format_args!("another image: {digits}")))
+}
+
+fn is_image(alloc: Global, bytes: &[u8]) -> Result<(), Fail> {
+    if bytes.len() != 104 {
+        return Err(Fail::new(format_args!("an image of {} bytes", bytes.len())));
+    }
+    let mut digits = String::new(alloc);
+    put_digits(&mut digits, bytes)?;
+    are_digits(alloc, digits.as_str())
 }
 
 #[test]
 fn stores_the_image(rt: HostRuntime) -> Result<(), Fail> {
     let alloc = rt.alloc();
-    let bytes = image_of(alloc, "go P I S", IDLE.as_bytes(), Some("end 10\n"))?;
-    assert_eq!(rt; bytes.len(), 104);
-    let digits = hexadecimal(alloc, bytes.as_slice())?;
-    assert!(rt; digits.as_str() == IDLE_IMAGE.replace(alloc, " ", "")?.as_str());
-    Ok(())
+    let image = image_of(alloc, "go P I S", IDLE.as_bytes(), Some("end 10\n"))?;
+    is_image(alloc, image.as_slice())
 }
 
 /// The puts of an activation of the long run, its frame, and its activations.
@@ -40,44 +54,48 @@ const ACTIVATIONS: u64 = 40;
 const LONG_REPORT: &str =
     "program a\nprocess p frame 3500 rank 1 cost 3304 suspend 0 waits 0 block 0 bound 3304 data 0 stack 1\ncode 601\ntimely\n";
 
-/// The program of the long run.
-fn long_program(alloc: Global) -> Result<String, Fail> {
-    let mut body = String::new(alloc);
+/// Puts the program of the long run.
+fn put_program(text: &mut String) -> Result<(), Fail> {
+    write!(
+        text,
+        "program a device d : out process p : periodic frame {FRAME} begin"
+    )?;
     for value in 0..PUTS {
-        let put = format!(in alloc; " put d {value}")?;
-        body.push_str(put.as_str())?;
+        write!(text, " put d {value}")?;
     }
-    Ok(format!(in alloc;
-        "program a device d : out process p : periodic frame {FRAME} begin{body} end p end a"
-    )?)
+    Ok(text.push_str(" end p end a")?)
 }
 
-/// The log of the activation that is released at this tick.
-fn log_activation(alloc: Global, log: &mut String, start: u64) -> Result<(), Fail> {
-    let release = format!(in alloc; "{start} p release\n")?;
-    log.push_str(release.as_str())?;
+/// Puts the log of the activation that is released at this tick.
+fn put_activation(log: &mut String, start: u64) -> Result<(), Fail> {
+    write!(log, "{start} p release\n")?;
     for value in 0..PUTS {
-        let tick = start.saturating_add(11 * value + 10);
-        let line = format!(in alloc; "{tick} p put d {value}\n")?;
-        log.push_str(line.as_str())?;
+        write!(
+            log,
+            "{} p put d {value}\n",
+            start.saturating_add(11 * value + 10)
+        )?;
     }
-    let last = start.saturating_add(11 * PUTS + 3);
-    let end = format!(in alloc; "{last} p end\n")?;
-    Ok(log.push_str(end.as_str())?)
+    Ok(write!(log, "{} p end\n", start.saturating_add(11 * PUTS + 3))?)
 }
 
-#[test]
-fn logs_each_event_of_a_long_run(rt: HostRuntime) -> Result<(), Fail> {
-    let alloc = rt.alloc();
-    let mut want = String::from_str(alloc, LONG_REPORT)?;
+/// Puts the report and the log of the long run.
+fn put_run(put: &mut String) -> Result<(), Fail> {
+    put.push_str(LONG_REPORT)?;
     for number in 0..ACTIVATIONS {
-        log_activation(alloc, &mut want, number * FRAME)?;
+        put_activation(put, number * FRAME)?;
     }
-    let program = long_program(alloc)?;
+    Ok(())
+}
+
+/// The program of the long run puts this.
+fn goes_on(alloc: Global, put: &str) -> Result<(), Fail> {
+    let mut program = String::new(alloc);
+    put_program(&mut program)?;
     let script = format!(in alloc; "end {}\n", ACTIVATIONS * FRAME)?;
-    let answer = Expected {
+    let want = Expected {
         status: 0,
-        put: want.as_str(),
+        put,
         puts: Some(1 + ACTIVATIONS * (PUTS + 2)),
     };
     answers(
@@ -85,6 +103,14 @@ fn logs_each_event_of_a_long_run(rt: HostRuntime) -> Result<(), Fail> {
         "go P I S",
         program.as_bytes(),
         Some(script.as_str()),
-        answer,
+        want,
     )
+}
+
+#[test]
+fn logs_each_event_of_a_long_run(rt: HostRuntime) -> Result<(), Fail> {
+    let alloc = rt.alloc();
+    let mut put = String::new(alloc);
+    put_run(&mut put)?;
+    goes_on(alloc, put.as_str())
 }
