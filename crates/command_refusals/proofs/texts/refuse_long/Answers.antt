@@ -1,4 +1,3 @@
-use Rattle.std.proofs.Common.{◌∙◌}
 use Rattle.std.proofs.lemmas.Result.{IfOk-weaker}
 use Rattle.command_due.specs.Source.{fault_line}
 use Rattle.command_answers.specs.declared.status.Status.TheVariants as status
@@ -12,6 +11,6 @@ returns-clause-told c =
       number = c.args.number;
       place = c.args.place;
       line = put_comes_to status.Text (fault_line c.args.number c.args.place) act is;
-      is = c.in_ok-message.ensures ∙ long_program c.args.file.now bytes c.args.number c.args.place long;
+      is = long_program c.args.file.now bytes c.args.number c.args.place _ c.in_ok-message.ensures long;
     })
     c.put_fault.ensures.act
