@@ -1,0 +1,24 @@
+//! What may stand where a text goes on with no word of the grammar.
+//!
+//! The family Messages (`message_text`): a text whose tokens stop beginning a program is told with
+//! what may stand at that place.
+//!
+//! `specs/Kinds.antt` has the kinds of words, and `specs/Expected.antt` says which of them are
+//! expected behind a text: those with which it begins a program. `specs/Groups.antt` tells some of
+//! them by one name, and `specs/Notes.antt` makes the note.
+//!
+//! `expected` finds exactly the kinds that are expected, by the lexer and the parser, which are
+//! asked once for each kind; `add_expected_note` puts exactly the note. The only error is want of
+//! memory.
+#![tactic(auto)]
+
+mod begin;
+mod finding;
+mod groups;
+mod kinds;
+mod notes;
+
+pub use finding::expected;
+pub use groups::Group;
+pub use kinds::Kind;
+pub use notes::add_expected_note;
