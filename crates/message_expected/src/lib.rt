@@ -17,8 +17,12 @@ mod finding;
 mod groups;
 mod kinds;
 mod notes;
+mod parts;
+mod tokens;
 
 pub use finding::expected;
 pub use groups::Group;
 pub use kinds::Kind;
 pub use notes::add_expected_note;
+pub use parts::add_open_note;
+pub use tokens::tokens_before;
