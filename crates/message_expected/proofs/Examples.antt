@@ -8,10 +8,11 @@ use Rattle.syntax.specs.declared.token.TokenKind.TheVariants as kind
 use Rattle.syntax.specs.declared.token.TokenKind.TheVariants.{Ident, Literal}
 use Rattle.syntax.specs.declared.token.keyword.TheConstants as k
 use Rattle.syntax.specs.declared.token.sign.TheConstants as s
+use Rattle.message_expected.specs.Expected.{last}
 use Rattle.message_expected.specs.Groups.{expectations, groups}
 use Rattle.message_text.specs.Shown.{show}
 use Rattle.message_expected.specs.Notes.{expected_note}
-use Rattle.message_expected.specs.Parts.{closer, open_behind, open_note, turn}
+use Rattle.message_expected.specs.Parts.{closer, open_behind, open_note, show_before, turn}
 use Rattle.message_expected.specs.declared.kinds.Kind.{Kind}
 use Rattle.message_expected.specs.declared.kinds.Kind.TheVariants.{End, Keyword, Sign}
 
@@ -24,7 +25,7 @@ abbrev word_at : (at start len : ℕ) → Token
 word_at at start len = record { kind = kind.Keyword at; start = start; len = len; line = 1; col = start + 1 }
 
 -- behind a name that begins a statement
-pub name_first : expected_note (codes "x = 1") 1 (token Ident 0 ∷ []) (Sign s.ASSIGN ∷ Sign s.DOT ∷ Sign s.LEFT_PAREN ∷ Sign s.LEFT_BRACKET ∷ [])
+pub name_first : expected_note (codes "x = 1") (token Ident 0 ∷ []) (Sign s.ASSIGN ∷ Sign s.DOT ∷ Sign s.LEFT_PAREN ∷ Sign s.LEFT_BRACKET ∷ [])
     ≡ codes "        = after `x` expected `:=`, `.`, `(` or `[`\n"
 unfolding expected_note expectations groups
 name_first = refl
@@ -35,12 +36,12 @@ behind_operand =
     Keyword k.AND ∷ Keyword k.OR ∷ Keyword k.DIV ∷ Keyword k.MOD ∷ Sign s.RIGHT_PAREN ∷ Sign s.PLUS ∷ Sign s.MINUS ∷ Sign s.TIMES ∷ Sign s.EQUAL ∷ Sign s.UNEQUAL ∷ Sign s.LESS
     ∷ Sign s.LESS_EQUAL ∷ Sign s.GREATER ∷ Sign s.GREATER_EQUAL ∷ []
 
-pub operand : expected_note (codes "(7 % 3)") 1 (token (Literal 7) 1 ∷ []) behind_operand ≡ codes "        = after `7` expected an operator, a comparison or `)`\n"
+pub operand : expected_note (codes "(7 % 3)") (token (Literal 7) 1 ∷ []) behind_operand ≡ codes "        = after `7` expected an operator, a comparison or `)`\n"
 unfolding expected_note expectations groups
 operand = refl
 
 -- nothing stands before
-pub at_start : expected_note (codes "a") 1 [] (Keyword k.PROGRAM ∷ []) ≡ codes "        = expected `program` at the start\n"
+pub at_start : expected_note (codes "a") [] (Keyword k.PROGRAM ∷ []) ≡ codes "        = expected `program` at the start\n"
 unfolding expected_note expectations groups
 at_start = refl
 
@@ -51,9 +52,8 @@ cut_off = codes "(7 % 3)\nend p\n"
 abbrev before_end : List Token
 before_end = token (kind.Sign s.LEFT_PAREN) 0 ∷ token (Literal 7) 1 ∷ []
 
-pub operand_above : expected_note cut_off 2 before_end behind_operand
-    ≡ codes "        = after `7` expected an operator, a comparison or `)`\n      1 | (7 % 3)\n        |  ^\n"
-unfolding expected_note expectations groups show digits
+pub operand_above : show_before cut_off 2 (last before_end) ≡ codes "      1 | (7 % 3)\n        |  ^\n"
+unfolding show digits
 operand_above = refl
 
 pub still_open : open_note cut_off before_end (Keyword k.END) behind_operand ≡ codes "        = still open, up to `)`:\n      1 | (7 % 3)\n        | ^\n"

@@ -3,6 +3,8 @@ pub mod Examples
 pub mod Follows
 pub mod Joined
 pub mod Numbered
+pub mod OneSet
 pub mod Opened
 pub mod Picked
 pub mod Places
+pub mod Sought

@@ -73,6 +73,11 @@ closer text before opener =
 abbrev pub show_token : (text : List ℕ) → Token → List ℕ
 show_token text t = show text t.line t.col t.len
 
+-- the line of the last of some tokens, where it stands before this one
+abbrev pub show_before : (text : List ℕ) (line : ℕ) → Option Token → List ℕ
+show_before text line None = []
+show_before text line (Some t) = if nat_lt t.line line then show_token text t else []
+
 -- that a part is open, and what closes it
 abbrev pub part_sentence : (text : List ℕ) (before : List Token) (opener : Token) → List ℕ
 part_sentence text before opener = codes "still open, up to `" ++ (closer text before opener ++ codes "`:")

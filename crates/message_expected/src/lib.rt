@@ -12,13 +12,19 @@
 //! memory.
 #![tactic(auto)]
 
+mod applying;
 mod begin;
 mod finding;
+mod foreign;
 mod groups;
 mod kinds;
 mod notes;
 mod parts;
+mod remarks;
+mod rows;
+mod sight;
 mod tokens;
+mod unexpected;
 
 pub use finding::expected;
 pub use groups::Group;
@@ -26,3 +32,4 @@ pub use kinds::Kind;
 pub use notes::add_expected_note;
 pub use parts::add_open_note;
 pub use tokens::tokens_before;
+pub use unexpected::add_unexpected_notes;

@@ -3,11 +3,11 @@
 ghost use Rattle.std.specs.Prelude.{◌≡◌, ◌++◌, OnOk};
 ghost use Rattle.message_text.specs.Either.{either, others as others_text, separator};
 ghost use Rattle.message_expected.specs.Expected.{last};
-ghost use Rattle.message_expected.specs.Notes.{expected_note, sentence, show_before};
+ghost use Rattle.message_expected.specs.Notes.{expected_note, sentence};
 
 use crate::groups::expectations;
 use crate::kinds::Kind;
-use crate::tokens::{add_token, bytes_of};
+use crate::tokens::bytes_of;
 use message_text::{add_note, add_quoted};
 use std::alloc::{AllocError, Global};
 use syntax::Token;
@@ -72,44 +72,20 @@ fn add_sentence(
     }
 }
 
-/// Puts the line of the last of these tokens, where it stands before this one.
-fn add_before(
-    message: &mut Text,
-    text: &[u8],
-    line: u32,
-    before: &[Token],
-) -> Result<(), AllocError>
-    ensures { OnOk result
-        (message.new ≡ message.old ++ show_before text.now line (last before.now)) }
-{
-    match before.last() {
-        None => Ok(()),
-        Some(token) => {
-            if token.line < line {
-                return add_token(message, text, *token);
-            }
-            Ok(())
-        }
-    }
-}
-
-/// Puts the note of what is expected behind these tokens of the text, which `expected` finds, at a
-/// place of this line, from 1.
+/// Puts the note of what is expected behind these tokens of the text, which `expected` finds.
 #[tactic(auto, unfolding(crate::specs::Notes::expected_note))]
 pub fn add_expected_note(
     alloc: Global,
     message: &mut Text,
     text: &[u8],
-    line: u32,
     before: &[Token],
     found: &[Kind],
 ) -> Result<(), AllocError>
     ensures { OnOk result
-        (message.new ≡ message.old ++ expected_note text.now line before.now found.now) }
+        (message.new ≡ message.old ++ expected_note text.now before.now found.now) }
 {
     let all = expectations(alloc, found)?;
     let mut told = Text::new(alloc);
     add_sentence(&mut told, text, before, all.as_slice())?;
-    add_note(message, &[told.as_bytes()])?;
-    add_before(message, text, line, before)
+    add_note(message, &[told.as_bytes()])
 }

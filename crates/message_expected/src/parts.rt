@@ -163,7 +163,7 @@ fn turn(opened: &mut Vec<Token>, is_behind_end: bool, token: Token) -> Result<()
 }
 
 /// The tokens that opened what is open behind these, in their order.
-fn open_parts(alloc: Global, before: &[Token]) -> Result<Vec<Token>, AllocError>
+pub(crate) fn open_parts(alloc: Global, before: &[Token]) -> Result<Vec<Token>, AllocError>
     ensures { IfOk result (λ opened. opened.items ≡ open_parts before.now) }
 {
     let mut opened = Vec::new(alloc);
