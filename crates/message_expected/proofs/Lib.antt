@@ -1,4 +1,6 @@
 pub mod Begins
+pub mod Behind
+pub mod Cuts
 pub mod Examples
 pub mod Follows
 pub mod Joined

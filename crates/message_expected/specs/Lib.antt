@@ -1,3 +1,4 @@
+pub mod Behind
 pub mod Expected
 pub mod Foreign
 pub mod Groups
