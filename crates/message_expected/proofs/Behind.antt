@@ -14,7 +14,7 @@ use Rattle.syntax.specs.declared.token.TokenKind.{TokenKind}
 use Rattle.syntax.specs.declared.token.TokenKind.TheVariants.{Ident, Keyword, Literal, Sign}
 use Rattle.syntax_reading.specs.Beginning.{BeginsProg}
 use Rattle.message_expected.specs.Behind.{FollowsByTokens, GoOn, added, longer}
-use Rattle.message_expected.specs.Expected.{Begin, BeginsProgram, MayFollow, front, last, up_to}
+use Rattle.message_expected.specs.Expected.{Begin, BeginsProgram, MayFollow, front, up_to}
 use Rattle.message_expected.proofs.Cuts.{cut_kept, cut_le, words_kept}
 
 -- ---- the front of a text
