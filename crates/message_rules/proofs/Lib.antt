@@ -1,0 +1,4 @@
+pub mod Walks
+pub mod Elsewhere
+pub mod Counting
+pub mod Rules

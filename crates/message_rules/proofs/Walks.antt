@@ -1,0 +1,60 @@
+-- Steps of loops that look through the findings of one item after another.
+use Rattle.std.proofs.Common.{◌≡◌, ◌<◌, ◌≤◌, ◌+◌, ◌++◌, ℕ, Bool, true, false, cond, List, [], ◌∷◌, Option, Some, None, find, length, drop, get_or, option_map, refl, sym, ap, ◌∙◌}
+use Rattle.std.specs.Option.{option_or}
+use Rattle.static_rule.specs.declared.violation.Violation.{Violation}
+use Rattle.static_numbers.proofs.Walks.{step, finish}
+use Rattle.message_rules.specs.declared.fault.Fault.{Fault}
+use Rattle.message_rules.specs.Findings.{Finding, first_wrong, is_asked}
+use Rattle.message_rules.specs.Seen.{after, left}
+
+module _ {X B : Type 0} (of : B → List Finding) (broken : Violation) (parts : List X → List B → List B) (start : Option Fault) (whole : List B → List B) where
+  -- what is known, once all that is left is looked through too, is what it was to be in the beginning
+  abbrev pub Left : Option Fault → List X → Type 0
+  Left known xs = (bs : List B) → left of broken known (parts xs bs) ≡ left of broken start (whole bs)
+
+  pub look_step : (one : X → List B → List B) → ((x : X) (xs : List X) (bs : List B) → parts (x ∷ xs) bs ≡ one x (parts xs bs))
+      → (xs : List X) (i : ℕ) (x : X) (f g : Option Fault) → i < length xs → x ≡ get_or xs i x
+      → ((bs : List B) → left of broken g bs ≡ left of broken f (one x bs))
+      → Left f (drop i xs) → Left g (drop (i + 1) xs)
+  look_step one splits xs i x f g below item looked h bs =
+      step (λ s ys. left of broken s (parts ys bs)) (left of broken start (whole bs)) xs i x f g below item
+      (λ rest. looked (parts rest bs) ∙ ap (left of broken f) (sym (splits x rest bs))) (h bs)
+
+  pub look_finish : ((bs : List B) → parts [] bs ≡ bs) → (xs : List X) (i : ℕ) (f : Option Fault) → length xs ≤ i → Left f (drop i xs)
+      → (bs : List B) → left of broken f bs ≡ left of broken start (whole bs)
+  look_finish ends xs i f past h bs =
+      ap (left of broken f) (sym (ends bs)) ∙ finish (λ s ys. left of broken s (parts ys bs)) (left of broken start (whole bs)) xs i f past (h bs)
+
+-- ---- what is known, at the end of some parts
+
+pub or-nothing : {X : Type 0} (x : Option X) → option_or x None ≡ x
+or-nothing None = refl
+or-nothing (Some x) = refl
+
+pub after-nothing : (broken : Violation) (known : Option Fault) → after broken known [] ≡ known
+unfolding after
+after-nothing broken known = or-nothing known
+
+pub left-nothing : {B : Type 0} (of : B → List Finding) (broken : Violation) (known : Option Fault) → left of broken known [] ≡ known
+unfolding left
+left-nothing of broken known = after-nothing broken known
+
+append-one : (broken : Violation) (asked : Bool) (x : Finding) (xs ys : List Finding) → first_wrong broken (xs ++ ys) ≡ option_or (first_wrong broken xs) (first_wrong broken ys)
+    → option_map (λ f. f.wrong) (cond asked (Some x) (find (is_asked broken) (xs ++ ys))) ≡ option_or (option_map (λ f. f.wrong) (cond asked (Some x) (find (is_asked broken) xs))) (first_wrong broken ys)
+append-one broken true x xs ys more = refl
+append-one broken false x xs ys more = more
+
+first-append : (broken : Violation) (xs ys : List Finding) → first_wrong broken (xs ++ ys) ≡ option_or (first_wrong broken xs) (first_wrong broken ys)
+first-append broken [] ys = refl
+first-append broken (x ∷ xs) ys = append-one broken (is_asked broken x) x xs ys (first-append broken xs ys)
+
+or-assoc : {X : Type 0} (x y z : Option X) → option_or (option_or x y) z ≡ option_or x (option_or y z)
+or-assoc None y z = refl
+or-assoc (Some x) y z = refl
+
+-- what is known once some findings and then others are looked through
+pub both : (broken : Violation) (known : Option Fault) (xs ys : List Finding) (f g : Option Fault) → f ≡ after broken known xs → g ≡ after broken f ys → g ≡ after broken known (xs ++ ys)
+unfolding after
+both broken known xs ys f g one other =
+    other ∙ ap (λ k. option_or k (first_wrong broken ys)) one ∙ or-assoc known (first_wrong broken xs) (first_wrong broken ys)
+    ∙ ap (option_or known) (sym (first-append broken xs ys))

@@ -1,0 +1,61 @@
+-- What is said of what is wrong.
+use Rattle.std.specs.Prelude.{ℕ, ℤ, List, [], ◌∷◌, ◌++◌, codes, decimal, if◌then◌else◌}
+use Rattle.std.specs.Fmt.{signed_decimal}
+use Rattle.message_text.specs.Words.{quoted}
+use Rattle.syntax_tree.specs.Plain.{Name}
+use Rattle.syntax_tree.specs.Placed.{Decl, constant, device, event, routine, monitor, process}
+use Rattle.syntax_tree.specs.Parts.{same_place}
+use Rattle.syntax_tree.specs.declared.place.Place.{Place}
+use Rattle.message_rules.specs.declared.fault.Counted.{Counted}
+use Rattle.message_rules.specs.declared.fault.Counted.TheVariants as counted_is
+use Rattle.message_rules.specs.declared.fault.Fault.{Fault}
+use Rattle.message_rules.specs.declared.fault.Fault.TheVariants as fault_is
+
+-- the name of the event that is declared at the place
+abbrev pub event_name : Place → List (Decl Place) → Name
+event_name place [] = []
+event_name place (constant name p c ∷ ds) = event_name place ds
+event_name place (device name p is_out ∷ ds) = event_name place ds
+event_name place (event name p ∷ ds) = if same_place p place then name else event_name place ds
+event_name place (routine r ∷ ds) = event_name place ds
+event_name place (monitor m ∷ ds) = event_name place ds
+event_name place (process p ∷ ds) = event_name place ds
+
+-- a number among some words
+abbrev pub number_among : (before : List ℕ) (number : ℤ) (behind : List ℕ) → List ℕ
+number_among before number behind = before ++ (signed_decimal number ++ behind)
+
+-- two numbers among some words
+abbrev pub numbers_among : (before : List ℕ) (one : ℤ) (middle : List ℕ) (other : ℤ) (behind : List ℕ) → List ℕ
+numbers_among before one middle other behind = before ++ (signed_decimal one ++ (middle ++ (signed_decimal other ++ behind)))
+
+-- a count among some words
+abbrev pub count_among : (before : List ℕ) (count : ℕ) (behind : List ℕ) → List ℕ
+count_among before count behind = before ++ (decimal count ++ behind)
+
+-- a name and a count among some words
+abbrev pub name_among : (before name middle : List ℕ) (count : ℕ) (behind : List ℕ) → List ℕ
+name_among before name middle count behind = before ++ (quoted name ++ count_among middle count behind)
+
+-- there is one thing of a kind too many
+abbrev pub one_too_many : Counted → List ℕ
+one_too_many counted_is.Process = codes "this is process number 65; 64 are the most"
+one_too_many counted_is.Monitor = codes "this is monitor number 65; 64 are the most"
+one_too_many counted_is.Device = codes "this is device number 65; 64 are the most"
+one_too_many counted_is.Event = codes "this is event number 65; 64 are the most"
+one_too_many counted_is.Condition = codes "this is condition number 257; 256 are the most"
+one_too_many counted_is.Routine = codes "this is routine number 513; 512 are the most"
+
+-- what is said of what is wrong among these declarations
+abbrev pub sentence : List (Decl Place) → Fault → List ℕ
+sentence ds (fault_is.CrossedBounds low high) = numbers_among (codes "the lower bound ") low (codes " is above the upper bound ") high []
+sentence ds (fault_is.LongArray elements) = number_among (codes "the array has ") elements (codes " elements; 65536 are the most")
+sentence ds (fault_is.Frame ticks) = number_among (codes "the frame is ") ticks (codes "; it may be 10 to 1000000000")
+sentence ds (fault_is.Deadline ticks frame) = numbers_among (codes "the deadline is ") ticks (codes "; it may be 10 to ") frame (codes ", its frame")
+sentence ds (fault_is.FirstActivation ticks) = number_among (codes "the first activation is ") ticks (codes "; it may be 0 to 1000000000")
+sentence ds (fault_is.EventUse place processes) = name_among (codes "the event ") (event_name place ds) (codes " starts ") processes (codes " processes; one is wanted")
+sentence ds (fault_is.Repeated number) = number_among (codes "the handler lists ") number (codes " twice")
+sentence ds (fault_is.HandlerNumber number) = number_among (codes "the handler's number is ") number (codes "; it may be 1 to 4 or 10 to 999")
+sentence ds fault_is.NoProcess = codes "the program has no process"
+sentence ds (fault_is.OneTooMany counted) = one_too_many counted
+sentence ds (fault_is.VariableWords words) = count_among (codes "the variables take ") words (codes " words; 1048576 are the most")

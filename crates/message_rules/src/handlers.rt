@@ -1,0 +1,162 @@
+//! The numbers of handlers.
+
+ghost use Rattle.std.specs.Prelude.{◌≡◌, ◌||◌, List, [], ◌∷◌, map, None, Some, if◌then◌else◌};
+ghost use Rattle.syntax_tree.specs.Placed.{Decl as SpecDecl, placed, placed_constant, placed_handler, placed_decl, optional};
+ghost use Rattle.syntax_tree.specs.declared.place.Place.{Place as SpecPlace};
+ghost use Rattle.syntax_tree.specs.Parts.{processes};
+ghost use Rattle.static_declarations.specs.Values.{value, constant_place, is_within};
+ghost use Rattle.static_numbers.specs.Processes.{handled, handler_numbers, all_handled, has_value as has_value_of, repeated as repeated_of};
+ghost use Rattle.message_rules.specs.Findings.{handled_findings};
+ghost use Rattle.message_rules.specs.Seen.{LookedAt, handled_of, left};
+
+use crate::fault::{Fault, note};
+use static_declarations::Declarations;
+use static_rule::{Violation, rule};
+use syntax_tree::{Constant, Declaration, Handler, Place};
+
+/// Whether a handler may have the number: those of the machine, and those of `except` and `wait`.
+fn is_allowed(number: i64) -> bool
+    ensures { result ≡ (is_within 1 4 number || is_within 10 999 number) }
+{
+    matches!(number, 1..=4 | 10..=999)
+}
+
+/// The place of a number that no handler may have.
+fn bad_number(declarations: &Declarations<'_>, number: &Constant) -> Option<Place>
+    ensures { let c = placed_constant number.now in let v = value (placed declarations.now) c in
+        result ≡
+        (if is_within 1 4 v || is_within 10 999 v then None else Some (constant_place c)) }
+{
+    if is_allowed(declarations.value(number)) {
+        None
+    } else {
+        Some(number.place)
+    }
+}
+
+/// Whether one of the constants has the value.
+fn has_value(declarations: &Declarations<'_>, number: i64, list: &[Constant]) -> bool
+    ensures { result ≡ has_value_of (value (placed declarations.now)) number
+        (map placed_constant list.now) }
+{
+    for one in list {
+        if declarations.value(one) == number {
+            return true;
+        }
+    }
+    false
+}
+
+/// The place of a number whose value is that of one before it.
+fn repeated(
+    declarations: &Declarations<'_>,
+    before: &[Constant],
+    number: &Constant,
+) -> Option<Place>
+    ensures { result ≡
+        repeated_of (value (placed declarations.now)) (handled_of before.now number.now) }
+{
+    if has_value(declarations, declarations.value(number), before) {
+        Some(number.place)
+    } else {
+        None
+    }
+}
+
+/// Looks through the findings of a number, with those before it.
+#[tactic(auto, unfolding(crate::specs::Seen::left))]
+fn number_at(
+    known: &mut Option<Fault>,
+    declarations: &Declarations<'_>,
+    broken: Violation,
+    before: &[Constant],
+    number: &Constant,
+)
+    ensures { LookedAt (handled_findings (value (placed declarations.now))) broken known.old
+        (λ more. handled_of before.now number.now ∷ more) known.new }
+{
+    let value = declarations.value(number);
+    note(
+        known,
+        broken,
+        rule::WRONG_HANDLER,
+        repeated(declarations, before, number),
+        Fault::Repeated { number: value },
+    );
+    note(
+        known,
+        broken,
+        rule::WRONG_NUMBER,
+        bad_number(declarations, number),
+        Fault::HandlerNumber { number: value },
+    );
+}
+
+/// The numbers before it are looked at only where the number is the one that is asked for.
+fn number(
+    known: &mut Option<Fault>,
+    declarations: &Declarations<'_>,
+    broken: Violation,
+    before: &[Constant],
+    number: &Constant,
+)
+    ensures { LookedAt (handled_findings (value (placed declarations.now))) broken known.old
+        (λ more. handled_of before.now number.now ∷ more) known.new }
+{
+    if number.place == broken.place {
+        number_at(known, declarations, broken, before, number);
+    }
+}
+
+fn numbers(
+    known: &mut Option<Fault>,
+    declarations: &Declarations<'_>,
+    broken: Violation,
+    list: &[Constant],
+)
+    ensures { LookedAt (handled_findings (value (placed declarations.now))) broken known.old
+        (handled [] (map placed_constant list.now)) known.new }
+{
+    for (index, one) in list.iter().enumerate() {
+        number(known, declarations, broken, &list[..index], one);
+    }
+}
+
+fn handler(
+    known: &mut Option<Fault>,
+    declarations: &Declarations<'_>,
+    broken: Violation,
+    handler: &Option<Handler>,
+)
+    ensures { LookedAt (handled_findings (value (placed declarations.now))) broken known.old
+        (handler_numbers (optional placed_handler handler.now)) known.new }
+{
+    if let Some(handler) = handler {
+        numbers(known, declarations, broken, handler.numbers.as_slice());
+    }
+}
+
+fn decl(
+    known: &mut Option<Fault>,
+    declarations: &Declarations<'_>,
+    broken: Violation,
+    decl: &Declaration,
+)
+    ensures { let of = handled_findings (value (placed declarations.now)) in
+        (rest : List (SpecDecl SpecPlace)) → left of broken known.new (all_handled (processes rest)) ≡
+        left of broken known.old (all_handled (processes (placed_decl decl.now ∷ rest))) }
+{
+    if let Declaration::Process(process) = decl {
+        handler(known, declarations, broken, &process.handler);
+    }
+}
+
+/// Looks through the findings of the numbers of all handlers.
+pub(crate) fn look(known: &mut Option<Fault>, declarations: &Declarations<'_>, broken: Violation)
+    ensures { let g = placed declarations.now in known.new ≡
+        left (handled_findings (value g)) broken known.old (all_handled (processes g.decls)) }
+{
+    for one in declarations.program().decls.as_slice() {
+        decl(known, declarations, broken, one);
+    }
+}

@@ -1,0 +1,56 @@
+//! The sentence for a rule that fails at a place.
+
+ghost use Rattle.std.specs.Prelude.{◌≡◌, IfOk};
+ghost use Rattle.syntax_tree.specs.Placed.{placed};
+ghost use Rattle.message_rules.specs.Findings.{findings, first_wrong, rule_sentence};
+
+use crate::fault::Fault;
+use crate::sentences::add_sentence;
+use crate::{activations, bounds, counts, events, handlers};
+use static_declarations::Declarations;
+use static_names::ResolvedProgram;
+use static_rule::Violation;
+use std::alloc::{AllocError, Global};
+use syntax_tree::{Place, Text};
+
+/// What is wrong by the rule with that number at that place, if it fails there.
+fn fault_at(
+    alloc: Global,
+    declarations: &Declarations<'_>,
+    broken: Violation,
+) -> Result<Option<Fault>, AllocError>
+    ensures { IfOk result (λ fault. fault ≡ first_wrong broken (findings (placed declarations.now))) }
+{
+    let mut known = None;
+    bounds::look(&mut known, declarations, broken);
+    activations::look(&mut known, declarations, broken);
+    events::look(&mut known, declarations, broken);
+    handlers::look(&mut known, declarations, broken);
+    counts::look(alloc, &mut known, declarations, broken)?;
+    Ok(known)
+}
+
+/// The sentence that tells what is wrong by the rule with this number at this place, with the
+/// values and names of the program; `None` where no rule for declarations with that number fails at
+/// that place. By number: 32 and 44 of the bounds of a type, at the lower bound; 35 and 39 of a
+/// number of a handler; 36 of a frame, a deadline or a first activation; 37 at the name of an
+/// event; 40 to 42 of a thing that is one too many, at its name, or of no process, at the program's
+/// name; 43 at the program's name. The only error is want of memory.
+#[tactic(auto, unfolding(crate::specs::Findings::rule_sentence))]
+pub fn rule_sentence(
+    alloc: Global,
+    program: &ResolvedProgram,
+    number: u8,
+    place: Place,
+) -> Result<Option<Text>, AllocError>
+    ensures { IfOk result (λ told. told ≡ rule_sentence (placed program.now) number place) }
+{
+    let declarations = Declarations::new(alloc, program)?;
+    let broken = Violation { number, place };
+    let Some(fault) = fault_at(alloc, &declarations, broken)? else {
+        return Ok(None);
+    };
+    let mut sentence = Text::new(alloc);
+    add_sentence(&mut sentence, program.prog().decls.as_slice(), fault)?;
+    Ok(Some(sentence))
+}
