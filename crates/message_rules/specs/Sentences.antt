@@ -49,6 +49,10 @@ one_too_many counted_is.Routine = codes "this is routine number 513; 512 are the
 -- what is said of what is wrong among these declarations
 abbrev pub sentence : List (Decl Place) → Fault → List ℕ
 sentence ds (fault_is.CrossedBounds low high) = numbers_among (codes "the lower bound ") low (codes " is above the upper bound ") high []
+sentence ds fault_is.EndlessLoop = codes "the upper bound of a loop is 2147483647; it may be up to 2147483646"
+sentence ds (fault_is.LongLoop turns) = number_among (codes "the loop has ") turns (codes " turns; 1000000 are the most")
+sentence ds (fault_is.RaisedNumber number) = number_among (codes "the exception's number is ") number (codes "; it may be 10 to 999")
+sentence ds (fault_is.WaitLimit limit) = number_among (codes "the limit of a wait is ") limit (codes "; it may be 1 to 1000000000")
 sentence ds (fault_is.LongArray elements) = number_among (codes "the array has ") elements (codes " elements; 65536 are the most")
 sentence ds (fault_is.Frame ticks) = number_among (codes "the frame is ") ticks (codes "; it may be 10 to 1000000000")
 sentence ds (fault_is.Deadline ticks frame) = numbers_among (codes "the deadline is ") ticks (codes "; it may be 10 to ") frame (codes ", its frame")

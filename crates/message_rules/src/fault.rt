@@ -23,6 +23,14 @@ pub(crate) enum Counted {
 pub(crate) enum Fault {
     /// A lower bound is above its upper bound.
     CrossedBounds { low: i64, high: i64 },
+    /// A loop goes up to the greatest word.
+    EndlessLoop,
+    /// A loop has too many turns.
+    LongLoop { turns: i64 },
+    /// The number of an exception that a statement raises is out of its range.
+    RaisedNumber { number: i64 },
+    /// The limit of a wait is out of its range.
+    WaitLimit { limit: i64 },
     /// An array has too many elements.
     LongArray { elements: i64 },
     /// A frame is out of its range.

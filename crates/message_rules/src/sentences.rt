@@ -116,6 +116,27 @@ pub(crate) fn add_sentence(
             high,
             b"",
         ),
+        Fault::EndlessLoop => text.extend(
+            b"the upper bound of a loop is 2147483647; it may be up to 2147483646",
+        ),
+        Fault::LongLoop { turns } => add_among(
+            text,
+            b"the loop has ",
+            turns,
+            b" turns; 1000000 are the most",
+        ),
+        Fault::RaisedNumber { number } => add_among(
+            text,
+            b"the exception's number is ",
+            number,
+            b"; it may be 10 to 999",
+        ),
+        Fault::WaitLimit { limit } => add_among(
+            text,
+            b"the limit of a wait is ",
+            limit,
+            b"; it may be 1 to 1000000000",
+        ),
         Fault::LongArray { elements } => add_among(
             text,
             b"the array has ",
