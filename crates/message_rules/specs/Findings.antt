@@ -15,6 +15,7 @@ use Rattle.static_numbers.specs.Counts.{process_places, monitor_places, conditio
 use Rattle.static_numbers.specs.Seen.{held}
 use Rattle.message_rules.specs.Sentences.{sentence}
 use Rattle.message_rules.specs.declared.fault.Counted.TheVariants as counted_is
+use Rattle.message_rules.specs.declared.fault.Quantity.TheVariants as quantity_is
 use Rattle.message_rules.specs.declared.fault.Fault.{Fault}
 use Rattle.message_rules.specs.declared.fault.Fault.TheVariants as fault_is
 
@@ -43,19 +44,19 @@ loop_findings worth place low high =
     ∷ record {
       number = 33;
       fails = (if int_le (worth low +ℤ pos 1000000) (worth high) then Some place else None);
-      wrong = fault_is.LongLoop ((worth high -ℤ worth low) +ℤ pos 1);
+      wrong = fault_is.Number quantity_is.Turns ((worth high -ℤ worth low) +ℤ pos 1);
     }
     ∷ []
 
 -- an exception that is raised
 abbrev pub raised_findings : Worth → (number : Constant Place) → List Finding
-raised_findings worth number = record { number = 39; fails = out_of worth 10 999 number; wrong = fault_is.RaisedNumber (worth number) } ∷ []
+raised_findings worth number = record { number = 39; fails = out_of worth 10 999 number; wrong = fault_is.Number quantity_is.RaisedNumber (worth number) } ∷ []
 
 -- a wait, which raises an exception at its limit
 abbrev pub wait_findings : Worth → (limit number : Constant Place) → List Finding
 wait_findings worth limit number =
     raised_findings worth number
-    ++ record { number = 45; fails = out_of worth 1 1000000000 limit; wrong = fault_is.WaitLimit (worth limit) }
+    ++ record { number = 45; fails = out_of worth 1 1000000000 limit; wrong = fault_is.Number quantity_is.WaitLimit (worth limit) }
     ∷ []
 
 -- a statement, those in it aside
@@ -73,7 +74,7 @@ part_findings worth (answer name kind e) = []
 abbrev pub bounds_findings : Worth → Bounds → List Finding
 bounds_findings worth b =
     record { number = 32; fails = crossed worth b; wrong = fault_is.CrossedBounds (worth b.low) (worth b.high) }
-    ∷ record { number = 44; fails = too_long worth b; wrong = fault_is.LongArray ((worth b.high -ℤ worth b.low) +ℤ pos 1) }
+    ∷ record { number = 44; fails = too_long worth b; wrong = fault_is.Number quantity_is.Elements ((worth b.high -ℤ worth b.low) +ℤ pos 1) }
     ∷ []
 
 abbrev pub first_of : Activation Place → Option (Constant Place)
@@ -87,9 +88,9 @@ ticks worth c = unwrap_or (option_map worth c) (pos 0)
 -- the frame, the deadline and the first activation of a process
 abbrev pub process_findings : Worth → Process Place → List Finding
 process_findings worth p =
-    record { number = 36; fails = bad_frame worth p; wrong = fault_is.Frame (worth (frame_of p.activation)) }
+    record { number = 36; fails = bad_frame worth p; wrong = fault_is.Number quantity_is.Frame (worth (frame_of p.activation)) }
     ∷ record { number = 36; fails = bad_deadline worth p; wrong = fault_is.Deadline (ticks worth (deadline_of p.activation)) (worth (frame_of p.activation)) }
-    ∷ record { number = 36; fails = bad_first worth p; wrong = fault_is.FirstActivation (ticks worth (first_of p.activation)) }
+    ∷ record { number = 36; fails = bad_first worth p; wrong = fault_is.Number quantity_is.FirstActivation (ticks worth (first_of p.activation)) }
     ∷ []
 
 -- an event, by the place of its name
@@ -105,8 +106,8 @@ event_findings g e =
 -- a number of a handler
 abbrev pub handled_findings : Worth → Handled → List Finding
 handled_findings worth h =
-    record { number = 35; fails = repeated worth h; wrong = fault_is.Repeated (worth h.number) }
-    ∷ record { number = 39; fails = bad_handled worth h; wrong = fault_is.HandlerNumber (worth h.number) }
+    record { number = 35; fails = repeated worth h; wrong = fault_is.Number quantity_is.ListedNumber (worth h.number) }
+    ∷ record { number = 39; fails = bad_handled worth h; wrong = fault_is.Number quantity_is.HandlerNumber (worth h.number) }
     ∷ []
 
 -- how much there is; the sum of words stays at the greatest number of 64 bits

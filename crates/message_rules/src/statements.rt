@@ -9,7 +9,7 @@ ghost use Rattle.static_declarations.specs.Parts.{Part, stmt_parts, stmts_parts,
 ghost use Rattle.message_rules.specs.Findings.{loop_findings, part_findings, raised_findings, stmt_findings, wait_findings};
 ghost use Rattle.message_rules.specs.Seen.{Looked, after_all, left, looked};
 
-use crate::fault::{Fault, note};
+use crate::fault::{Fault, Quantity, note};
 use static_declarations::Declarations;
 use static_rule::{Violation, rule};
 use syntax_tree::{Constant, Declaration, Handler, Place, Routine, Stmt};
@@ -101,13 +101,15 @@ fn look_at_loop(
         endless(declarations, high),
         Fault::EndlessLoop,
     );
-    let turns = most - least + 1;
     note(
         known,
         broken,
         rule::LONG_LOOP,
         long(declarations, place, low, high),
-        Fault::LongLoop { turns },
+        Fault::Number {
+            of: Quantity::Turns,
+            value: most - least + 1,
+        },
     );
 }
 
@@ -121,13 +123,16 @@ fn look_at_number(
     ensures { Looked broken known.old
         (raised_findings (value (placed declarations.now)) (placed_constant number.now)) known.new }
 {
-    let raised = declarations.value(number);
+    let value = declarations.value(number);
     note(
         known,
         broken,
         rule::WRONG_NUMBER,
         declarations.out_of(NUMBERS.0, NUMBERS.1, number),
-        Fault::RaisedNumber { number: raised },
+        Fault::Number {
+            of: Quantity::RaisedNumber,
+            value,
+        },
     );
 }
 
@@ -143,13 +148,16 @@ fn look_at_wait(
         (placed_constant limit.now) (placed_constant number.now)) known.new }
 {
     look_at_number(known, declarations, broken, number);
-    let ticks = declarations.value(limit);
+    let value = declarations.value(limit);
     note(
         known,
         broken,
         rule::WAIT_LIMIT,
         declarations.out_of(LIMITS.0, LIMITS.1, limit),
-        Fault::WaitLimit { limit: ticks },
+        Fault::Number {
+            of: Quantity::WaitLimit,
+            value,
+        },
     );
 }
 
