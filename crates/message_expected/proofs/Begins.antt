@@ -14,7 +14,7 @@ use Rattle.syntax.specs.declared.fault.LexFault.{LexFault}
 use Rattle.syntax.specs.declared.fault.LexFault.TheVariants as lex
 use Rattle.syntax.specs.declared.token.Token.{Token}
 use Rattle.syntax.specs.declared.token.Tokens.{Tokens}
-use Rattle.syntax_parser.specs.Faults.{OpensAt, StopsAt, place}
+use Rattle.syntax_parser.specs.Faults.{OpensAt, StopsAt}
 use Rattle.syntax_parser.specs.declared.fault.SyntaxFault.{SyntaxFault}
 use Rattle.syntax_parser.specs.declared.fault.SyntaxFault.TheVariants.{Memory, Nesting, Syntax}
 use Rattle.syntax_reading.proofs.Stops.{no-end}

@@ -1,5 +1,6 @@
 -- What may stand where a text goes on with no word of the grammar.
-use Rattle.std.specs.Prelude.{◌≡◌, ℕ, ◌+◌, ◌-◌, ◌++◌, ◌⊎◌, List, [], ◌∷◌, Option, None, Some, codes, length, slice_get, take}
+use Rattle.std.specs.Prelude.{◌≡◌, ℕ, ◌+◌, ◌-◌, ◌++◌, ◌⊎◌, Bool, not, ◌||◌, ◌==◌, List, [], ◌∷◌, Option, None, Some, codes, length, slice_get, take}
+use Rattle.std.specs.List.{prefix_len}
 use Rattle.syntax.specs.declared.token.Token.{Token}
 use Rattle.syntax.specs.Grammar.{tree}
 use Rattle.syntax.specs.Tokens.{tokens}
@@ -61,3 +62,11 @@ up_to text (Some t) = take (t.start + t.len) text
 -- the text up to the end of the last of these tokens
 abbrev pub front : (text : List ℕ) (before : List Token) → List ℕ
 front text before = up_to text (last before)
+
+-- the token stands at another place
+unfoldable pub is_elsewhere : Place → Token → Bool
+is_elsewhere place t = not (t.line == place.line) || not (t.col == place.col)
+
+-- the tokens before the first one that stands at the place, all of them where none does
+abbrev pub before : (all : List Token) → Place → List Token
+before all place = take (prefix_len (is_elsewhere place) all) all

@@ -1,7 +1,10 @@
 -- The kinds of what may stand at a place of a text, and how they are written and told.
-use Rattle.std.specs.Prelude.{ℕ, zero, suc, Bool, true, false, ◌==◌, ◌++◌, List, [], ◌∷◌, codes, length}
+use Rattle.std.specs.Prelude.{ℕ, zero, suc, Bool, true, false, ◌==◌, ◌++◌, List, [], ◌∷◌, None, Option, Some, codes, length}
 use Rattle.std.specs.List.{list_any, slice_index_or}
 use Rattle.syntax.specs.Spellings.{keywords, signs}
+use Rattle.syntax.specs.declared.token.Token.{Token}
+use Rattle.syntax.specs.declared.token.TokenKind.{TokenKind}
+use Rattle.syntax.specs.declared.token.TokenKind.TheVariants as token
 use Rattle.message_text.specs.Words.{quoted}
 use Rattle.message_expected.specs.declared.kinds.Kind.{Kind}
 use Rattle.message_expected.specs.declared.kinds.Kind.TheVariants.{End, Name, Number, Deadline, Keyword, Sign}
@@ -47,3 +50,15 @@ same kind other = false
 -- the kind is among these
 abbrev pub has : (found : List Kind) (kind : Kind) → Bool
 has found kind = list_any (same kind) found
+
+-- the kind of a token
+abbrev pub of_token : TokenKind → Kind
+of_token token.Ident = Name
+of_token (token.Keyword at) = Keyword at
+of_token (token.Literal value) = Number
+of_token (token.Sign at) = Sign at
+
+-- the kind of a token, or of the end where there is none
+abbrev pub kind_of : Option Token → Kind
+kind_of None = End
+kind_of (Some t) = of_token t.kind

@@ -1,6 +1,6 @@
 //! The kinds that are expected.
 
-ghost use Rattle.std.specs.Prelude.{◌≡◌, ◌++◌, ◌∷◌, [], ◌↔◌, IfOk, IsTrue, List, OnOk};
+ghost use Rattle.std.specs.Prelude.{◌++◌, ◌∷◌, [], ◌↔◌, IfOk, IsTrue, List, OnOk};
 ghost use Rattle.message_expected.specs.Expected.{front, IsExpected, IsExpectedSet};
 ghost use Rattle.message_expected.specs.Expected.{MayFollow, Picks};
 ghost use Rattle.message_expected.specs.Kinds.{numbered};
@@ -9,22 +9,10 @@ ghost use Rattle.message_expected.specs.declared.kinds.Kind.TheVariants as kind;
 
 use crate::begin::{begins_program, is_program};
 use crate::kinds::{KEYWORDS, Kind, SIGNS, spelling};
+use crate::tokens::front;
 use std::alloc::{AllocError, Global};
 use syntax::Token;
 use syntax_tree::Text;
-
-/// The text up to the end of the last of these tokens.
-fn front<'a>(text: &'a [u8], before: &[Token]) -> &'a [u8]
-    ensures { result.now ≡ front text.now before.now }
-{
-    match before.last() {
-        None => &[],
-        Some(token) => {
-            let end = token.start as usize + token.len as usize;
-            &text[..end.min(text.len())]
-        }
-    }
-}
 
 /// Whether the word may stand behind the text.
 fn may_follow(alloc: Global, text: &[u8], word: &[u8]) -> Result<bool, AllocError>

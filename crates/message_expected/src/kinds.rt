@@ -3,11 +3,11 @@
 ghost use Rattle.std.specs.Prelude.{◌≡◌, ◌++◌, OnOk, []};
 ghost use Rattle.std.specs.List.{slice_index_or};
 ghost use Rattle.syntax.specs.Spellings.{keywords, signs};
-ghost use Rattle.message_expected.specs.Kinds.{has, same, spelling, told};
+ghost use Rattle.message_expected.specs.Kinds.{has, kind_of, of_token, same, spelling, told};
 
 use message_text::add_quoted;
 use std::alloc::AllocError;
-use syntax::{keyword_spelling, sign_spelling};
+use syntax::{Token, TokenKind, keyword_spelling, sign_spelling};
 use syntax_tree::Text;
 
 /// How many keywords there are.
@@ -80,7 +80,7 @@ pub(crate) fn add_told(text: &mut Text, kind: Kind) -> Result<(), AllocError>
 }
 
 /// Whether the kinds are one.
-fn is_same(kind: Kind, other: Kind) -> bool
+pub(crate) fn is_same(kind: Kind, other: Kind) -> bool
     ensures { result ≡ same kind other }
 {
     match (kind, other) {
@@ -99,4 +99,26 @@ pub(crate) fn has(found: &[Kind], kind: Kind) -> bool
     ensures { result ≡ has found.now kind }
 {
     found.iter().any(|other| is_same(kind, *other))
+}
+
+/// The kind of a token.
+pub(crate) fn of_token(token: Token) -> Kind
+    ensures { result ≡ of_token token.kind }
+{
+    match token.kind {
+        TokenKind::Ident => Kind::Name,
+        TokenKind::Keyword { at } => Kind::Keyword { at },
+        TokenKind::Literal { .. } => Kind::Number,
+        TokenKind::Sign { at } => Kind::Sign { at },
+    }
+}
+
+/// The kind of a token, or of the end where there is none.
+pub(crate) fn kind_of(token: Option<Token>) -> Kind
+    ensures { result ≡ kind_of token }
+{
+    match token {
+        None => Kind::End,
+        Some(token) => of_token(token),
+    }
 }

@@ -1,14 +1,13 @@
 //! The note of what is expected.
 
 ghost use Rattle.std.specs.Prelude.{◌≡◌, ◌++◌, OnOk};
-ghost use Rattle.syntax.specs.Tokens.{bytes_of};
 ghost use Rattle.message_text.specs.Either.{either, others as others_text, separator};
-ghost use Rattle.message_text.specs.Words.{quoted};
 ghost use Rattle.message_expected.specs.Expected.{last};
 ghost use Rattle.message_expected.specs.Notes.{expected_note, sentence};
 
 use crate::groups::expectations;
 use crate::kinds::Kind;
+use crate::tokens::bytes_of;
 use message_text::{add_note, add_quoted};
 use std::alloc::{AllocError, Global};
 use syntax::Token;
@@ -48,16 +47,6 @@ fn add_either(text: &mut Text, all: &[Text]) -> Result<(), AllocError>
     }
 }
 
-/// Puts the bytes of the text that are the token, between backquotes.
-fn add_token(message: &mut Text, text: &[u8], token: Token) -> Result<(), AllocError>
-    ensures { OnOk result (message.new ≡ message.old ++ quoted (bytes_of text.now token)) }
-{
-    let start = (token.start as usize).min(text.len());
-    let behind = &text[start..];
-    let len = (token.len as usize).min(behind.len());
-    add_quoted(message, &behind[..len])
-}
-
 /// Puts what is expected behind the last of these tokens.
 fn add_sentence(
     message: &mut Text,
@@ -76,7 +65,7 @@ fn add_sentence(
         }
         Some(token) => {
             message.extend(b"after ")?;
-            add_token(message, text, *token)?;
+            add_quoted(message, bytes_of(text, *token))?;
             message.extend(b" expected ")?;
             add_either(message, all)
         }

@@ -50,9 +50,9 @@ declared what a b = what ++ (codes ": declared " ++ (decimal a ++ (codes ", need
 abbrev pub both : (before : List ℕ) (a : ℕ) (middle : List ℕ) (b : ℕ) (behind : List ℕ) → List ℕ
 both before a middle b behind = before ++ (decimal a ++ (middle ++ (decimal b ++ behind)))
 
--- a bound that is below the least one, or above the deadline
+-- a bound that is no solution of its recurrence, with what that gives, or above the deadline
 abbrev pub bound : (a b : ℕ) → List ℕ
-bound a b = both (codes "a bound: declared ") a (codes ", and ") b (codes " is the least, or its deadline")
+bound a b = both (codes "a bound: declared ") a (codes "; ") b (codes " is what its recurrence gives, or its deadline")
 
 -- a number of 32 bits with its sign
 abbrev pub signed : ℕ → List ℕ

@@ -58,7 +58,7 @@ fn add_both(
     text.extend(behind)
 }
 
-/// Puts that a bound is below the least one, or above the deadline.
+/// Puts that a bound is no solution of its recurrence, with what that gives, or above the deadline.
 fn add_bound(text: &mut Text, a: usize, b: usize) -> Result<(), AllocError>
     ensures { OnOk result (text.new ≡ text.old ++ bound a b) }
 {
@@ -66,9 +66,9 @@ fn add_bound(text: &mut Text, a: usize, b: usize) -> Result<(), AllocError>
         text,
         b"a bound: declared ",
         a,
-        b", and ",
+        b"; ",
         b,
-        b" is the least, or its deadline",
+        b" is what its recurrence gives, or its deadline",
     )
 }
 

@@ -2,3 +2,5 @@ pub mod Walks
 pub mod Elsewhere
 pub mod Counting
 pub mod Rules
+pub mod Answered
+pub mod Examples

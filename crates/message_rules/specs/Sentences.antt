@@ -8,6 +8,8 @@ use Rattle.syntax_tree.specs.Parts.{same_place}
 use Rattle.syntax_tree.specs.declared.place.Place.{Place}
 use Rattle.message_rules.specs.declared.fault.Counted.{Counted}
 use Rattle.message_rules.specs.declared.fault.Counted.TheVariants as counted_is
+use Rattle.message_rules.specs.declared.fault.Quantity.{Quantity}
+use Rattle.message_rules.specs.declared.fault.Quantity.TheVariants as quantity_is
 use Rattle.message_rules.specs.declared.fault.Fault.{Fault}
 use Rattle.message_rules.specs.declared.fault.Fault.TheVariants as fault_is
 
@@ -46,16 +48,35 @@ one_too_many counted_is.Event = codes "this is event number 65; 64 are the most"
 one_too_many counted_is.Condition = codes "this is condition number 257; 256 are the most"
 one_too_many counted_is.Routine = codes "this is routine number 513; 512 are the most"
 
+-- the words around a number
+pub record Around : Type 0 where
+  pub before : List ℕ
+  pub behind : List ℕ
+
+-- what is said of a number that is wrong by itself
+abbrev pub around : Quantity → Around
+around quantity_is.Elements = record { before = codes "the array has "; behind = codes " elements; 65536 are the most" }
+around quantity_is.Turns = record { before = codes "the loop has "; behind = codes " turns; 1000000 are the most" }
+around quantity_is.Frame = record { before = codes "the frame is "; behind = codes "; it may be 10 to 1000000000" }
+around quantity_is.FirstActivation = record { before = codes "the first activation is "; behind = codes "; it may be 0 to 1000000000" }
+around quantity_is.RaisedNumber = record { before = codes "the exception's number is "; behind = codes "; it may be 10 to 999" }
+around quantity_is.HandlerNumber = record { before = codes "the handler's number is "; behind = codes "; it may be 1 to 4 or 10 to 999" }
+around quantity_is.ListedNumber = record { before = codes "the handler lists "; behind = codes " twice" }
+around quantity_is.WaitLimit = record { before = codes "the limit of a wait is "; behind = codes "; it may be 1 to 1000000000" }
+
+abbrev pub crossed_bounds : (low high : ℤ) → List ℕ
+crossed_bounds low high = numbers_among (codes "the lower bound ") low (codes " is above the upper bound ") high []
+
+abbrev pub wrong_deadline : (ticks frame : ℤ) → List ℕ
+wrong_deadline ticks frame = numbers_among (codes "the deadline is ") ticks (codes "; it may be 10 to ") frame (codes ", its frame")
+
 -- what is said of what is wrong among these declarations
 abbrev pub sentence : List (Decl Place) → Fault → List ℕ
-sentence ds (fault_is.CrossedBounds low high) = numbers_among (codes "the lower bound ") low (codes " is above the upper bound ") high []
-sentence ds (fault_is.LongArray elements) = number_among (codes "the array has ") elements (codes " elements; 65536 are the most")
-sentence ds (fault_is.Frame ticks) = number_among (codes "the frame is ") ticks (codes "; it may be 10 to 1000000000")
-sentence ds (fault_is.Deadline ticks frame) = numbers_among (codes "the deadline is ") ticks (codes "; it may be 10 to ") frame (codes ", its frame")
-sentence ds (fault_is.FirstActivation ticks) = number_among (codes "the first activation is ") ticks (codes "; it may be 0 to 1000000000")
+sentence ds (fault_is.Number of value) = number_among (around of).before value (around of).behind
+sentence ds (fault_is.CrossedBounds low high) = crossed_bounds low high
+sentence ds fault_is.EndlessLoop = codes "the upper bound of a loop is 2147483647; it may be up to 2147483646"
+sentence ds (fault_is.Deadline ticks frame) = wrong_deadline ticks frame
 sentence ds (fault_is.EventUse place processes) = name_among (codes "the event ") (event_name place ds) (codes " starts ") processes (codes " processes; one is wanted")
-sentence ds (fault_is.Repeated number) = number_among (codes "the handler lists ") number (codes " twice")
-sentence ds (fault_is.HandlerNumber number) = number_among (codes "the handler's number is ") number (codes "; it may be 1 to 4 or 10 to 999")
 sentence ds fault_is.NoProcess = codes "the program has no process"
 sentence ds (fault_is.OneTooMany counted) = one_too_many counted
 sentence ds (fault_is.VariableWords words) = count_among (codes "the variables take ") words (codes " words; 1048576 are the most")

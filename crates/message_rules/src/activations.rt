@@ -9,7 +9,7 @@ ghost use Rattle.static_numbers.specs.Processes.{frame_of, deadline_of, bad_limi
 ghost use Rattle.message_rules.specs.Findings.{first_of, process_findings, ticks as ticks_of};
 ghost use Rattle.message_rules.specs.Seen.{LookedAt, left};
 
-use crate::fault::{Fault, note};
+use crate::fault::{Fault, Quantity, note};
 use static_declarations::Declarations;
 use static_rule::{Violation, rule};
 use syntax_tree::{Constant, Declaration, Place, Process, Trigger};
@@ -110,7 +110,10 @@ fn process(
         broken,
         rule::WRONG_ACTIVATION,
         declarations.out_of(LEAST_TICKS, MOST_TICKS, frame),
-        Fault::Frame { ticks: frame_ticks },
+        Fault::Number {
+            of: Quantity::Frame,
+            value: frame_ticks,
+        },
     );
     note(
         known,
@@ -127,8 +130,9 @@ fn process(
         broken,
         rule::WRONG_ACTIVATION,
         bad_start(declarations, activation),
-        Fault::FirstActivation {
-            ticks: first_ticks(declarations, activation),
+        Fault::Number {
+            of: Quantity::FirstActivation,
+            value: first_ticks(declarations, activation),
         },
     );
 }

@@ -7,7 +7,7 @@ ghost use Rattle.static_numbers.specs.Types.{crossed as crossed_of, too_long as 
 ghost use Rattle.message_rules.specs.Findings.{bounds_findings};
 ghost use Rattle.message_rules.specs.Seen.{LookedAt, bounds_of, left};
 
-use crate::fault::{Fault, note};
+use crate::fault::{Fault, Quantity, note};
 use static_declarations::Declarations;
 use static_rule::{Violation, rule};
 use syntax_tree::{Constant, Declaration, Member, Param, Place, Routine, Scalar, Type, Var};
@@ -67,13 +67,15 @@ fn pair(
         crossed(declarations, bounds),
         Fault::CrossedBounds { low, high },
     );
-    let elements = high - low + 1;
     note(
         known,
         broken,
         rule::LONG_ARRAY,
         too_long(declarations, bounds),
-        Fault::LongArray { elements },
+        Fault::Number {
+            of: Quantity::Elements,
+            value: high - low + 1,
+        },
     );
 }
 

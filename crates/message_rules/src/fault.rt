@@ -18,25 +18,40 @@ pub(crate) enum Counted {
     Routine,
 }
 
+/// What a number is of, that is wrong by itself.
+#[derive(Clone, Copy)]
+pub(crate) enum Quantity {
+    /// The elements of an array: too many.
+    Elements,
+    /// The turns of a loop: too many.
+    Turns,
+    /// The ticks of a frame: out of its range.
+    Frame,
+    /// The ticks of a first activation: out of its range.
+    FirstActivation,
+    /// The number of an exception that a statement raises: out of its range.
+    RaisedNumber,
+    /// A number of a handler: out of its range.
+    HandlerNumber,
+    /// A number that a handler lists twice.
+    ListedNumber,
+    /// The limit of a wait: out of its range.
+    WaitLimit,
+}
+
 /// What is wrong, with the values that the program has there.
 #[derive(Clone, Copy)]
 pub(crate) enum Fault {
+    /// A number is wrong by itself.
+    Number { of: Quantity, value: i64 },
     /// A lower bound is above its upper bound.
     CrossedBounds { low: i64, high: i64 },
-    /// An array has too many elements.
-    LongArray { elements: i64 },
-    /// A frame is out of its range.
-    Frame { ticks: i64 },
+    /// A loop goes up to the greatest word.
+    EndlessLoop,
     /// A deadline is below its range, or above its frame.
     Deadline { ticks: i64, frame: i64 },
-    /// A first activation is out of its range.
-    FirstActivation { ticks: i64 },
     /// The event whose name stands there does not start exactly one process, but so many.
     EventUse { event: Place, processes: usize },
-    /// A handler lists the number twice.
-    Repeated { number: i64 },
-    /// A handler may not have the number.
-    HandlerNumber { number: i64 },
     /// There is no process.
     NoProcess,
     /// There is one of these too many.

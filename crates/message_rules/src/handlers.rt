@@ -9,7 +9,7 @@ ghost use Rattle.static_numbers.specs.Processes.{handled, handler_numbers, all_h
 ghost use Rattle.message_rules.specs.Findings.{handled_findings};
 ghost use Rattle.message_rules.specs.Seen.{LookedAt, handled_of, left};
 
-use crate::fault::{Fault, note};
+use crate::fault::{Fault, Quantity, note};
 use static_declarations::Declarations;
 use static_rule::{Violation, rule};
 use syntax_tree::{Constant, Declaration, Handler, Place};
@@ -81,14 +81,20 @@ fn number_at(
         broken,
         rule::WRONG_HANDLER,
         repeated(declarations, before, number),
-        Fault::Repeated { number: value },
+        Fault::Number {
+            of: Quantity::ListedNumber,
+            value,
+        },
     );
     note(
         known,
         broken,
         rule::WRONG_NUMBER,
         bad_number(declarations, number),
-        Fault::HandlerNumber { number: value },
+        Fault::Number {
+            of: Quantity::HandlerNumber,
+            value,
+        },
     );
 }
 

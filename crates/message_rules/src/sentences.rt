@@ -3,9 +3,9 @@
 ghost use Rattle.std.specs.Prelude.{◌≡◌, ◌++◌, OnOk, map};
 ghost use Rattle.std.specs.Fmt.{signed_decimal};
 ghost use Rattle.syntax_tree.specs.Placed.{placed_decl};
-ghost use Rattle.message_rules.specs.Sentences.{count_among, event_name as event_name_of, name_among, number_among, numbers_among, one_too_many, sentence};
+ghost use Rattle.message_rules.specs.Sentences.{around, count_among, crossed_bounds, event_name as event_name_of, name_among, number_among, numbers_among, one_too_many, sentence, wrong_deadline};
 
-use crate::fault::{Counted, Fault};
+use crate::fault::{Counted, Fault, Quantity};
 use itoa::Buffer;
 use message_text::{add_number, add_quoted};
 use std::alloc::AllocError;
@@ -99,6 +99,66 @@ fn one_too_many(counted: Counted) -> &'static [u8]
     }
 }
 
+/// What stands before a number that is wrong by itself.
+fn words_before(of: Quantity) -> &'static [u8]
+    ensures { result.now ≡ (around of).before }
+{
+    match of {
+        Quantity::Elements => b"the array has ",
+        Quantity::Turns => b"the loop has ",
+        Quantity::Frame => b"the frame is ",
+        Quantity::FirstActivation => b"the first activation is ",
+        Quantity::RaisedNumber => b"the exception's number is ",
+        Quantity::HandlerNumber => b"the handler's number is ",
+        Quantity::ListedNumber => b"the handler lists ",
+        Quantity::WaitLimit => b"the limit of a wait is ",
+    }
+}
+
+/// What stands behind a number that is wrong by itself.
+fn words_behind(of: Quantity) -> &'static [u8]
+    ensures { result.now ≡ (around of).behind }
+{
+    match of {
+        Quantity::Elements => b" elements; 65536 are the most",
+        Quantity::Turns => b" turns; 1000000 are the most",
+        Quantity::Frame => b"; it may be 10 to 1000000000",
+        Quantity::FirstActivation => b"; it may be 0 to 1000000000",
+        Quantity::RaisedNumber => b"; it may be 10 to 999",
+        Quantity::HandlerNumber => b"; it may be 1 to 4 or 10 to 999",
+        Quantity::ListedNumber => b" twice",
+        Quantity::WaitLimit => b"; it may be 1 to 1000000000",
+    }
+}
+
+/// Puts that a lower bound is above its upper bound.
+fn add_crossed(text: &mut Text, low: i64, high: i64) -> Result<(), AllocError>
+    ensures { OnOk result (text.new ≡ text.old ++ crossed_bounds low high) }
+{
+    add_both(
+        text,
+        b"the lower bound ",
+        low,
+        b" is above the upper bound ",
+        high,
+        b"",
+    )
+}
+
+/// Puts that a deadline is below its range, or above its frame.
+fn add_deadline(text: &mut Text, ticks: i64, frame: i64) -> Result<(), AllocError>
+    ensures { OnOk result (text.new ≡ text.old ++ wrong_deadline ticks frame) }
+{
+    add_both(
+        text,
+        b"the deadline is ",
+        ticks,
+        b"; it may be 10 to ",
+        frame,
+        b", its frame",
+    )
+}
+
 /// Puts what is said of what is wrong among these declarations.
 pub(crate) fn add_sentence(
     text: &mut Text,
@@ -108,42 +168,14 @@ pub(crate) fn add_sentence(
     ensures { OnOk result (text.new ≡ text.old ++ sentence (map placed_decl list.now) fault) }
 {
     match fault {
-        Fault::CrossedBounds { low, high } => add_both(
-            text,
-            b"the lower bound ",
-            low,
-            b" is above the upper bound ",
-            high,
-            b"",
-        ),
-        Fault::LongArray { elements } => add_among(
-            text,
-            b"the array has ",
-            elements,
-            b" elements; 65536 are the most",
-        ),
-        Fault::Frame { ticks } => {
-            add_among(
-                text,
-                b"the frame is ",
-                ticks,
-                b"; it may be 10 to 1000000000",
-            )
+        Fault::Number { of, value } => {
+            add_among(text, words_before(of), value, words_behind(of))
         }
-        Fault::Deadline { ticks, frame } => add_both(
-            text,
-            b"the deadline is ",
-            ticks,
-            b"; it may be 10 to ",
-            frame,
-            b", its frame",
-        ),
-        Fault::FirstActivation { ticks } => add_among(
-            text,
-            b"the first activation is ",
-            ticks,
-            b"; it may be 0 to 1000000000",
-        ),
+        Fault::CrossedBounds { low, high } => add_crossed(text, low, high),
+        Fault::EndlessLoop => {
+            text.extend(b"the upper bound of a loop is 2147483647; it may be up to 2147483646")
+        }
+        Fault::Deadline { ticks, frame } => add_deadline(text, ticks, frame),
         Fault::EventUse { event, processes } => add_name(
             text,
             b"the event ",
@@ -151,13 +183,6 @@ pub(crate) fn add_sentence(
             b" starts ",
             processes,
             b" processes; one is wanted",
-        ),
-        Fault::Repeated { number } => add_among(text, b"the handler lists ", number, b" twice"),
-        Fault::HandlerNumber { number } => add_among(
-            text,
-            b"the handler's number is ",
-            number,
-            b"; it may be 1 to 4 or 10 to 999",
         ),
         Fault::NoProcess => text.extend(b"the program has no process"),
         Fault::OneTooMany(counted) => text.extend(one_too_many(counted)),

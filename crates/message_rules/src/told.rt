@@ -6,7 +6,7 @@ ghost use Rattle.message_rules.specs.Findings.{findings, first_wrong, rule_sente
 
 use crate::fault::Fault;
 use crate::sentences::add_sentence;
-use crate::{activations, bounds, counts, events, handlers};
+use crate::{activations, bounds, counts, events, handlers, statements};
 use static_declarations::Declarations;
 use static_names::ResolvedProgram;
 use static_rule::Violation;
@@ -22,6 +22,7 @@ fn fault_at(
     ensures { IfOk result (λ fault. fault ≡ first_wrong broken (findings (placed declarations.now))) }
 {
     let mut known = None;
+    statements::look(&mut known, declarations, broken);
     bounds::look(&mut known, declarations, broken);
     activations::look(&mut known, declarations, broken);
     events::look(&mut known, declarations, broken);
@@ -31,12 +32,12 @@ fn fault_at(
 }
 
 /// The sentence that tells what is wrong by the rule with this number at this place, with the
-/// values and names of the program; `None` where no rule for declarations with that number fails at
-/// that place. By number: 32 and 44 of the bounds of a type, at the lower bound; 35 and 39 of a
-/// number of a handler; 36 of a frame, a deadline or a first activation; 37 at the name of an
-/// event; 40 to 42 of a thing that is one too many, at its name, or of no process, at the program's
-/// name; 43 at the program's name. The only error is want of memory.
-#[tactic(auto, unfolding(crate::specs::Findings::rule_sentence))]
+/// values and names of the program; `None` where none of these rules with that number fails there.
+/// By number: 32 and 44 of the bounds of a type, and 32 and 33 of a loop; 35 of a number that a
+/// handler lists twice; 36 of a frame, a deadline or a first activation; 37 of an event; 39 of the
+/// number of an exception that is raised or handled; 40 to 42 of no process, or of the thing that is
+/// one too many; 43 of the words of variables; 45 of the limit of a wait. The only error is want of
+/// memory.
 pub fn rule_sentence(
     alloc: Global,
     program: &ResolvedProgram,

@@ -48,8 +48,8 @@ wanted_behind part = codes " stands where " ++ (choice part ++ codes " is wanted
 
 -- a word behind this part that is no key of a part
 abbrev pub key_problem : Part → List ℕ
-key_problem FirstLine = codes " begins no line"
-key_problem OtherLine = codes " begins no line"
+key_problem FirstLine = codes " does not begin this line"
+key_problem OtherLine = codes " does not begin this line"
 key_problem Table = codes " is one word too many"
 key_problem End = codes " is one word too many"
 key_problem part = wanted_behind part

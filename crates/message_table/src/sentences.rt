@@ -61,7 +61,7 @@ fn add_key_problem(text: &mut Text, part: Part) -> Result<(), AllocError>
     ensures { OnOk result (text.new ≡ text.old ++ key_problem part) }
 {
     match part {
-        Part::FirstLine | Part::OtherLine => text.extend(b" begins no line"),
+        Part::FirstLine | Part::OtherLine => text.extend(b" does not begin this line"),
         Part::Table | Part::End => text.extend(b" is one word too many"),
         _ => add_wanted(text, part),
     }

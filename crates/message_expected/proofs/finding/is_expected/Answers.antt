@@ -1,4 +1,3 @@
-use Rattle.message_expected.specs.Kinds.{spelling}
 use Rattle.message_expected.proofs.Follows.{of_end, of_other, of_deadline}
 use Rattle.message_expected.proofs.finding.is_expected.Goals as goal
 
