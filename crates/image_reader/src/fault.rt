@@ -2,6 +2,30 @@
 
 use thiserror::Error;
 
+/// What a call gives; an error of it returns from the function. It is `?` with no conversion of the
+/// error, which spares the proof of each function that has many.
+macro_rules! tri {
+    ($called:expr) => {
+        match $called {
+            Ok(it) => it,
+            Err(error) => return Err(error),
+        }
+    };
+}
+
+/// What a call gives that takes no memory; a fault of it returns from a function that takes some.
+macro_rules! tri_fault {
+    ($called:expr) => {
+        match $called {
+            Ok(it) => it,
+            Err(fault) => return Err(ReadError::Fault(fault)),
+        }
+    };
+}
+
+pub(crate) use tri;
+pub(crate) use tri_fault;
+
 /// Why bytes were refused. A fault of the bytes prints as its number and its offset.
 #[derive(Clone, Copy, Debug, PartialEq, Eq, Error)]
 pub enum ImageFault {

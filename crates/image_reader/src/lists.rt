@@ -1,22 +1,38 @@
 //! Lists of parts that the bytes begin with. Each has as many as the counts say.
 
-ghost use Rattle.std.specs.Prelude.{◌≡◌, ◌++◌, [], map, IfOk};
+ghost use Rattle.std.specs.Prelude.{◌≡◌, ◌++◌, ◌∷◌, [], false, map, IfOk, OnOk};
 ghost use Rattle.image.specs.Raw.{routine_of};
 ghost use Rattle.image_format.specs.Gives.{Gives};
 ghost use Rattle.image_format.specs.Format.{each};
-ghost use Rattle.image_reader.specs.Grammar.{instr_format};
+ghost use Rattle.image_reader.specs.Grammar.{has, instr_format, is_again};
 ghost use Rattle.image_reader.specs.File.{conditions_format, devices_format, events_format, routines_format};
 
 use crate::counts::Counts;
+use crate::fault::{tri, tri_fault};
 use crate::instr::instr_at;
-use crate::names::name_at;
+use crate::names::{add_name, name_at};
 use crate::parts::{condition_at, device_at, routine_at};
 use crate::taken::{EarlierConditions, TakenNames};
 use image::{ConditionName, DeviceName, RawRoutine};
 use image_format::ReadError;
 use machine_isa::Instr;
-use std::alloc::Global;
+use std::alloc::{AllocError, Global};
 use syntax_tree::{List, Name};
+
+/// Adds a device, and takes its name.
+fn add_device(
+    alloc: Global,
+    devices: &mut List<DeviceName>,
+    taken: &mut TakenNames,
+    device: DeviceName,
+) -> Result<(), AllocError>
+    requires { has taken.old device.name ≡ false }
+    ensures devices { OnOk result (devices.new ≡ devices.old ++ device ∷ []) }
+    ensures taken { OnOk result (taken.new ≡ taken.old ++ device.name ∷ []) }
+{
+    taken.take(alloc, &device.name)?;
+    devices.push(device)
+}
 
 /// The devices, whose names are taken.
 pub fn devices_at<'a>(
@@ -32,9 +48,8 @@ pub fn devices_at<'a>(
     let mut devices = List::new(alloc);
     let mut rest = bytes;
     for _ in 0..counts.devices {
-        let (device, after) = device_at(alloc, rest, taken)?;
-        taken.take(alloc, &device.name)?;
-        devices.push(device)?;
+        let (device, after) = tri!(device_at(alloc, rest, taken));
+        add_device(alloc, &mut devices, taken, device)?;
         rest = after;
     }
     Ok((devices, rest))
@@ -54,12 +69,26 @@ pub fn events_at<'a>(
     let mut events = List::new(alloc);
     let mut rest = bytes;
     for _ in 0..counts.events {
-        let (event, after) = name_at(alloc, rest, taken)?;
-        taken.take(alloc, &event)?;
-        events.push(event)?;
+        let (event, after) = tri!(name_at(alloc, rest, taken));
+        add_name(alloc, &mut events, taken, event)?;
         rest = after;
     }
     Ok((events, rest))
+}
+
+/// Adds a condition, and notes it.
+fn add_condition(
+    alloc: Global,
+    conditions: &mut List<ConditionName>,
+    earlier: &mut EarlierConditions,
+    condition: ConditionName,
+) -> Result<(), AllocError>
+    requires { is_again earlier.old condition ≡ false }
+    ensures conditions { OnOk result (conditions.new ≡ conditions.old ++ condition ∷ []) }
+    ensures earlier { OnOk result (earlier.new ≡ earlier.old ++ condition ∷ []) }
+{
+    earlier.note(alloc, &condition)?;
+    conditions.push(condition)
 }
 
 /// The conditions.
@@ -76,9 +105,8 @@ pub fn conditions_at<'a>(
     let mut earlier = EarlierConditions::new(alloc);
     let mut rest = bytes;
     for _ in 0..counts.conditions {
-        let (condition, after) = condition_at(alloc, rest, taken, counts.monitors, &earlier)?;
-        earlier.note(alloc, &condition)?;
-        conditions.push(condition)?;
+        let (condition, after) = tri!(condition_at(alloc, rest, taken, counts.monitors, &earlier));
+        add_condition(alloc, &mut conditions, &mut earlier, condition)?;
         rest = after;
     }
     Ok((conditions, rest))
@@ -96,7 +124,7 @@ pub fn routines_at<'a>(
     let mut routines = List::new(alloc);
     let mut rest = bytes;
     for _ in 0..counts.routines {
-        let (routine, after) = routine_at(alloc, rest, counts)?;
+        let (routine, after) = tri!(routine_at(alloc, rest, counts));
         routines.push(routine)?;
         rest = after;
     }
@@ -111,7 +139,7 @@ pub fn instrs_at(alloc: Global, bytes: &[u8], count: u32) -> Result<(List<Instr>
     let mut code = List::new(alloc);
     let mut rest = bytes;
     for _ in 0..count {
-        let (instr, after) = instr_at(rest)?;
+        let (instr, after) = tri_fault!(instr_at(rest));
         code.push(instr)?;
         rest = after;
     }
