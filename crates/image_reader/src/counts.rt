@@ -1,8 +1,6 @@
 //! How many parts of each kind an image has.
 
 ghost use Rattle.std.specs.Prelude.{◌≡◌};
-ghost use Rattle.image_format.specs.Format.{both};
-ghost use Rattle.image_format.specs.TreeFormat.{u16_within as short_within, u32_within as long_within};
 ghost use Rattle.image_format.specs.Gives.{GivesOrFault};
 ghost use Rattle.image_reader.specs.Grammar.{counts_format};
 
@@ -22,39 +20,6 @@ pub struct Counts {
     pub code: u32,
 }
 
-/// How many devices, events, routines and instructions there are.
-#[derive(Clone, Copy)]
-struct More {
-    devices: u16,
-    events: u16,
-    routines: u16,
-    code: u32,
-}
-
-/// The counts from that of the devices on.
-fn more_at(bytes: &[u8]) -> Result<(More, &[u8]), ByteFault>
-    ensures { GivesOrFault (λ x. (
-      (x.0.devices, (x.0.events, (x.0.routines, x.0.code))),
-      x.1.now,
-    )) result
-        ((both (short_within 0 64) (λ devices. both (short_within 0 64) (λ events. both
-        (short_within 0 512) (λ routines. long_within 0 65535)))).read bytes.now) }
-{
-    let (devices, rest) = tri!(u16_within(bytes, 0, 64));
-    let (events, rest) = tri!(u16_within(rest, 0, 64));
-    let (routines, rest) = tri!(u16_within(rest, 0, 512));
-    let (code, rest) = tri!(u32_within(rest, 0, 65_535));
-    Ok((
-        More {
-            devices,
-            events,
-            routines,
-            code,
-        },
-        rest,
-    ))
-}
-
 /// The counts that the bytes begin with.
 pub fn counts_at(bytes: &[u8]) -> Result<(Counts, &[u8]), ByteFault>
     ensures { GivesOrFault (λ x. (x.0, x.1.now)) result (counts_format.read bytes.now) }
@@ -62,16 +27,19 @@ pub fn counts_at(bytes: &[u8]) -> Result<(Counts, &[u8]), ByteFault>
     let (processes, rest) = tri!(u16_within(bytes, 1, 64));
     let (monitors, rest) = tri!(u16_within(rest, 0, 64));
     let (conditions, rest) = tri!(u16_within(rest, 0, 256));
-    let (more, rest) = tri!(more_at(rest));
+    let (devices, rest) = tri!(u16_within(rest, 0, 64));
+    let (events, rest) = tri!(u16_within(rest, 0, 64));
+    let (routines, rest) = tri!(u16_within(rest, 0, 512));
+    let (code, rest) = tri!(u32_within(rest, 0, 65_535));
     Ok((
         Counts {
             processes,
             monitors,
             conditions,
-            devices: more.devices,
-            events: more.events,
-            routines: more.routines,
-            code: more.code,
+            devices,
+            events,
+            routines,
+            code,
         },
         rest,
     ))

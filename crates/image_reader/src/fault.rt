@@ -23,8 +23,19 @@ macro_rules! tri_fault {
     };
 }
 
+/// What a call gives that can only lack memory; a lack of it returns from a function that reads.
+macro_rules! tri_memory {
+    ($called:expr) => {
+        match $called {
+            Ok(it) => it,
+            Err(_) => return Err(ReadError::Memory),
+        }
+    };
+}
+
 pub(crate) use tri;
 pub(crate) use tri_fault;
+pub(crate) use tri_memory;
 
 /// Why bytes were refused. A fault of the bytes prints as its number and its offset.
 #[derive(Clone, Copy, Debug, PartialEq, Eq, Error)]

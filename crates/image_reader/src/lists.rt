@@ -8,7 +8,7 @@ ghost use Rattle.image_reader.specs.Grammar.{has, instr_format, is_again};
 ghost use Rattle.image_reader.specs.File.{conditions_format, devices_format, events_format, routines_format};
 
 use crate::counts::Counts;
-use crate::fault::{tri, tri_fault};
+use crate::fault::{tri, tri_fault, tri_memory};
 use crate::instr::instr_at;
 use crate::names::{add_name, name_at};
 use crate::parts::{condition_at, device_at, routine_at};
@@ -30,7 +30,7 @@ fn add_device(
     ensures devices { OnOk result (devices.new ≡ devices.old ++ device ∷ []) }
     ensures taken { OnOk result (taken.new ≡ taken.old ++ device.name ∷ []) }
 {
-    taken.take(alloc, &device.name)?;
+    tri!(taken.take(alloc, &device.name));
     devices.push(device)
 }
 
@@ -49,7 +49,7 @@ pub fn devices_at<'a>(
     let mut rest = bytes;
     for _ in 0..counts.devices {
         let (device, after) = tri!(device_at(alloc, rest, taken));
-        add_device(alloc, &mut devices, taken, device)?;
+        tri_memory!(add_device(alloc, &mut devices, taken, device));
         rest = after;
     }
     Ok((devices, rest))
@@ -70,7 +70,7 @@ pub fn events_at<'a>(
     let mut rest = bytes;
     for _ in 0..counts.events {
         let (event, after) = tri!(name_at(alloc, rest, taken));
-        add_name(alloc, &mut events, taken, event)?;
+        tri_memory!(add_name(alloc, &mut events, taken, event));
         rest = after;
     }
     Ok((events, rest))
@@ -87,8 +87,30 @@ fn add_condition(
     ensures conditions { OnOk result (conditions.new ≡ conditions.old ++ condition ∷ []) }
     ensures earlier { OnOk result (earlier.new ≡ earlier.old ++ condition ∷ []) }
 {
-    earlier.note(alloc, &condition)?;
+    tri!(earlier.note(alloc, &condition));
     conditions.push(condition)
+}
+
+/// The conditions, each of which is noted; none is yet.
+fn conditions_after<'a>(
+    alloc: Global,
+    bytes: &'a [u8],
+    counts: &Counts,
+    taken: &TakenNames,
+    earlier: &mut EarlierConditions,
+) -> Result<(List<ConditionName>, &'a [u8]), ReadError>
+    requires { earlier.old ≡ [] }
+    ensures { Gives (λ x. (x.0, x.1.now)) result
+        ((conditions_format counts.now taken.now).read bytes.now) }
+{
+    let mut conditions = List::new(alloc);
+    let mut rest = bytes;
+    for _ in 0..counts.conditions {
+        let (condition, after) = tri!(condition_at(alloc, rest, taken, counts.monitors, earlier));
+        tri_memory!(add_condition(alloc, &mut conditions, earlier, condition));
+        rest = after;
+    }
+    Ok((conditions, rest))
 }
 
 /// The conditions.
@@ -101,15 +123,8 @@ pub fn conditions_at<'a>(
     ensures { Gives (λ x. (x.0, x.1.now)) result
         ((conditions_format counts.now taken.now).read bytes.now) }
 {
-    let mut conditions = List::new(alloc);
     let mut earlier = EarlierConditions::new(alloc);
-    let mut rest = bytes;
-    for _ in 0..counts.conditions {
-        let (condition, after) = tri!(condition_at(alloc, rest, taken, counts.monitors, &earlier));
-        add_condition(alloc, &mut conditions, &mut earlier, condition)?;
-        rest = after;
-    }
-    Ok((conditions, rest))
+    conditions_after(alloc, bytes, counts, taken, &mut earlier)
 }
 
 /// The routines.
@@ -125,7 +140,7 @@ pub fn routines_at<'a>(
     let mut rest = bytes;
     for _ in 0..counts.routines {
         let (routine, after) = tri!(routine_at(alloc, rest, counts));
-        routines.push(routine)?;
+        tri_memory!(routines.push(routine));
         rest = after;
     }
     Ok((routines, rest))
@@ -140,7 +155,7 @@ pub fn instrs_at(alloc: Global, bytes: &[u8], count: u32) -> Result<(List<Instr>
     let mut rest = bytes;
     for _ in 0..count {
         let (instr, after) = tri_fault!(instr_at(rest));
-        code.push(instr)?;
+        tri_memory!(code.push(instr));
         rest = after;
     }
     Ok((code, rest))

@@ -9,7 +9,7 @@ ghost use Rattle.image_reader.specs.Grammar.{event_of, has, named_monitor_format
 ghost use Rattle.image_reader.specs.File.{monitors_format, processes_format, used_by, with_monitors};
 
 use crate::counts::Counts;
-use crate::fault::{tri, tri_fault};
+use crate::fault::{tri, tri_fault, tri_memory};
 use crate::names::{add_name, name_at};
 use crate::parts::monitor_at;
 use crate::process::process_at;
@@ -54,7 +54,7 @@ fn add_monitor(
     ensures things { OnOk result (monitors.new.things ≡ monitors.old.things ++ monitor ∷ []) }
     ensures taken { OnOk result (taken.new ≡ taken.old ++ name ∷ []) }
 {
-    monitors.things.push(monitor)?;
+    tri!(monitors.things.push(monitor));
     add_name(alloc, &mut monitors.names, taken, name)
 }
 
@@ -78,7 +78,7 @@ pub fn monitors_at<'a>(
     let mut rest = bytes;
     for _ in 0..counts.monitors {
         let ((name, monitor), after) = tri!(named_monitor_at(alloc, rest, taken));
-        add_monitor(alloc, &mut monitors, taken, name, monitor)?;
+        tri_memory!(add_monitor(alloc, &mut monitors, taken, name, monitor));
         rest = after;
     }
     Ok((monitors, rest))
@@ -135,8 +135,8 @@ fn add_process(
 {
     let kind = process.kind;
     let event = process.event;
-    processes.things.push(process)?;
-    use_event(&mut processes.used, kind, event)?;
+    tri!(processes.things.push(process));
+    tri!(use_event(&mut processes.used, kind, event));
     add_name(alloc, &mut processes.names, taken, name)
 }
 
@@ -169,7 +169,7 @@ pub fn processes_at<'a>(
             taken,
             processes.used.as_slice(),
         ));
-        add_process(alloc, &mut processes, taken, name, process)?;
+        tri_memory!(add_process(alloc, &mut processes, taken, name, process));
         rest = after;
     }
     Ok((processes, rest))

@@ -9,7 +9,7 @@ ghost use Rattle.image_format.specs.TreeFormat.{within};
 ghost use Rattle.image_reader.specs.Grammar.{has, name_format};
 ghost use Rattle.image_reader.specs.Taken.{Names};
 
-use crate::fault::{tri, tri_fault};
+use crate::fault::{tri, tri_fault, tri_memory};
 use crate::taken::TakenNames;
 use image_format::{ByteFault, ReadError, refusal, u8_at};
 use std::alloc::{AllocError, Global};
@@ -98,7 +98,7 @@ fn fresh_name(alloc: Global, bytes: &[u8], taken: &TakenNames) -> Result<Option<
     if !is_plain_name(bytes) {
         return Ok(None);
     }
-    let name = Name::new(alloc, bytes)?;
+    let name = tri!(Name::new(alloc, bytes));
     if taken.has(&name) {
         return Ok(None);
     }
@@ -116,7 +116,7 @@ pub fn name_at<'a>(
 {
     let (length, rest) = tri_fault!(length_at(bytes));
     let (name, rest) = tri_fault!(bytes_at(rest, usize::from(length)));
-    match fresh_name(alloc, name, taken)? {
+    match tri_memory!(fresh_name(alloc, name, taken)) {
         Some(name) => Ok((name, rest)),
         None => Err(ReadError::Fault(ByteFault {
             number: refusal::NAME,
@@ -136,6 +136,6 @@ pub fn add_name(
     ensures names { OnOk result (names.new ≡ names.old ++ name ∷ []) }
     ensures taken { OnOk result (taken.new ≡ taken.old ++ name ∷ []) }
 {
-    taken.take(alloc, &name)?;
+    tri!(taken.take(alloc, &name));
     names.push(name)
 }

@@ -4,8 +4,7 @@ ghost use Rattle.std.specs.Prelude.{◌≡◌, ◌&&◌, ◌||◌, ◌==◌, not
 ghost use Rattle.image.specs.Raw.{monitor_of, process_of, routine_of};
 ghost use Rattle.image_format.specs.Gives.{Gives, GivesOrFault};
 ghost use Rattle.image_format.specs.Format.{both, checked, u16 as two_bytes, u8 as one_byte, unless};
-ghost use Rattle.image_format.specs.TreeFormat.{u32_within as long_within};
-ghost use Rattle.image_reader.specs.Grammar.{condition_format, cost, cost_format, deadline_format, device_format, flag_format, handler_format, handler_tree_format, has, is_again, monitor_format, owner_format, release_format, room_format, routine_format, time_format, wrong_event, wrong_first, wrong_owner, wrong_stay};
+ghost use Rattle.image_reader.specs.Grammar.{condition_format, cost, cost_format, deadline_format, device_format, handler_format, handler_tree_format, has, is_again, monitor_format, owner_format, release_format, room_format, routine_format, time_format, wrong_event, wrong_first, wrong_owner, wrong_stay};
 
 use crate::counts::Counts;
 use crate::fault::{tri, tri_fault};
@@ -121,50 +120,37 @@ fn owner_number_at<'a>(
     }
 }
 
-/// The parameters and locals of a routine, and whether it has a result.
+/// Whose a routine is, its parameters and locals, and whether it has a result.
 #[derive(Clone, Copy)]
-struct Shape {
+struct Owner {
+    kind: u8,
+    owner: u16,
     params: u16,
     locals: u32,
     result: bool,
 }
 
-fn shape_at(bytes: &[u8]) -> Result<(Shape, &[u8]), ByteFault>
-    ensures { GivesOrFault (λ x. ((x.0.params, (x.0.locals, x.0.result)), x.1.now)) result
-        ((both two_bytes (λ params. both (long_within 0 4096) (λ locals. flag_format 4))).read
-        bytes.now) }
+fn owner_at<'a>(bytes: &'a [u8], counts: &Counts) -> Result<(Owner, &'a [u8]), ByteFault>
+    ensures { GivesOrFault (λ x. (
+      (x.0.kind, (x.0.owner, (x.0.params, (x.0.locals, x.0.result)))),
+      x.1.now,
+    )) result ((owner_format counts.now).read bytes.now) }
 {
-    let (params, rest) = tri!(u16_at(bytes));
+    let (kind, rest) = tri!(kind_at(bytes, 2));
+    let (owner, rest) = tri!(owner_number_at(rest, counts, kind));
+    let (params, rest) = tri!(u16_at(rest));
     let (locals, rest) = tri!(u32_within(rest, 0, 4096));
     let (result, rest) = tri!(flag_at(rest, 4));
     Ok((
-        Shape {
+        Owner {
+            kind,
+            owner,
             params,
             locals,
             result,
         },
         rest,
     ))
-}
-
-/// Whose a routine is, its parameters and locals, and whether it has a result.
-#[derive(Clone, Copy)]
-struct Owner {
-    kind: u8,
-    owner: u16,
-    shape: Shape,
-}
-
-fn owner_at<'a>(bytes: &'a [u8], counts: &Counts) -> Result<(Owner, &'a [u8]), ByteFault>
-    ensures { GivesOrFault (λ x. (
-      (x.0.kind, (x.0.owner, (x.0.shape.params, (x.0.shape.locals, x.0.shape.result)))),
-      x.1.now,
-    )) result ((owner_format counts.now).read bytes.now) }
-{
-    let (kind, rest) = tri!(kind_at(bytes, 2));
-    let (owner, rest) = tri!(owner_number_at(rest, counts, kind));
-    let (shape, rest) = tri!(shape_at(rest));
-    Ok((Owner { kind, owner, shape }, rest))
 }
 
 /// How long a routine of the kind is inside its monitor.
@@ -182,41 +168,35 @@ fn stay_at(bytes: &[u8], kind: u8) -> Result<(u32, &[u8]), ByteFault>
     }
 }
 
-/// How long a routine is suspended, waits, and is inside its monitor.
-#[derive(Clone, Copy)]
-struct Delays {
-    susp: u32,
-    waits: u32,
-    stay: u32,
-}
-
-fn delays_at(bytes: &[u8], kind: u8) -> Result<(Delays, &[u8]), ByteFault>
-    ensures { GivesOrFault (λ x. ((x.0.susp, (x.0.waits, x.0.stay)), x.1.now)) result
-        ((both cost (λ susp. both cost (λ waits. checked cost (wrong_stay kind)))).read
-        bytes.now) }
-{
-    let (susp, rest) = tri!(cost_at(bytes));
-    let (waits, rest) = tri!(cost_at(rest));
-    let (stay, rest) = tri!(stay_at(rest, kind));
-    Ok((Delays { susp, waits, stay }, rest))
-}
-
 /// Where the code of a routine stands, and what it takes of time.
 #[derive(Clone, Copy)]
 struct Time {
     start: u32,
     run: u32,
-    delays: Delays,
+    susp: u32,
+    waits: u32,
+    stay: u32,
 }
 
 fn routine_time_at(bytes: &[u8], kind: u8) -> Result<(Time, &[u8]), ByteFault>
-    ensures { GivesOrFault (λ x. ((x.0.start, (x.0.run, (x.0.delays.susp, (x.0.delays.waits, x.0.delays.stay)))), x.1.now))
+    ensures { GivesOrFault (λ x. ((x.0.start, (x.0.run, (x.0.susp, (x.0.waits, x.0.stay)))), x.1.now))
         result ((cost_format kind).read bytes.now) }
 {
     let (start, rest) = tri!(u32_at(bytes));
     let (run, rest) = tri!(cost_at(rest));
-    let (delays, rest) = tri!(delays_at(rest, kind));
-    Ok((Time { start, run, delays }, rest))
+    let (susp, rest) = tri!(cost_at(rest));
+    let (waits, rest) = tri!(cost_at(rest));
+    let (stay, rest) = tri!(stay_at(rest, kind));
+    Ok((
+        Time {
+            start,
+            run,
+            susp,
+            waits,
+            stay,
+        },
+        rest,
+    ))
 }
 
 /// A routine.
@@ -235,14 +215,14 @@ pub fn routine_at<'a>(
         RawRoutine {
             kind: owner.kind,
             owner: owner.owner,
-            params: owner.shape.params,
-            locals: owner.shape.locals,
-            result: owner.shape.result,
+            params: owner.params,
+            locals: owner.locals,
+            result: owner.result,
             start: time.start,
             run: time.run,
-            susp: time.delays.susp,
-            waits: time.delays.waits,
-            stay: time.delays.stay,
+            susp: time.susp,
+            waits: time.waits,
+            stay: time.stay,
             tree,
         },
         rest,

@@ -7,10 +7,10 @@ ghost use Rattle.image_reader.specs.Versions.{in_version};
 ghost use Rattle.image_format.specs.Gives.{Gives, GivesOrFault};
 ghost use Rattle.image_format.specs.Format.{both, checked, u16 as two_bytes, unless};
 ghost use Rattle.image_format.specs.TreeFormat.{in_image, tree_format, u32_within as long_within};
-ghost use Rattle.image_reader.specs.Grammar.{cost, deadline_format, deepest, handler_format, handler_tree_format, is_taken, numbers_format, process_format, release_format, room_format, time_format, wrong_event, wrong_first};
+ghost use Rattle.image_reader.specs.Grammar.{deadline_format, deepest, handler_format, handler_tree_format, is_taken, numbers_format, process_format, release_format, room_format, time_format, wrong_event, wrong_first};
 
 use crate::counts::Counts;
-use crate::fault::{tri, tri_fault};
+use crate::fault::{tri, tri_fault, tri_memory};
 use crate::fields::cost_at;
 use crate::parts::{DEEPEST, kind_at};
 use crate::trees::tree_at;
@@ -82,39 +82,15 @@ fn event_at<'a>(
     }
 }
 
-/// The first activation of a process, its event and its rank.
-#[derive(Clone, Copy)]
-struct Turn {
-    first: u32,
-    event: u16,
-    rank: u16,
-}
-
-/// The first activation of a process of the kind, its event and its rank.
-fn turn_at<'a>(
-    bytes: &'a [u8],
-    events: u16,
-    used: &[u16],
-    kind: u8,
-) -> Result<(Turn, &'a [u8]), ByteFault>
-    ensures { GivesOrFault (λ x. ((x.0.first, (x.0.event, x.0.rank)), x.1.now)) result
-        ((both (checked (long_within 0 1000000000) (wrong_first kind)) (λ first. both
-        (checked two_bytes (wrong_event events used.now kind)) (λ event. two_bytes))).read
-        bytes.now) }
-{
-    let (first, rest) = tri!(first_at(bytes, kind));
-    let (event, rest) = tri!(event_at(rest, events, used, kind));
-    let (rank, rest) = tri!(u16_at(rest));
-    Ok((Turn { first, event, rank }, rest))
-}
-
 /// When a process is released, within what it has to end, and its rank.
 #[derive(Clone, Copy)]
 struct Release {
     kind: u8,
     frame: u32,
     deadline: u32,
-    turn: Turn,
+    first: u32,
+    event: u16,
+    rank: u16,
 }
 
 fn release_at<'a>(
@@ -128,7 +104,7 @@ fn release_at<'a>(
         x.0.kind,
         (
           x.0.frame,
-          (x.0.deadline, (x.0.turn.first, (x.0.turn.event, x.0.turn.rank))),
+          (x.0.deadline, (x.0.first, (x.0.event, x.0.rank))),
         ),
       ),
       x.1.now,
@@ -138,39 +114,17 @@ fn release_at<'a>(
     let (kind, rest) = tri!(kind_at(bytes, 1));
     let (frame, rest) = tri!(u32_within(rest, 10, LONGEST_FRAME));
     let (deadline, rest) = tri!(deadline_at(rest, has_deadlines, frame));
-    let (turn, rest) = tri!(turn_at(rest, events, used, kind));
+    let (first, rest) = tri!(first_at(rest, kind));
+    let (event, rest) = tri!(event_at(rest, events, used, kind));
+    let (rank, rest) = tri!(u16_at(rest));
     Ok((
         Release {
             kind,
             frame,
             deadline,
-            turn,
-        },
-        rest,
-    ))
-}
-
-/// How long a process waits and is blocked, and within what it ends.
-#[derive(Clone, Copy)]
-struct Delays {
-    waits: u32,
-    block: u32,
-    bound: u32,
-}
-
-fn delays_at(bytes: &[u8]) -> Result<(Delays, &[u8]), ByteFault>
-    ensures { GivesOrFault (λ x. ((x.0.waits, (x.0.block, x.0.bound)), x.1.now)) result
-        ((both cost (λ waits. both cost (λ block. long_within 1 1000000000))).read
-        bytes.now) }
-{
-    let (waits, rest) = tri!(cost_at(bytes));
-    let (block, rest) = tri!(cost_at(rest));
-    let (bound, rest) = tri!(u32_within(rest, 1, LONGEST_FRAME));
-    Ok((
-        Delays {
-            waits,
-            block,
-            bound,
+            first,
+            event,
+            rank,
         },
         rest,
     ))
@@ -181,17 +135,30 @@ fn delays_at(bytes: &[u8]) -> Result<(Delays, &[u8]), ByteFault>
 struct Time {
     run: u32,
     susp: u32,
-    delays: Delays,
+    waits: u32,
+    block: u32,
+    bound: u32,
 }
 
 fn time_at(bytes: &[u8]) -> Result<(Time, &[u8]), ByteFault>
-    ensures { GivesOrFault (λ x. ((x.0.run, (x.0.susp, (x.0.delays.waits, (x.0.delays.block, x.0.delays.bound)))), x.1.now))
+    ensures { GivesOrFault (λ x. ((x.0.run, (x.0.susp, (x.0.waits, (x.0.block, x.0.bound)))), x.1.now))
         result (time_format.read bytes.now) }
 {
     let (run, rest) = tri!(cost_at(bytes));
     let (susp, rest) = tri!(cost_at(rest));
-    let (delays, rest) = tri!(delays_at(rest));
-    Ok((Time { run, susp, delays }, rest))
+    let (waits, rest) = tri!(cost_at(rest));
+    let (block, rest) = tri!(cost_at(rest));
+    let (bound, rest) = tri!(u32_within(rest, 1, LONGEST_FRAME));
+    Ok((
+        Time {
+            run,
+            susp,
+            waits,
+            block,
+            bound,
+        },
+        rest,
+    ))
 }
 
 /// What a process takes of memory, and where its body stands.
@@ -270,7 +237,7 @@ fn numbers_at(alloc: Global, bytes: &[u8], count: u16) -> Result<(List<u16>, &[u
     let mut last = 0;
     for _ in 0..count {
         let (number, after) = tri_fault!(number_at(rest, last));
-        numbers.push(number)?;
+        tri_memory!(numbers.push(number));
         last = number;
         rest = after;
     }
@@ -347,14 +314,14 @@ pub fn process_at<'a>(
             kind: release.kind,
             frame: release.frame,
             deadline: release.deadline,
-            first: release.turn.first,
-            event: release.turn.event,
-            rank: release.turn.rank,
+            first: release.first,
+            event: release.event,
+            rank: release.rank,
             run: time.run,
             susp: time.susp,
-            waits: time.delays.waits,
-            block: time.delays.block,
-            bound: time.delays.bound,
+            waits: time.waits,
+            block: time.block,
+            bound: time.bound,
             words: room.words,
             stack: room.stack,
             locals: room.locals,

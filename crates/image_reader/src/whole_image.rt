@@ -11,7 +11,7 @@ ghost use Rattle.image_reader.specs.Answer.{Tells, parts_of};
 ghost use Rattle.image_reader.specs.Held.{guarded_of, parts_with};
 
 use crate::counts::{Counts, counts_at};
-use crate::fault::{ImageFault, tri, tri_fault};
+use crate::fault::{ImageFault, tri, tri_fault, tri_memory};
 use crate::fields::u16_within;
 use crate::lists::{conditions_at, devices_at, events_at, instrs_at, routines_at};
 use crate::named::{NamedMonitors, NamedProcesses, monitors_at, processes_at};
@@ -229,7 +229,7 @@ fn named_at<'a>(
         length x.0.guarded.work.processes.things) }
 {
     let mut taken = TakenNames::new(alloc);
-    taken.take(alloc, program)?;
+    tri_memory!(taken.take(alloc, program));
     named_after(alloc, bytes, has_deadlines, counts, &mut taken)
 }
 
@@ -255,7 +255,7 @@ fn add_event(
     ensures { OnOk result (framed.new ≡
         framed.old ++ record { name = event.now; frame = frame } ∷ []) }
 {
-    let name = Name::new(alloc, event.as_bytes())?;
+    let name = tri!(Name::new(alloc, event.as_bytes()));
     framed.push(EventName { name, frame })
 }
 
@@ -270,7 +270,7 @@ fn framed(
 {
     let mut framed = List::new(alloc);
     for (at, event) in events.iter().enumerate() {
-        add_event(alloc, &mut framed, event, frame_for(at, processes))?;
+        tri!(add_event(alloc, &mut framed, event, frame_for(at, processes)));
     }
     Ok(framed)
 }
@@ -359,7 +359,7 @@ fn parts_at(
     let (counts, rest) = tri_fault!(counts_at(rest));
     let (program, rest) = tri!(name_at(alloc, rest, &TakenNames::new(alloc)));
     let (named, rest) = tri!(named_at(alloc, rest, has_deadlines, &counts, &program));
-    let image = assemble(alloc, overhead, program, named)?;
+    let image = tri_memory!(assemble(alloc, overhead, program, named));
     Ok((image, rest))
 }
 

@@ -20,7 +20,7 @@ loop-preserved c =
     let x = c.in-Ok.it.0 in
     let read : (f c.loop.devices).read c.loop.rest.now ≡ Ok (x, c.in-Ok.it.1.now) =
     subst (λ ns. (device_format ns).read c.loop.rest.now ≡ Ok (x, c.in-Ok.it.1.now)) c.loop.invariant.taken c.in-Ok.ensures.read in
-    rw (c.in_ok-add_device.ensures.devices, c.in_ok-add_device.ensures.taken) (record {
+    rw (c.in-Ok-add_device.ensures.devices, c.in-Ok-add_device.ensures.taken) (record {
       so_far = goes_on f c.loop.devices c.args.counts.now.devices c.loop.counter c.loop.rest.now x c.in-Ok.it.1.now (each_read f [] c.args.counts.now.devices c.args.bytes.now) c.loop-test.true read c.loop.invariant.so_far;
       taken = ap (λ (ns : List (List ℕ)). ns ++ x.name ∷ []) c.loop.invariant.taken ∙ append_assoc c.args.taken.now (map (λ d. d.name) c.loop.devices) (x.name ∷ []) ∙ ap (λ (ns : List (List ℕ)). c.args.taken.now ++ ns) (sym (map_push (λ d. d.name) c.loop.devices x));
     })

@@ -18,7 +18,7 @@ loop-preserved c =
     let x = c.in-Ok.it.0 in
     let read : (f c.loop.events).read c.loop.rest.now ≡ Ok (x, c.in-Ok.it.1.now) =
     subst (λ ns. (name_format ns).read c.loop.rest.now ≡ Ok (x, c.in-Ok.it.1.now)) c.loop.invariant.taken c.in-Ok.ensures.read in
-    rw (c.in_ok-add_name.ensures.names, c.in_ok-add_name.ensures.taken) (record {
+    rw (c.in-Ok-add_name.ensures.names, c.in-Ok-add_name.ensures.taken) (record {
       so_far = goes_on f c.loop.events c.args.counts.now.events c.loop.counter c.loop.rest.now x c.in-Ok.it.1.now (each_read f [] c.args.counts.now.events c.args.bytes.now) c.loop-test.true read c.loop.invariant.so_far;
       taken = ap (λ (ns : List (List ℕ)). ns ++ x ∷ []) c.loop.invariant.taken ∙ append_assoc c.args.taken.now (c.loop.events) (x ∷ []);
     })

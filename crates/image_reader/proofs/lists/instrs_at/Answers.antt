@@ -14,7 +14,7 @@ pub loop-preserved : goal.loop-preserved
 loop-preserved c =
     let f : List Instr → Format Instr = λ earlier. instr_format in
     let x = c.in-Ok.it.0 in
-    rw c.in_ok-push.ensures.ok (goes_on f c.loop.code c.args.count c.loop.counter c.loop.rest.now x c.in-Ok.it.1.now (each_read f [] c.args.count c.args.bytes.now) c.loop-test.true c.in-Ok.ensures c.loop.invariant)
+    rw c.in-Ok-push.ensures.ok (goes_on f c.loop.code c.args.count c.loop.counter c.loop.rest.now x c.in-Ok.it.1.now (each_read f [] c.args.count c.args.bytes.now) c.loop-test.true c.in-Ok.ensures c.loop.invariant)
 
 pub returns : goal.returns
 returns c =

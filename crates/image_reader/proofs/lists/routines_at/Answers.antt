@@ -16,7 +16,7 @@ pub loop-preserved : goal.loop-preserved
 loop-preserved c =
     let f : List Routine → Format Routine = λ earlier. routine_format c.args.counts.now in
     let x = c.in-Ok.it.0 in
-    rw (c.in_ok-push.ensures.ok, map_push routine_of c.loop.routines x) (goes_on f (map routine_of c.loop.routines) c.args.counts.now.routines c.loop.counter c.loop.rest.now (routine_of x) c.in-Ok.it.1.now (each_read f [] c.args.counts.now.routines c.args.bytes.now) c.loop-test.true c.in-Ok.ensures c.loop.invariant)
+    rw (c.in-Ok-push.ensures.ok, map_push routine_of c.loop.routines x) (goes_on f (map routine_of c.loop.routines) c.args.counts.now.routines c.loop.counter c.loop.rest.now (routine_of x) c.in-Ok.it.1.now (each_read f [] c.args.counts.now.routines c.args.bytes.now) c.loop-test.true c.in-Ok.ensures c.loop.invariant)
 
 pub returns : goal.returns
 returns c =

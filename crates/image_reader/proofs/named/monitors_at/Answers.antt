@@ -29,7 +29,7 @@ loop-preserved c =
     let read : (f (zip c.loop.monitors.names (map monitor_of c.loop.monitors.things))).read c.loop.rest.now ≡ Ok ((n, monitor_of m), c.in-Ok.it.1.now) = subst (λ ns. (named_monitor_format ns).read c.loop.rest.now ≡ Ok ((n, monitor_of m), c.in-Ok.it.1.now)) names_are c.in-Ok.ensures.read in
     let longer : zip (c.loop.monitors.names ++ n ∷ []) (map monitor_of (c.loop.monitors.things ++ m ∷ [])) ≡ (zip c.loop.monitors.names (map monitor_of c.loop.monitors.things)) ++ (n, monitor_of m) ∷ [] =
     ap (zip (c.loop.monitors.names ++ n ∷ [])) (map_push monitor_of c.loop.monitors.things m) ∙ zip_push c.loop.monitors.names (map monitor_of c.loop.monitors.things) n (monitor_of m) same_length in
-    rw (c.in_ok-add_monitor.ensures.names, c.in_ok-add_monitor.ensures.things, c.in_ok-add_monitor.ensures.taken) (record {
+    rw (c.in-Ok-add_monitor.ensures.names, c.in-Ok-add_monitor.ensures.things, c.in-Ok-add_monitor.ensures.taken) (record {
       so_far = subst (λ front. in_front front (each_read f front (c.args.counts.now.monitors - (c.loop.counter + 1)) c.in-Ok.it.1.now) ≡ (each_read f [] c.args.counts.now.monitors c.args.bytes.now)) (sym longer)
           (goes_on f (zip c.loop.monitors.names (map monitor_of c.loop.monitors.things)) c.args.counts.now.monitors c.loop.counter c.loop.rest.now (n, monitor_of m) c.in-Ok.it.1.now (each_read f [] c.args.counts.now.monitors c.args.bytes.now) c.loop-test.true read c.loop.invariant.so_far);
       taken = ap (λ (ns : List (List ℕ)). ns ++ n ∷ []) c.loop.invariant.taken ∙ append_assoc c.args.taken.now c.loop.monitors.names (n ∷ []);

@@ -33,7 +33,7 @@ loop-preserved c =
     let read : (f (zip c.loop.processes.names (map process_of c.loop.processes.things))).read c.loop.rest.now ≡ Ok ((n, process_of m), c.in-Ok.it.1.now) = subst (λ us. (named_process_format (in_version c.args.has_deadlines) c.args.counts.now (c.args.taken.now ++ map (λ p. p.0) (zip c.loop.processes.names (map process_of c.loop.processes.things))) us).read c.loop.rest.now ≡ Ok ((n, process_of m), c.in-Ok.it.1.now)) used_are (subst (λ ns. (named_process_format (in_version c.args.has_deadlines) c.args.counts.now ns c.as_slice.result.now).read c.loop.rest.now ≡ Ok ((n, process_of m), c.in-Ok.it.1.now)) names_are c.in-Ok.ensures.read) in
     let longer : zip (c.loop.processes.names ++ n ∷ []) (map process_of (c.loop.processes.things ++ m ∷ [])) ≡ (zip c.loop.processes.names (map process_of c.loop.processes.things)) ++ (n, process_of m) ∷ [] =
     ap (zip (c.loop.processes.names ++ n ∷ [])) (map_push process_of c.loop.processes.things m) ∙ zip_push c.loop.processes.names (map process_of c.loop.processes.things) n (process_of m) same_length in
-    rw (c.in_ok-add_process.ensures.names, c.in_ok-add_process.ensures.things, c.in_ok-add_process.ensures.taken, c.in_ok-add_process.ensures.used) (record {
+    rw (c.in-Ok-add_process.ensures.names, c.in-Ok-add_process.ensures.things, c.in-Ok-add_process.ensures.taken, c.in-Ok-add_process.ensures.used) (record {
       so_far = subst (λ front. in_front front (each_read f front (c.args.counts.now.processes - (c.loop.counter + 1)) c.in-Ok.it.1.now) ≡ (each_read f [] c.args.counts.now.processes c.args.bytes.now)) (sym longer)
           (goes_on f (zip c.loop.processes.names (map process_of c.loop.processes.things)) c.args.counts.now.processes c.loop.counter c.loop.rest.now (n, process_of m) c.in-Ok.it.1.now (each_read f [] c.args.counts.now.processes c.args.bytes.now) c.loop-test.true read c.loop.invariant.so_far);
       taken = ap (λ (ns : List (List ℕ)). ns ++ n ∷ []) c.loop.invariant.taken ∙ append_assoc c.args.taken.now c.loop.processes.names (n ∷ []);

@@ -17,7 +17,7 @@ loop-preserved c =
     let n = c.in-Ok.it.0 in
     let front = c.loop.numbers in
     let read : (f front).read c.loop.rest.now ≡ Ok (n, c.in-Ok.it.1.now) = after_last front c.loop.last c.loop.rest.now c.loop.invariant.above ∙ c.in-Ok.ensures in
-    rw c.in_ok-push.ensures.ok (record {
+    rw c.in-Ok-push.ensures.ok (record {
       so_far = goes_on f front c.args.count c.loop.counter c.loop.rest.now n c.in-Ok.it.1.now (each_read f [] c.args.count c.args.bytes.now) c.loop-test.true read c.loop.invariant.so_far;
       above = λ m. ap (λ b. b && is_taken m) (above_last front n m);
     })
