@@ -1,19 +1,20 @@
 //! Names that the bytes begin with.
 
-ghost use Rattle.std.specs.Prelude.{◌≡◌, ◌&&◌, false, not, IfOk};
+ghost use Rattle.std.specs.Prelude.{◌≡◌, ◌&&◌, ◌++◌, ◌∷◌, [], false, not, IfOk, OnOk};
 ghost use Rattle.std.specs.List.{list_all};
 ghost use Rattle.syntax.specs.Spellings.{is_identifier as identifier_test, is_letter as letter_test, is_word as word_test, keywords};
-ghost use Rattle.image_format.specs.Gives.{Gives};
+ghost use Rattle.image_format.specs.Gives.{Gives, GivesOrFault};
 ghost use Rattle.image_format.specs.Format.{bytes_as_are, both, checked, u8 as one_byte};
 ghost use Rattle.image_format.specs.TreeFormat.{within};
 ghost use Rattle.image_reader.specs.Grammar.{has, name_format};
 ghost use Rattle.image_reader.specs.Taken.{Names};
 
+use crate::fault::{tri, tri_fault, tri_memory};
 use crate::taken::TakenNames;
 use image_format::{ByteFault, ReadError, refusal, u8_at};
 use std::alloc::{AllocError, Global};
 use syntax::keyword_at;
-use syntax_tree::Name;
+use syntax_tree::{List, Name};
 
 fn is_letter(byte: u8) -> bool
     ensures { result ≡ letter_test byte }
@@ -55,31 +56,31 @@ fn is_keyword(name: &[u8]) -> bool
 }
 
 /// So many bytes as they are.
-pub fn bytes_at(bytes: &[u8], size: usize) -> Result<(&[u8], &[u8]), ReadError>
-    ensures { Gives (λ x. (x.0.now, x.1.now)) result ((bytes_as_are size).read bytes.now) }
+pub fn bytes_at(bytes: &[u8], size: usize) -> Result<(&[u8], &[u8]), ByteFault>
+    ensures { GivesOrFault (λ x. (x.0.now, x.1.now)) result ((bytes_as_are size).read bytes.now) }
 {
     if bytes.len() < size {
-        return Err(ReadError::Fault(ByteFault {
+        return Err(ByteFault {
             number: refusal::ENDS,
             left: 0,
-        }));
+        });
     }
     let (front, rest) = bytes.split_at(size);
     Ok((front, rest))
 }
 
 /// The length of a name.
-fn length_at(bytes: &[u8]) -> Result<(u8, &[u8]), ReadError>
-    ensures { Gives (λ x. (x.0, x.1.now)) result ((checked one_byte (within 0 63)).read bytes.now) }
+fn length_at(bytes: &[u8]) -> Result<(u8, &[u8]), ByteFault>
+    ensures { GivesOrFault (λ x. (x.0, x.1.now)) result ((checked one_byte (within 0 63)).read bytes.now) }
 {
-    let (length, rest) = u8_at(bytes)?;
+    let (length, rest) = tri!(u8_at(bytes));
     if length <= 63 {
         Ok((length, rest))
     } else {
-        Err(ReadError::Fault(ByteFault {
+        Err(ByteFault {
             number: refusal::RANGE,
             left: bytes.len(),
-        }))
+        })
     }
 }
 
@@ -97,7 +98,7 @@ fn fresh_name(alloc: Global, bytes: &[u8], taken: &TakenNames) -> Result<Option<
     if !is_plain_name(bytes) {
         return Ok(None);
     }
-    let name = Name::new(alloc, bytes)?;
+    let name = tri!(Name::new(alloc, bytes));
     if taken.has(&name) {
         return Ok(None);
     }
@@ -113,13 +114,28 @@ pub fn name_at<'a>(
     ensures read { Gives (λ x. (x.0, x.1.now)) result ((name_format taken.now).read bytes.now) }
     ensures fresh { IfOk result (λ x. has taken.now x.0 ≡ false) }
 {
-    let (length, rest) = length_at(bytes)?;
-    let (name, rest) = bytes_at(rest, usize::from(length))?;
-    match fresh_name(alloc, name, taken)? {
+    let (length, rest) = tri_fault!(length_at(bytes));
+    let (name, rest) = tri_fault!(bytes_at(rest, usize::from(length)));
+    match tri_memory!(fresh_name(alloc, name, taken)) {
         Some(name) => Ok((name, rest)),
         None => Err(ReadError::Fault(ByteFault {
             number: refusal::NAME,
             left: bytes.len(),
         })),
     }
+}
+
+/// Adds a name that is not taken, and takes it.
+pub fn add_name(
+    alloc: Global,
+    names: &mut List<Name>,
+    taken: &mut TakenNames,
+    name: Name,
+) -> Result<(), AllocError>
+    requires { has taken.old name ≡ false }
+    ensures names { OnOk result (names.new ≡ names.old ++ name ∷ []) }
+    ensures taken { OnOk result (taken.new ≡ taken.old ++ name ∷ []) }
+{
+    tri!(taken.take(alloc, &name));
+    names.push(name)
 }

@@ -2,11 +2,12 @@
 
 ghost use Rattle.std.specs.Prelude.{◌≡◌, ◌&&◌, ◌||◌, ◌==◌, not, nat_eq, nat_le, false, IfOk};
 ghost use Rattle.image.specs.Raw.{monitor_of, process_of, routine_of};
-ghost use Rattle.image_format.specs.Gives.{Gives};
+ghost use Rattle.image_format.specs.Gives.{Gives, GivesOrFault};
 ghost use Rattle.image_format.specs.Format.{both, checked, u16 as two_bytes, u8 as one_byte, unless};
 ghost use Rattle.image_reader.specs.Grammar.{condition_format, cost, cost_format, deadline_format, device_format, handler_format, handler_tree_format, has, is_again, monitor_format, owner_format, release_format, room_format, routine_format, time_format, wrong_event, wrong_first, wrong_owner, wrong_stay};
 
 use crate::counts::Counts;
+use crate::fault::{tri, tri_fault};
 use crate::fields::{cost_at, flag_at, u16_within};
 use crate::names::name_at;
 use crate::taken::{EarlierConditions, TakenNames};
@@ -27,18 +28,18 @@ pub fn device_at<'a>(
     ensures read { Gives (λ x. (x.0, x.1.now)) result ((device_format taken.now).read bytes.now) }
     ensures fresh { IfOk result (λ x. has taken.now x.0.name ≡ false) }
 {
-    let (name, rest) = name_at(alloc, bytes, taken)?;
-    let (out, rest) = flag_at(rest, 6)?;
+    let (name, rest) = tri!(name_at(alloc, bytes, taken));
+    let (out, rest) = tri_fault!(flag_at(rest, 6));
     Ok((DeviceName { name, out }, rest))
 }
 
 /// A monitor, after its name.
-pub fn monitor_at(bytes: &[u8]) -> Result<(RawMonitor, &[u8]), ReadError>
-    ensures { Gives (λ x. (monitor_of x.0, x.1.now)) result (monitor_format.read bytes.now) }
+pub fn monitor_at(bytes: &[u8]) -> Result<(RawMonitor, &[u8]), ByteFault>
+    ensures { GivesOrFault (λ x. (monitor_of x.0, x.1.now)) result (monitor_format.read bytes.now) }
 {
-    let (base, rest) = u32_at(bytes)?;
-    let (words, rest) = u32_at(rest)?;
-    let (ceiling, rest) = u16_at(rest)?;
+    let (base, rest) = tri!(u32_at(bytes));
+    let (words, rest) = tri!(u32_at(rest));
+    let (ceiling, rest) = tri!(u16_at(rest));
     Ok((
         RawMonitor {
             base,
@@ -61,8 +62,8 @@ pub fn condition_at<'a>(
         ((condition_format taken.now monitors earlier.now).read bytes.now) }
     ensures new { IfOk result (λ x. is_again earlier.now x.0 ≡ false) }
 {
-    let (name, rest) = name_at(alloc, bytes, taken)?;
-    let (mon, rest) = u16_below(rest, u32::from(monitors))?;
+    let (name, rest) = tri!(name_at(alloc, bytes, taken));
+    let (mon, rest) = tri_fault!(u16_below(rest, u32::from(monitors)));
     match earlier.unless_again(name, mon) {
         Some(condition) => Ok((condition, rest)),
         None => Err(ReadError::Fault(ByteFault {
@@ -73,18 +74,18 @@ pub fn condition_at<'a>(
 }
 
 /// A number of one byte that is at most the given one.
-pub fn kind_at(bytes: &[u8], last: u8) -> Result<(u8, &[u8]), ReadError>
-    ensures { Gives (λ x. (x.0, x.1.now)) result
+pub fn kind_at(bytes: &[u8], last: u8) -> Result<(u8, &[u8]), ByteFault>
+    ensures { GivesOrFault (λ x. (x.0, x.1.now)) result
         ((checked one_byte (λ kind. unless (nat_le kind last) 6)).read bytes.now) }
 {
-    let (kind, rest) = u8_at(bytes)?;
+    let (kind, rest) = tri!(u8_at(bytes));
     if kind <= last {
         Ok((kind, rest))
     } else {
-        Err(ReadError::Fault(ByteFault {
+        Err(ByteFault {
             number: refusal::KIND,
             left: bytes.len(),
-        }))
+        })
     }
 }
 
@@ -105,17 +106,17 @@ fn owner_number_at<'a>(
     bytes: &'a [u8],
     counts: &Counts,
     kind: u8,
-) -> Result<(u16, &'a [u8]), ReadError>
-    ensures { Gives (λ x. (x.0, x.1.now)) result
+) -> Result<(u16, &'a [u8]), ByteFault>
+    ensures { GivesOrFault (λ x. (x.0, x.1.now)) result
         ((checked two_bytes (wrong_owner counts.now kind)).read bytes.now) }
 {
-    let (owner, rest) = u16_at(bytes)?;
+    let (owner, rest) = tri!(u16_at(bytes));
     match owner_fault(counts, kind, owner) {
         None => Ok((owner, rest)),
-        Some(number) => Err(ReadError::Fault(ByteFault {
+        Some(number) => Err(ByteFault {
             number,
             left: bytes.len(),
-        })),
+        }),
     }
 }
 
@@ -129,17 +130,17 @@ struct Owner {
     result: bool,
 }
 
-fn owner_at<'a>(bytes: &'a [u8], counts: &Counts) -> Result<(Owner, &'a [u8]), ReadError>
-    ensures { Gives (λ x. (
+fn owner_at<'a>(bytes: &'a [u8], counts: &Counts) -> Result<(Owner, &'a [u8]), ByteFault>
+    ensures { GivesOrFault (λ x. (
       (x.0.kind, (x.0.owner, (x.0.params, (x.0.locals, x.0.result)))),
       x.1.now,
     )) result ((owner_format counts.now).read bytes.now) }
 {
-    let (kind, rest) = kind_at(bytes, 2)?;
-    let (owner, rest) = owner_number_at(rest, counts, kind)?;
-    let (params, rest) = u16_at(rest)?;
-    let (locals, rest) = u32_within(rest, 0, 4096)?;
-    let (result, rest) = flag_at(rest, 4)?;
+    let (kind, rest) = tri!(kind_at(bytes, 2));
+    let (owner, rest) = tri!(owner_number_at(rest, counts, kind));
+    let (params, rest) = tri!(u16_at(rest));
+    let (locals, rest) = tri!(u32_within(rest, 0, 4096));
+    let (result, rest) = tri!(flag_at(rest, 4));
     Ok((
         Owner {
             kind,
@@ -153,17 +154,17 @@ fn owner_at<'a>(bytes: &'a [u8], counts: &Counts) -> Result<(Owner, &'a [u8]), R
 }
 
 /// How long a routine of the kind is inside its monitor.
-fn stay_at(bytes: &[u8], kind: u8) -> Result<(u32, &[u8]), ReadError>
-    ensures { Gives (λ x. (x.0, x.1.now)) result ((checked cost (wrong_stay kind)).read bytes.now) }
+fn stay_at(bytes: &[u8], kind: u8) -> Result<(u32, &[u8]), ByteFault>
+    ensures { GivesOrFault (λ x. (x.0, x.1.now)) result ((checked cost (wrong_stay kind)).read bytes.now) }
 {
-    let (stay, rest) = cost_at(bytes)?;
+    let (stay, rest) = tri!(cost_at(bytes));
     if kind == 2 || stay == 0 {
         Ok((stay, rest))
     } else {
-        Err(ReadError::Fault(ByteFault {
+        Err(ByteFault {
             number: refusal::NOT_ZERO,
             left: bytes.len(),
-        }))
+        })
     }
 }
 
@@ -177,15 +178,15 @@ struct Time {
     stay: u32,
 }
 
-fn routine_time_at(bytes: &[u8], kind: u8) -> Result<(Time, &[u8]), ReadError>
-    ensures { Gives (λ x. ((x.0.start, (x.0.run, (x.0.susp, (x.0.waits, x.0.stay)))), x.1.now))
+fn routine_time_at(bytes: &[u8], kind: u8) -> Result<(Time, &[u8]), ByteFault>
+    ensures { GivesOrFault (λ x. ((x.0.start, (x.0.run, (x.0.susp, (x.0.waits, x.0.stay)))), x.1.now))
         result ((cost_format kind).read bytes.now) }
 {
-    let (start, rest) = u32_at(bytes)?;
-    let (run, rest) = cost_at(rest)?;
-    let (susp, rest) = cost_at(rest)?;
-    let (waits, rest) = cost_at(rest)?;
-    let (stay, rest) = stay_at(rest, kind)?;
+    let (start, rest) = tri!(u32_at(bytes));
+    let (run, rest) = tri!(cost_at(rest));
+    let (susp, rest) = tri!(cost_at(rest));
+    let (waits, rest) = tri!(cost_at(rest));
+    let (stay, rest) = tri!(stay_at(rest, kind));
     Ok((
         Time {
             start,
@@ -207,9 +208,9 @@ pub fn routine_at<'a>(
     ensures { Gives (λ x. (routine_of x.0, x.1.now)) result
         ((routine_format counts.now).read bytes.now) }
 {
-    let (owner, rest) = owner_at(bytes, counts)?;
-    let (time, rest) = routine_time_at(rest, owner.kind)?;
-    let (tree, rest) = tree_at(alloc, counts.monitors, DEEPEST, rest)?;
+    let (owner, rest) = tri_fault!(owner_at(bytes, counts));
+    let (time, rest) = tri_fault!(routine_time_at(rest, owner.kind));
+    let (tree, rest) = tri!(tree_at(alloc, counts.monitors, DEEPEST, rest));
     Ok((
         RawRoutine {
             kind: owner.kind,

@@ -1,16 +1,17 @@
 //! Whole images.
 
-ghost use Rattle.std.specs.Prelude.{◌≡◌, [], codes, length, map, IfOk};
+ghost use Rattle.std.specs.Prelude.{◌≡◌, ◌++◌, ◌∷◌, [], codes, length, map, IfOk, OnOk};
 ghost use Rattle.std.specs.List.{zip};
 ghost use Rattle.image.specs.Raw.{named_of, process_of, routine_of};
 ghost use Rattle.image_reader.specs.Versions.{in_version};
-ghost use Rattle.image_format.specs.Gives.{Gives};
-ghost use Rattle.image_reader.specs.File.{all_used, code_format, frame_for as frame_of, framed as framed_events, guarded_format, image_with, magic_format, named_format, over_format, parts_format, version_format, whole_read, work_format};
+ghost use Rattle.image_format.specs.Format.{both};
+ghost use Rattle.image_format.specs.Gives.{Gives, GivesOrFault};
+ghost use Rattle.image_reader.specs.File.{all_used, code_format, devices_format, events_format, frame_for as frame_of, framed as framed_events, guarded_format, image_with, magic_format, named_format, over_format, parts_format, version_format, whole_read, with_devices, work_format};
 ghost use Rattle.image_reader.specs.Answer.{Tells, parts_of};
 ghost use Rattle.image_reader.specs.Held.{guarded_of, parts_with};
 
 use crate::counts::{Counts, counts_at};
-use crate::fault::ImageFault;
+use crate::fault::{ImageFault, tri, tri_fault, tri_memory};
 use crate::fields::u16_within;
 use crate::lists::{conditions_at, devices_at, events_at, instrs_at, routines_at};
 use crate::named::{NamedMonitors, NamedProcesses, monitors_at, processes_at};
@@ -23,38 +24,38 @@ use std::alloc::{AllocError, Global};
 use syntax_tree::{List, Name};
 
 /// The letters RTEU.
-fn magic_at(bytes: &[u8]) -> Result<((), &[u8]), ReadError>
-    ensures { Gives (λ x. (codes "RTEU", x.1.now)) result (magic_format.read bytes.now) }
+fn magic_at(bytes: &[u8]) -> Result<((), &[u8]), ByteFault>
+    ensures { GivesOrFault (λ x. (codes "RTEU", x.1.now)) result (magic_format.read bytes.now) }
 {
-    let (magic, rest) = bytes_at(bytes, 4)?;
+    let (magic, rest) = tri!(bytes_at(bytes, 4));
     if magic == b"RTEU".as_slice() {
         Ok(((), rest))
     } else {
-        Err(ReadError::Fault(ByteFault {
+        Err(ByteFault {
             number: refusal::NO_IMAGE,
             left: bytes.len(),
-        }))
+        })
     }
 }
 
 /// Whether the version has the overhead and deadlines.
-fn version_at(bytes: &[u8]) -> Result<(bool, &[u8]), ReadError>
-    ensures { Gives (λ x. (in_version x.0, x.1.now)) result (version_format.read bytes.now) }
+fn version_at(bytes: &[u8]) -> Result<(bool, &[u8]), ByteFault>
+    ensures { GivesOrFault (λ x. (in_version x.0, x.1.now)) result (version_format.read bytes.now) }
 {
-    let (version, rest) = u16_at(bytes)?;
+    let (version, rest) = tri!(u16_at(bytes));
     match version {
         1 => Ok((false, rest)),
         2 => Ok((true, rest)),
-        _ => Err(ReadError::Fault(ByteFault {
+        _ => Err(ByteFault {
             number: refusal::NO_IMAGE,
             left: bytes.len(),
-        })),
+        }),
     }
 }
 
 /// The overhead, where it stands; else 0.
-fn overhead_at(bytes: &[u8], has_deadlines: bool) -> Result<(u16, &[u8]), ReadError>
-    ensures { Gives (λ x. (x.0, x.1.now)) result
+fn overhead_at(bytes: &[u8], has_deadlines: bool) -> Result<(u16, &[u8]), ByteFault>
+    ensures { GivesOrFault (λ x. (x.0, x.1.now)) result
         ((over_format (in_version has_deadlines)).read bytes.now) }
 {
     if has_deadlines {
@@ -125,10 +126,10 @@ fn work_at<'a>(
         ((work_format (in_version has_deadlines) counts.now taken.old).read bytes.now) }
     ensures each { IfOk result (λ x. length x.0.processes.names ≡ length x.0.processes.things) }
 {
-    let (routines, rest) = routines_at(alloc, bytes, counts)?;
-    let (processes, rest) = processes_at(alloc, rest, has_deadlines, counts, taken)?;
+    let (routines, rest) = tri!(routines_at(alloc, bytes, counts));
+    let (processes, rest) = tri!(processes_at(alloc, rest, has_deadlines, counts, taken));
     let is_used = are_used(processes.used.as_slice(), counts.events);
-    let (code, rest) = code_at(alloc, rest, is_used, counts.code)?;
+    let (code, rest) = tri!(code_at(alloc, rest, is_used, counts.code));
     Ok((
         Work {
             routines,
@@ -161,9 +162,9 @@ fn guarded_at<'a>(
     ensures each_process { IfOk result (λ x. length x.0.work.processes.names ≡
         length x.0.work.processes.things) }
 {
-    let (monitors, rest) = monitors_at(alloc, bytes, counts, taken)?;
-    let (conditions, rest) = conditions_at(alloc, rest, counts, taken)?;
-    let (work, rest) = work_at(alloc, rest, has_deadlines, counts, taken)?;
+    let (monitors, rest) = tri!(monitors_at(alloc, bytes, counts, taken));
+    let (conditions, rest) = tri!(conditions_at(alloc, rest, counts, taken));
+    let (work, rest) = tri!(work_at(alloc, rest, has_deadlines, counts, taken));
     Ok((
         Guarded {
             monitors,
@@ -182,6 +183,37 @@ pub struct Named {
     pub guarded: Guarded,
 }
 
+fn named_after<'a>(
+    alloc: Global,
+    bytes: &'a [u8],
+    has_deadlines: bool,
+    counts: &Counts,
+    taken: &mut TakenNames,
+) -> Result<(Named, &'a [u8]), ReadError>
+    ensures read { Gives (λ x. ((x.0.devices, (x.0.events, guarded_of x.0.guarded)), x.1.now))
+        result ((both (devices_format counts.now taken.old) (λ devices. both
+        (events_format counts.now (with_devices taken.old devices)) (λ events.
+        guarded_format (in_version has_deadlines) counts.now
+        (with_devices taken.old devices ++ events)))).read bytes.now) }
+    ensures each_monitor { IfOk result (λ x. length x.0.guarded.monitors.names ≡
+        length x.0.guarded.monitors.things) }
+    ensures each_process { IfOk result (λ x. length x.0.guarded.work.processes.names ≡
+        length x.0.guarded.work.processes.things) }
+{
+    let (devices, rest) = tri!(devices_at(alloc, bytes, counts, taken));
+    let (events, rest) = tri!(events_at(alloc, rest, counts, taken));
+    let (guarded, rest) = tri!(guarded_at(alloc, rest, has_deadlines, counts, taken));
+    Ok((
+        Named {
+            devices,
+            events,
+            guarded,
+        },
+        rest,
+    ))
+}
+
+/// All after the name of the program, which is taken.
 fn named_at<'a>(
     alloc: Global,
     bytes: &'a [u8],
@@ -197,18 +229,8 @@ fn named_at<'a>(
         length x.0.guarded.work.processes.things) }
 {
     let mut taken = TakenNames::new(alloc);
-    taken.take(alloc, program)?;
-    let (devices, rest) = devices_at(alloc, bytes, counts, &mut taken)?;
-    let (events, rest) = events_at(alloc, rest, counts, &mut taken)?;
-    let (guarded, rest) = guarded_at(alloc, rest, has_deadlines, counts, &mut taken)?;
-    Ok((
-        Named {
-            devices,
-            events,
-            guarded,
-        },
-        rest,
-    ))
+    tri_memory!(taken.take(alloc, program));
+    named_after(alloc, bytes, has_deadlines, counts, &mut taken)
 }
 
 /// The frame of the process that an event releases.
@@ -223,6 +245,20 @@ fn frame_for(event: usize, processes: &[RawProcess]) -> u32
     0
 }
 
+/// Adds an event with its frame.
+fn add_event(
+    alloc: Global,
+    framed: &mut List<EventName>,
+    event: &Name,
+    frame: u32,
+) -> Result<(), AllocError>
+    ensures { OnOk result (framed.new ≡
+        framed.old ++ record { name = event.now; frame = frame } ∷ []) }
+{
+    let name = tri!(Name::new(alloc, event.as_bytes()));
+    framed.push(EventName { name, frame })
+}
+
 /// Each event with its frame.
 fn framed(
     alloc: Global,
@@ -234,12 +270,55 @@ fn framed(
 {
     let mut framed = List::new(alloc);
     for (at, event) in events.iter().enumerate() {
-        framed.push(EventName {
-            name: Name::new(alloc, event.as_bytes())?,
-            frame: frame_for(at, processes),
-        })?;
+        tri!(add_event(alloc, &mut framed, event, frame_for(at, processes)));
     }
     Ok(framed)
+}
+
+/// The image of these parts and these events.
+fn with_events(overhead: u16, program: Name, named: Named, events: List<EventName>) -> RawImage
+    ensures overhead { result.overhead ≡ overhead }
+    ensures program { result.program ≡ program }
+    ensures devices { result.names.devices ≡ named.devices }
+    ensures events { result.names.events ≡ events }
+    ensures monitor_names { result.names.monitors ≡ named.guarded.monitors.names }
+    ensures monitors { result.monitors ≡ named.guarded.monitors.things }
+    ensures conditions { result.names.conditions ≡ named.guarded.conditions }
+    ensures routines { result.routines ≡ named.guarded.work.routines }
+    ensures process_names { result.names.processes ≡ named.guarded.work.processes.names }
+    ensures processes { result.processes ≡ named.guarded.work.processes.things }
+    ensures code { result.code ≡ named.guarded.work.code }
+{
+    let Named {
+        devices,
+        guarded,
+        ..
+    } = named;
+    let Guarded {
+        monitors,
+        conditions,
+        work,
+    } = guarded;
+    let Work {
+        routines,
+        processes,
+        code,
+    } = work;
+    RawImage {
+        overhead,
+        program,
+        names: ImageNames {
+            processes: processes.names,
+            monitors: monitors.names,
+            conditions,
+            devices,
+            events,
+        },
+        monitors: monitors.things,
+        routines,
+        processes: processes.things,
+        code,
+    }
 }
 
 /// The image of these parts, with each event's frame that of the first process that it releases, or
@@ -259,37 +338,11 @@ pub fn assemble(
         parts_with overhead program named.devices named.events (guarded_of named.guarded)) }
     ensures image { IfOk result (λ raw. named_of raw ≡ image_with (parts_of raw)) }
 {
-    let Named {
-        devices,
-        events,
-        guarded,
-    } = named;
-    let Guarded {
-        monitors,
-        conditions,
-        work,
-    } = guarded;
-    let Work {
-        routines,
-        processes,
-        code,
-    } = work;
-    let events = framed(alloc, events.as_slice(), processes.things.as_slice())?;
-    Ok(RawImage {
-        overhead,
-        program,
-        names: ImageNames {
-            processes: processes.names,
-            monitors: monitors.names,
-            conditions,
-            devices,
-            events,
-        },
-        monitors: monitors.things,
-        routines,
-        processes: processes.things,
-        code,
-    })
+    let processes = named.guarded.work.processes.things.as_slice();
+    match framed(alloc, named.events.as_slice(), processes) {
+        Ok(events) => Ok(with_events(overhead, program, named, events)),
+        Err(error) => Err(error),
+    }
 }
 
 /// All after the version.
@@ -302,11 +355,11 @@ fn parts_at(
         ((parts_format (in_version has_deadlines)).read bytes.now) }
     ensures image { IfOk result (λ x. named_of x.0 ≡ image_with (parts_of x.0)) }
 {
-    let (overhead, rest) = overhead_at(bytes, has_deadlines)?;
-    let (counts, rest) = counts_at(rest)?;
-    let (program, rest) = name_at(alloc, rest, &TakenNames::new(alloc))?;
-    let (named, rest) = named_at(alloc, rest, has_deadlines, &counts, &program)?;
-    let image = assemble(alloc, overhead, program, named)?;
+    let (overhead, rest) = tri_fault!(overhead_at(bytes, has_deadlines));
+    let (counts, rest) = tri_fault!(counts_at(rest));
+    let (program, rest) = tri!(name_at(alloc, rest, &TakenNames::new(alloc)));
+    let (named, rest) = tri!(named_at(alloc, rest, has_deadlines, &counts, &program));
+    let image = tri_memory!(assemble(alloc, overhead, program, named));
     Ok((image, rest))
 }
 
@@ -315,9 +368,9 @@ fn whole_at(alloc: Global, bytes: &[u8]) -> Result<(bool, RawImage), ReadError>
     ensures read { Gives (λ x. ((in_version x.0, parts_of x.1), [])) result (whole_read bytes.now) }
     ensures image { IfOk result (λ x. named_of x.1 ≡ image_with (parts_of x.1)) }
 {
-    let (_, rest) = magic_at(bytes)?;
-    let (has_deadlines, rest) = version_at(rest)?;
-    let (image, rest) = parts_at(alloc, rest, has_deadlines)?;
+    let (_, rest) = tri_fault!(magic_at(bytes));
+    let (has_deadlines, rest) = tri_fault!(version_at(rest));
+    let (image, rest) = tri!(parts_at(alloc, rest, has_deadlines));
     if rest.len() == 0 {
         Ok((has_deadlines, image))
     } else {

@@ -1,5 +1,4 @@
 use Rattle.std.proofs.Common.{◌≡◌, ◌++◌, ◌∷◌, [], ℕ, List, Ok, map, sym, ap, ◌∙◌, subst, append_assoc}
-use Rattle.std.proofs.lemmas.Result.{err_from_is_err_and}
 use Rattle.std.proofs.lemmas.List.{map_push}
 use Rattle.image_format.specs.Format.{Format, each_read}
 use Rattle.image_format.specs.Gives.{Fails}
@@ -8,22 +7,21 @@ use Rattle.image.specs.declared.names.DeviceName.{DeviceName}
 use Rattle.image_reader.specs.Grammar.{device_format}
 use Rattle.image_reader.proofs.lists.devices_at.Goals as goal
 
-pub returns-in_err-device-clause-read : goal.returns-in_err-device-clause-read
-returns-in_err-device-clause-read c =
+pub returns-in-Err-clause-read : goal.returns-in-Err-clause-read
+returns-in-Err-clause-read c =
     let f : List DeviceName → Format DeviceName = λ earlier. device_format (c.args.taken.now ++ map (λ d. d.name) earlier) in
-    let p = err_from_is_err_and c.from_residual.result c.from_residual.ensures.1 in
-    let e = c.in_err-device.field-0.0 in
-    let failed : Fails e ((f c.loop.devices).read c.loop.rest.now) = subst (λ ns. Fails e ((device_format ns).read c.loop.rest.now)) c.loop.invariant.taken c.in_err-device.ensures.read in
-    rw (p.1, p.2) (ends f e c.loop.devices c.args.counts.now.devices c.loop.counter c.loop.rest.now (each_read f [] c.args.counts.now.devices c.args.bytes.now) c.loop-test.true failed c.loop.invariant.so_far)
+    let e = c.in-Err.error in
+    let failed : Fails e ((f c.loop.devices).read c.loop.rest.now) = subst (λ ns. Fails e ((device_format ns).read c.loop.rest.now)) c.loop.invariant.taken c.in-Err.ensures.read in
+    ends f e c.loop.devices c.args.counts.now.devices c.loop.counter c.loop.rest.now (each_read f [] c.args.counts.now.devices c.args.bytes.now) c.loop-test.true failed c.loop.invariant.so_far
 
 pub loop-preserved : goal.loop-preserved
 loop-preserved c =
     let f : List DeviceName → Format DeviceName = λ earlier. device_format (c.args.taken.now ++ map (λ d. d.name) earlier) in
-    let x = c.in_ok-device.device in
-    let read : (f c.loop.devices).read c.loop.rest.now ≡ Ok (x, c.in_ok-device.after.now) =
-    subst (λ ns. (device_format ns).read c.loop.rest.now ≡ Ok (x, c.in_ok-device.after.now)) c.loop.invariant.taken c.in_ok-device.ensures.read in
-    rw (c.in_ok-push.ensures.ok, c.in_ok-take.ensures) (record {
-      so_far = goes_on f c.loop.devices c.args.counts.now.devices c.loop.counter c.loop.rest.now x c.in_ok-device.after.now (each_read f [] c.args.counts.now.devices c.args.bytes.now) c.loop-test.true read c.loop.invariant.so_far;
+    let x = c.in-Ok.it.0 in
+    let read : (f c.loop.devices).read c.loop.rest.now ≡ Ok (x, c.in-Ok.it.1.now) =
+    subst (λ ns. (device_format ns).read c.loop.rest.now ≡ Ok (x, c.in-Ok.it.1.now)) c.loop.invariant.taken c.in-Ok.ensures.read in
+    rw (c.in-Ok-add_device.ensures.devices, c.in-Ok-add_device.ensures.taken) (record {
+      so_far = goes_on f c.loop.devices c.args.counts.now.devices c.loop.counter c.loop.rest.now x c.in-Ok.it.1.now (each_read f [] c.args.counts.now.devices c.args.bytes.now) c.loop-test.true read c.loop.invariant.so_far;
       taken = ap (λ (ns : List (List ℕ)). ns ++ x.name ∷ []) c.loop.invariant.taken ∙ append_assoc c.args.taken.now (map (λ d. d.name) c.loop.devices) (x.name ∷ []) ∙ ap (λ (ns : List (List ℕ)). c.args.taken.now ++ ns) (sym (map_push (λ d. d.name) c.loop.devices x));
     })
 

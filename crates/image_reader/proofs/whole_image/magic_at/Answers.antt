@@ -6,12 +6,12 @@ use Rattle.image_reader.proofs.whole_image.magic_at.Goals as goal
 
 pub returns-then-eq : goal.returns-then-eq
 returns-then-eq c =
-    let magic = c.in_ok-magic.magic.now in
+    let magic = c.in-Ok.it.0.now in
     let test : pointwise nat_eq magic (codes "RTEU") ≡ true = ap (pointwise nat_eq magic) (sym c.as_slice.ensures) ∙ sym c.if-eq.ensures in
-    rw (c.in_ok-magic.ensures, test) (ap (λ (letters : List ℕ). Ok (letters, c.in_ok-magic.rest.now)) (same_words magic (codes "RTEU") test))
+    rw (c.in-Ok.ensures, test) (ap (λ (letters : List ℕ). Ok (letters, c.in-Ok.it.1.now)) (same_words magic (codes "RTEU") test))
 
 pub returns-else-eq : goal.returns-else-eq
 returns-else-eq c =
-    let magic = c.in_ok-magic.magic.now in
+    let magic = c.in-Ok.it.0.now in
     let test : pointwise nat_eq magic (codes "RTEU") ≡ false = ap (pointwise nat_eq magic) (sym c.as_slice.ensures) ∙ sym c.if-eq.ensures in
-    rw (c.in_ok-magic.ensures, test) refl
+    rw (c.in-Ok.ensures, test) refl

@@ -2,7 +2,7 @@ use Rattle.std.proofs.Common.{◌≡◌, ◌-◌, []}
 use Rattle.image_format.specs.Format.{each_read}
 use Rattle.image_reader.specs.Grammar.{condition_format}
 use Rattle.image_reader.proofs.EachLoop.{in_front}
-use Rattle.image_reader.proofs.lists.conditions_at.Given as goal
+use Rattle.image_reader.proofs.lists.conditions_after.Given as goal
 
 abbrev pub invariant-loop : goal.invariant-loop
 invariant-loop l = record {
