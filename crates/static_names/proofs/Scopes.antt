@@ -9,7 +9,7 @@ use Rattle.syntax_tree.specs.declared.place.Place.{Place}
 use Rattle.static_names.specs.declared.kind.Declared.{Declared}
 use Rattle.syntax_tree.specs.Parts.{same_place}
 use Rattle.static_names.specs.Reach.{same, Names, Reach, first, or_else}
-use Rattle.static_names.specs.Seen.{entry_of, meaning, add, EntryKey, entry_meaning, add_entry}
+use Rattle.static_names.specs.Seen.{entry_of, meaning, add, put, EntryKey, entry_meaning, add_entry}
 
 pub same-refl : (n : Name) → same n n ≡ true
 same-refl n = nat_list_eq_equiv.refl n
@@ -57,8 +57,8 @@ put-meaning k v old new puts n =
     let q : Bor Name = record k { now = n } in
     sym (meaning-lookup n new) ∙ puts q ∙ ap (λ b. cond b (Some v) (lookup (λ x. same n x.now) old)) (same-symm k.now n) ∙ ap (λ r. cond (same n k.now) (Some v) r) (meaning-lookup n old)
 
-pub add-meaning : (k : Bor Name) (v : Declared) (old new : List (Bor Name × Declared)) → ((q : Bor Name) → lookup (λ x. same q.now x.now) new ≡ cond (same k.now q.now) (Some v) (lookup (λ x. same q.now x.now) old)) → meaning old k.now ≡ None → meaning new ≡ add (meaning old) (k.now, v)
-add-meaning k v old new puts none = λ i n. (put-meaning k v old new puts n ∙ put-new n k.now v (meaning old n) (same n k.now) refl (λ e. first-same (map entry_of old) n k.now e ∙ none)) i
+pub put-added : (k : Bor Name) (v : Declared) (old : List (Bor Name × Declared)) → meaning old k.now ≡ None → put (meaning old) (k.now, v) ≡ add (meaning old) (k.now, v)
+put-added k v old none = λ i n. put-new n k.now v (meaning old n) (same n k.now) refl (λ e. first-same (map entry_of old) n k.now e ∙ none) i
 
 -- ---- the map of entries
 

@@ -87,17 +87,16 @@ fn member<'a>(
                 place: var.place,
                 kind: Kind::Variable,
             };
-            tri!(declare(findings, scope, outer, &var.name, declared));
+            declare(findings, scope, outer, &var.name, declared)
         }
         Member::Condition { name, place } => {
             let declared = Declared {
                 place: *place,
                 kind: Kind::Condition,
             };
-            tri!(declare(findings, scope, outer, name, declared));
+            declare(findings, scope, outer, name, declared)
         }
     }
-    Ok(())
 }
 
 fn members<'a>(

@@ -25,13 +25,13 @@ pub fn constant<'a>(
         (placed_constant constant.now) more)) }
 {
     if let Value::Name(name) = &constant.value {
-        tri!(around.use_name(
+        return around.use_name(
             findings,
             loops,
             name,
             constant.value_place,
             NameUse::Constant,
-        ));
+        );
     }
     Ok(())
 }
@@ -48,7 +48,7 @@ pub fn scalar<'a>(
 {
     if let Scalar::Subrange { low, high } = kind {
         tri!(constant(findings, around, loops, low));
-        tri!(constant(findings, around, loops, high));
+        return constant(findings, around, loops, high);
     }
     Ok(())
 }
@@ -63,14 +63,13 @@ pub fn kind<'a>(
         noted findings.old (kind_names (site around.now loops.now) (placed_kind kind.now) more)) }
 {
     match kind {
-        Type::Scalar(kind) => scalar(findings, around, loops, kind)?,
+        Type::Scalar(kind) => scalar(findings, around, loops, kind),
         Type::Array { low, high, element } => {
             tri!(constant(findings, around, loops, low));
             tri!(constant(findings, around, loops, high));
-            tri!(scalar(findings, around, loops, element));
+            scalar(findings, around, loops, element)
         }
     }
-    Ok(())
 }
 
 #[cycle(expr)]
@@ -156,8 +155,8 @@ pub fn target<'a>(
         noted findings.old (ref_names (site around.now loops.now) (placed_ref target.now) more)) }
 {
     tri!(around.use_name(findings, loops, &target.name, target.place, NameUse::Target));
-    if let Some(index) = &target.index {
-        tri!(expr(findings, around, loops, index));
+    match &target.index {
+        Some(index) => expr(findings, around, loops, index),
+        None => Ok(()),
     }
-    Ok(())
 }

@@ -65,10 +65,9 @@ impl Findings {
             None => self.blame(rule::UNDECLARED, place),
             Some(declared) => {
                 if suits(want, declared.kind) {
-                    tri!(self.tie(place, declared.place));
-                } else {
-                    self.blame(rule::WRONG_KIND, place);
+                    return self.tie(place, declared.place);
                 }
+                self.blame(rule::WRONG_KIND, place);
             }
         }
         Ok(())

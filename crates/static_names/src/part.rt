@@ -1,8 +1,8 @@
 //! The names in routines, monitors, processes and other declarations.
 
 ghost use Rattle.std.specs.Prelude.{◌≡◌, OnOk, List, [], map};
-ghost use Rattle.syntax_tree.specs.Placed.{placed_constant, placed_scalar, placed_expr, placed_param, placed_var, placed_member, placed_routine, placed_monitor, placed_activation, placed_handler, placed_process, placed_decl, optional};
-ghost use Rattle.static_names.specs.Occurrences.{Occurrence, constant_names, constants_names, scalar_names, expr_names, optional_names, params_names, vars_names, member_inner, members_names, routine_inner, routine_names, routines_names, monitor_inner, monitor_names, activation_names, handler_names, process_inner, process_names, inner_names};
+ghost use Rattle.syntax_tree.specs.Placed.{placed_constant, placed_scalar, placed_expr, placed_stmts, placed_param, placed_var, placed_member, placed_routine, placed_monitor, placed_activation, placed_handler, placed_process, placed_decl, optional};
+ghost use Rattle.static_names.specs.Occurrences.{Occurrence, constant_names, constants_names, scalar_names, expr_names, optional_names, params_names, vars_names, stmts_names, member_inner, members_names, routine_inner, routine_names, routines_names, monitor_inner, monitor_names, activation_names, handler_names, process_inner, process_names, inner_names};
 ghost use Rattle.static_names.specs.Findings.{noted};
 ghost use Rattle.static_names.specs.Seen.{site, outer_site, top_site};
 
@@ -16,7 +16,7 @@ use crate::scope_chain::{OuterScopes, ScopeChain, TopScope};
 use crate::stmt::stmts;
 use std::alloc::{AllocError, Global};
 use syntax_tree::{
-    Constant, Declaration, Expr, Handler, Member, Monitor, Param, Process, Routine, Scalar,
+    Constant, Declaration, Expr, Handler, Member, Monitor, Param, Process, Routine, Scalar, Stmt,
     Trigger, Var,
 };
 
@@ -56,10 +56,10 @@ fn member<'a>(
     ensures { OnOk result ((more : List Occurrence) → noted findings.new more ≡
         noted findings.old (member_inner (site around.now []) (placed_member member.now) more)) }
 {
-    if let Member::Var(var) = member {
-        tri!(kind(findings, around, &[], &var.kind));
+    match member {
+        Member::Var(var) => kind(findings, around, &[], &var.kind),
+        Member::Condition { .. } => Ok(()),
     }
-    Ok(())
 }
 
 fn members<'a>(
@@ -101,10 +101,10 @@ fn result<'a>(
         noted findings.old (optional_names (scalar_names (site around.now []))
         (optional placed_scalar kind.now) more)) }
 {
-    if let Some(kind) = kind {
-        tri!(scalar(findings, around, &[], kind));
+    match kind {
+        Some(kind) => scalar(findings, around, &[], kind),
+        None => Ok(()),
     }
-    Ok(())
 }
 
 /// The expression of a result.
@@ -117,10 +117,24 @@ fn value<'a>(
         noted findings.old (optional_names (expr_names (site around.now []))
         (optional placed_expr value.now) more)) }
 {
-    if let Some(value) = value {
-        tri!(expr(findings, around, &[], value));
+    match value {
+        Some(value) => expr(findings, around, &[], value),
+        None => Ok(()),
     }
-    Ok(())
+}
+
+/// Statements that no loop is around.
+fn body<'a>(
+    alloc: Global,
+    findings: &mut Findings,
+    around: &ScopeChain<'_, 'a>,
+    list: &'a [Stmt],
+) -> Result<(), AllocError>
+    ensures { OnOk result ((more : List Occurrence) → noted findings.new more ≡
+        noted findings.old (stmts_names (site around.now []) (placed_stmts list.now) more)) }
+{
+    let mut loops = Vec::new(alloc);
+    stmts(findings, around, &mut loops, list)
 }
 
 /// A routine, its scope being made.
@@ -133,11 +147,10 @@ fn routine_parts<'a>(
     ensures { OnOk result ((more : List Occurrence) → noted findings.new more ≡
         noted findings.old (routine_inner (site around.now []) (placed_routine routine.now) more)) }
 {
-    let mut loops = Vec::new(alloc);
     tri!(params(findings, around, routine.params.as_slice()));
     tri!(result(findings, around, &routine.result));
     tri!(vars(findings, around, routine.vars.as_slice()));
-    tri!(stmts(findings, around, &mut loops, routine.body.as_slice()));
+    tri!(body(alloc, findings, around, routine.body.as_slice()));
     tri!(value(findings, around, &routine.value));
     findings.close(&routine.close, routine.close_place, &routine.name);
     Ok(())
@@ -194,20 +207,20 @@ fn routines<'a>(
     Ok(())
 }
 
-/// A monitor, its scope being made.
+/// A monitor, its scope being made, and no routine being around.
 fn monitor_parts<'a>(
     alloc: Global,
     findings: &mut Findings,
-    outer: &OuterScopes<'_, 'a>,
+    around: &ScopeChain<'_, 'a>,
     monitor: &'a Monitor,
 ) -> Result<(), AllocError>
+    requires { site around.now [] ≡ outer_site around.now.outer }
     ensures { OnOk result ((more : List Occurrence) → noted findings.new more ≡
-        noted findings.old (monitor_inner (outer_site outer.now)
+        noted findings.old (monitor_inner (outer_site around.now.outer)
         (placed_monitor monitor.now) more)) }
 {
-    let around = outer.around();
-    tri!(members(findings, &around, monitor.members.as_slice()));
-    tri!(routines(alloc, findings, outer, monitor.entries.as_slice()));
+    tri!(members(findings, around, monitor.members.as_slice()));
+    tri!(routines(alloc, findings, &around.outer, monitor.entries.as_slice()));
     findings.close(&monitor.close, monitor.close_place, &monitor.name);
     Ok(())
 }
@@ -225,12 +238,16 @@ fn monitor_with<'a>(
         noted findings.old (monitor_names (top_site top.now) (placed_monitor monitor.now) more)) }
 {
     tri!(declare::monitor(findings, names, top, monitor));
-    let inside = OuterScopes {
+    let outer = OuterScopes {
         top: *top,
         members: Some(&*names),
         monitor: Some(monitor.place),
     };
-    monitor_parts(alloc, findings, &inside, monitor)
+    let around = ScopeChain {
+        outer,
+        locals: None,
+    };
+    monitor_parts(alloc, findings, &around, monitor)
 }
 
 fn monitor<'a>(
@@ -256,10 +273,10 @@ fn limit<'a>(
         noted findings.old (optional_names (constant_names (site around.now []))
         (optional placed_constant limit.now) more)) }
 {
-    if let Some(limit) = limit {
-        tri!(constant(findings, around, &[], limit));
+    match limit {
+        Some(limit) => constant(findings, around, &[], limit),
+        None => Ok(()),
     }
-    Ok(())
 }
 
 fn activation<'a>(
@@ -279,7 +296,7 @@ fn activation<'a>(
         } => {
             tri!(constant(findings, around, &[], frame));
             tri!(limit(findings, around, deadline));
-            tri!(limit(findings, around, first));
+            limit(findings, around, first)
         }
         Trigger::AtEvent {
             event,
@@ -289,10 +306,9 @@ fn activation<'a>(
         } => {
             tri!(around.use_name(findings, &[], event, *event_place, NameUse::Event));
             tri!(constant(findings, around, &[], frame));
-            tri!(limit(findings, around, deadline));
+            limit(findings, around, deadline)
         }
     }
-    Ok(())
 }
 
 fn handler<'a>(
@@ -305,32 +321,32 @@ fn handler<'a>(
         noted findings.old (optional_names (handler_names (site around.now []))
         (optional placed_handler handler.now) more)) }
 {
-    if let Some(handler) = handler {
-        let mut loops = Vec::new(alloc);
-        tri!(constants(findings, around, handler.numbers.as_slice()));
-        tri!(stmts(findings, around, &mut loops, handler.body.as_slice()));
+    match handler {
+        Some(handler) => {
+            tri!(constants(findings, around, handler.numbers.as_slice()));
+            body(alloc, findings, around, handler.body.as_slice())
+        }
+        None => Ok(()),
     }
-    Ok(())
 }
 
-/// A process, its scope being made.
+/// A process, its scope being made, and no routine being around.
 fn process_parts<'a>(
     alloc: Global,
     findings: &mut Findings,
-    outer: &OuterScopes<'_, 'a>,
+    around: &ScopeChain<'_, 'a>,
     process: &'a Process,
 ) -> Result<(), AllocError>
+    requires { site around.now [] ≡ outer_site around.now.outer }
     ensures { OnOk result ((more : List Occurrence) → noted findings.new more ≡
-        noted findings.old (process_inner (outer_site outer.now)
+        noted findings.old (process_inner (outer_site around.now.outer)
         (placed_process process.now) more)) }
 {
-    let mut loops = Vec::new(alloc);
-    let around = outer.around();
-    tri!(activation(findings, &around, &process.activation));
-    tri!(vars(findings, &around, process.vars.as_slice()));
-    tri!(routines(alloc, findings, outer, process.routines.as_slice()));
-    tri!(stmts(findings, &around, &mut loops, process.body.as_slice()));
-    tri!(handler(alloc, findings, &around, &process.handler));
+    tri!(activation(findings, around, &process.activation));
+    tri!(vars(findings, around, process.vars.as_slice()));
+    tri!(routines(alloc, findings, &around.outer, process.routines.as_slice()));
+    tri!(body(alloc, findings, around, process.body.as_slice()));
+    tri!(handler(alloc, findings, around, &process.handler));
     findings.close(&process.close, process.close_place, &process.name);
     Ok(())
 }
@@ -348,12 +364,16 @@ fn process_with<'a>(
         noted findings.old (process_names (top_site top.now) (placed_process process.now) more)) }
 {
     tri!(declare::process(findings, names, top, process));
-    let inside = OuterScopes {
+    let outer = OuterScopes {
         top: *top,
         members: Some(&*names),
         monitor: None,
     };
-    process_parts(alloc, findings, &inside, process)
+    let around = ScopeChain {
+        outer,
+        locals: None,
+    };
+    process_parts(alloc, findings, &around, process)
 }
 
 fn process<'a>(

@@ -9,13 +9,13 @@ ghost use Rattle.syntax_tree.specs.declared.place.Place.{Place as SpecPlace};
 ghost use Rattle.static_names.specs.Occurrences.{Occurrence, decl_name, decls_names, entry_name, entries_at, program_name, others as others_of, names as names_of};
 ghost use Rattle.static_names.specs.Reach.{first};
 ghost use Rattle.static_names.specs.Findings.{noted};
-ghost use Rattle.static_names.specs.Seen.{meaning, add as added, add_all, entry_meaning, add_entries, add_monitors, put, IsNext, nothing};
+ghost use Rattle.static_names.specs.Seen.{meaning, add as added, add_all, entry_meaning, add_entries, add_monitors, IsNext, nothing};
 
 use crate::errors::tri;
 use crate::findings::Findings;
 use crate::kind::{Declared, Kind};
 use crate::part::decl;
-use crate::scope::{Entries, Scope, add, add_entry, add_unless, find};
+use crate::scope::{Entries, Scope, add, add_entry, add_unless, find, set};
 use crate::scope_chain::TopScope;
 use std::alloc::{AllocError, Global};
 use syntax_tree::{Declaration, Name, Place, Program, Routine};
@@ -60,15 +60,6 @@ fn name_of(decl: &Declaration) -> &[u8]
         Declaration::Monitor(monitor) => monitor.name.as_bytes(),
         Declaration::Process(process) => process.name.as_bytes(),
     }
-}
-
-/// Declares a name, in place of what the scope has.
-fn set<'a>(scope: &mut Scope<'a>, name: &'a [u8], declared: Declared) -> Result<(), AllocError>
-    ensures { OnOk result (meaning scope.new.entries ≡
-        put (meaning scope.old.entries) (name.now, declared)) }
-{
-    scope.insert(name, declared)?;
-    Ok(())
 }
 
 /// Declares what is no constant.
@@ -129,7 +120,7 @@ fn monitor<'a>(all: &mut Entries<'a>, decl: &'a Declaration) -> Result<(), Alloc
         add_monitors (entry_meaning all.old.entries) (placed_decl decl.now ∷ [])) }
 {
     if let Declaration::Monitor(monitor) = decl {
-        tri!(entries(all, monitor.place, monitor.entries.as_slice()));
+        return entries(all, monitor.place, monitor.entries.as_slice());
     }
     Ok(())
 }
@@ -163,8 +154,7 @@ fn reveal<'a>(taken: bool, program: &mut Scope<'a>, decl: &'a Declaration) -> Re
             place: *place,
             kind: Kind::Constant,
         };
-        tri!(set(program, name.as_bytes(), declared));
-        return Ok(());
+        return set(program, name.as_bytes(), declared);
     }
     Ok(())
 }

@@ -1,7 +1,7 @@
 //! The names of one scope.
 
 ghost use Rattle.std.specs.Prelude.{◌≡◌, OnOk, is_some};
-ghost use Rattle.static_names.specs.Seen.{meaning, meaning_in, add as added, in_loops, entry_meaning, add_entry as entry_added};
+ghost use Rattle.static_names.specs.Seen.{meaning, meaning_in, add as added, put, in_loops, entry_meaning, add_entry as entry_added};
 
 use crate::errors::tri;
 use crate::kind::Declared;
@@ -55,6 +55,15 @@ pub fn find_in(scope: Option<&Scope<'_>>, name: &[u8]) -> Option<Declared>
     find(scope?, name)
 }
 
+/// Declares a name, in place of what the scope has.
+pub fn set<'a>(scope: &mut Scope<'a>, name: &'a [u8], declared: Declared) -> Result<(), AllocError>
+    ensures { OnOk result (meaning scope.new.entries ≡
+        put (meaning scope.old.entries) (name.now, declared)) }
+{
+    scope.insert(name, declared)?;
+    Ok(())
+}
+
 /// Declares a name, unless it is taken: the scope has it.
 pub fn add_unless<'a>(
     taken: bool,
@@ -69,8 +78,7 @@ pub fn add_unless<'a>(
     if taken {
         return Ok(());
     }
-    scope.insert(name, declared)?;
-    Ok(())
+    set(scope, name, declared)
 }
 
 /// Declares a name, unless the scope has it.

@@ -333,10 +333,10 @@ pub fn stmt<'a>(
         } => {
             tri!(expr(findings, around, loops.as_slice(), test));
             tri!(stmts(findings, around, loops, first.as_slice()));
-            if let Some(second) = second {
-                tri!(stmts(findings, around, loops, second.as_slice()));
+            match second {
+                Some(second) => stmts(findings, around, loops, second.as_slice()),
+                None => Ok(()),
             }
-            Ok(())
         }
         Stmt::For {
             name,

@@ -16,8 +16,7 @@ returns c more =
     let after_params = optional_names (scalar_names here) (optional placed_scalar r.result) after_result in
     ap (λ f. noted f more) c.close.ensures
     ∙ c.in-Ok-value.ensures after_value
-    ∙ c.in-Ok-stmts.ensures.names after_body
-    ∙ ap (λ l. noted c.vars.new.findings (stmts_names (site c.args.around.now l) (placed_stmts c.as_slice-3.result.now) after_body)) c.new-loops.ensures.items
+    ∙ c.in-Ok-body.ensures after_body
     ∙ ap (λ l. noted c.vars.new.findings (stmts_names here (placed_stmts l) after_body)) c.as_slice-3.ensures
     ∙ c.in-Ok-vars.ensures after_vars
     ∙ ap (λ l. noted c.result.new.findings (vars_names here (map placed_var l) after_vars)) c.as_slice-2.ensures

@@ -1,6 +1,7 @@
 use Rattle.std.proofs.Common.{◌≡◌, ◌∙◌, sym, ap, None, true, is_some, map}
+use Rattle.std.proofs.lemmas.Result.{on_ok_weaker}
 use Rattle.static_names.specs.Seen.{meaning, entry_of}
-use Rattle.static_names.proofs.Scopes.{none-of, add-meaning, add-present, first-same}
+use Rattle.static_names.proofs.Scopes.{none-of, put-added, add-present, first-same}
 use Rattle.static_names.proofs.scope.add_unless.Goals as goal
 
 pub returns-then-taken : goal.returns-then-taken
@@ -11,4 +12,4 @@ returns-then-taken c =
 pub returns : goal.returns
 returns c =
     let none : meaning c.args.scope.now.entries c.args.name.now ≡ None = none-of (meaning c.args.scope.now.entries c.args.name.now) (sym c.requires ∙ c.if-taken.false) in
-    add-meaning c.args.name c.args.declared c.args.scope.now.entries c.insert.new.self.entries c.in_ok-insert.ensures.updates.0 none
+    on_ok_weaker c.set.result (λ h. h ∙ put-added c.args.name c.args.declared c.args.scope.now.entries none) c.set.ensures

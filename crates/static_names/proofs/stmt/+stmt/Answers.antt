@@ -23,8 +23,8 @@ stmts-returns-clause-names t c = let here = site c.args.around.now c.args.loops.
     finish (λ ss. stmts_names here (placed_stmts ss)) c.args.findings.now (stmts_names here (placed_stmts c.args.list.now)) (λ more. refl)
     c.args.list.now c.loop-s.s-index c.loop-s.findings (omega arith) c.loop-s.invariant.left
 
-pub stmt-returns-in-Ok-stmts-3-clause-names : goal.stmt-returns-in-Ok-stmts-3-clause-names
-stmt-returns-in-Ok-stmts-3-clause-names t c more =
+pub stmt-returns-in-Ok-stmts-2-clause-names : goal.stmt-returns-in-Ok-stmts-2-clause-names
+stmt-returns-in-Ok-stmts-2-clause-names t c more =
     let f = c.in-For in
     let here = site c.args.around.now c.args.loops.now.items in
     let scope = loop_name f.name f.name_place ∷ [] in
@@ -32,7 +32,7 @@ stmt-returns-in-Ok-stmts-3-clause-names t c more =
     let body = placed_stmts f.body in
     let head : Site → Constant → Constant → Found =
     λ w low high. noted c.args.findings.now (declarations w.means [] scope (constant_names w (placed_constant low) (constant_names w (placed_constant high) (stmts_names (inside scope here) body more)))) in
-    c.in-Ok-stmts-3.ensures.names more
+    c.in-Ok-stmts-2.ensures.names more
     ∙ ap (λ w. noted c.loop_head.new.findings (stmts_names w (placed_stmts c.as_slice-in-For-2.result.now) more)) (c.in-Ok-enter.ensures.inner c.args.around.now)
     ∙ ap (λ b. noted c.loop_head.new.findings (stmts_names (inside scope here) (placed_stmts b) more)) c.as_slice-in-For-2.ensures
     ∙ c.in-Ok-loop_head.ensures (stmts_names (inside scope here) body more)
