@@ -1,5 +1,5 @@
 -- Parts that are put one behind another.
-use Rattle.std.proofs.Common.{◌≡◌, ℕ, ◌+◌, List, ◌++◌, Option, length, slice_get, ap, sym, subst, ◌∙◌, append_assoc}
+use Rattle.std.proofs.Common.{◌≡◌, ℕ, ◌+◌, List, ◌++◌, Option, length, slice_get, ap, subst, ◌∙◌, append_assoc}
 use Rattle.syntax.proofs.LawLemmas.{one_list}
 use Rattle.syntax.specs.Tokens.{tokens}
 use Rattle.syntax.specs.declared.token.Token.{Token}
@@ -9,7 +9,7 @@ use Rattle.message_expected.specs.Kinds.{kind_of}
 use Rattle.message_expected.specs.Notes.{expected_note}
 use Rattle.message_expected.specs.Parts.{open_note, show_before}
 use Rattle.message_expected.specs.Remarks.{remark_note}
-use Rattle.message_expected.specs.Unexpected.{notes_behind, unexpected_notes}
+use Rattle.message_expected.specs.Unexpected.{Notes, notes_behind, unexpected_notes}
 use Rattle.message_expected.specs.declared.kinds.Kind.{Kind}
 
 pub joined : (old first middle last one two three : List ℕ) → one ≡ old ++ first → two ≡ one ++ middle → three ≡ two ++ last → three ≡ old ++ (first ++ (middle ++ last))
@@ -33,10 +33,13 @@ put_together text line toks first items f1 f2 f3 found word behind m0 m1 m2 m3 m
 
 -- they are those of the tokens of the text
 pub of_tokens : (text : List ℕ) (place : Place) (list all first toks : List Token) (found : List Kind) (old new : List ℕ) → all ≡ list → first ≡ before all place
-    → tokens text list → tokens text toks → ((found : List Kind) → IsExpectedSet (front text first) found → new ≡ old ++ notes_behind text place.line all first found)
-    → IsExpectedSet (front text (before toks place)) found → new ≡ old ++ unexpected_notes text toks place found
+    → tokens text list → tokens text toks → IsExpectedSet (front text first) found → new ≡ old ++ notes_behind text place.line all first found → Notes text toks place old new
 unfolding unexpected_notes
-of_tokens text place list all first toks found old new a f listed also put set =
+of_tokens text place list all first toks found old new a f listed also set put =
     let same : all ≡ toks = a ∙ one_list text list toks listed also in
     let firsts : first ≡ before toks place = f ∙ ap (λ l. before l place) same in
-    put found (subst (λ l. IsExpectedSet (front text l) found) (sym firsts) set) ∙ (λ i. old ++ notes_behind text place.line (same i) (firsts i) found)
+    record {
+      found = found;
+      all = subst (λ l. IsExpectedSet (front text l) found) firsts set;
+      is = put ∙ (λ i. old ++ notes_behind text place.line (same i) (firsts i) found);
+    }

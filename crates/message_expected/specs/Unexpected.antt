@@ -1,8 +1,8 @@
 -- The notes at a place where a text goes on with no word of the grammar.
-use Rattle.std.specs.Prelude.{ℕ, ◌+◌, ◌++◌, List, length, slice_get}
+use Rattle.std.specs.Prelude.{◌≡◌, ℕ, ◌+◌, ◌++◌, List, length, slice_get}
 use Rattle.syntax.specs.declared.token.Token.{Token}
 use Rattle.syntax_tree.specs.declared.place.Place.{Place}
-use Rattle.message_expected.specs.Expected.{before, last}
+use Rattle.message_expected.specs.Expected.{IsExpectedSet, before, front, last}
 use Rattle.message_expected.specs.Kinds.{kind_of}
 use Rattle.message_expected.specs.Notes.{expected_note}
 use Rattle.message_expected.specs.Parts.{open_note, show_before}
@@ -20,3 +20,9 @@ notes_behind text line toks first found =
 -- the notes at a place, of a text with these tokens, where these kinds are expected
 unfoldable pub unexpected_notes : (text : List ℕ) (toks : List Token) (place : Place) (found : List Kind) → List ℕ
 unexpected_notes text toks place found = notes_behind text place.line toks (before toks place) found
+
+-- a text gets the notes at a place: they are made of exactly the kinds that are expected there
+pub record Notes (text : List ℕ) (toks : List Token) (place : Place) (old new : List ℕ) : Type 0 where
+  pub found : List Kind
+  pub all : IsExpectedSet (front text (before toks place)) found
+  pub is : new ≡ old ++ unexpected_notes text toks place found

@@ -3,8 +3,8 @@
 ghost use Rattle.std.specs.Prelude.{◌≡◌, ◌≢◌, ◌++◌, List, OnOk, slice_get};
 ghost use Rattle.syntax.specs.declared.token.Token.{Token as SpecToken};
 ghost use Rattle.syntax.specs.Tokens.{tokens as are_tokens};
-ghost use Rattle.message_expected.specs.Expected.{before as before_of, front, IsExpectedSet};
-ghost use Rattle.message_expected.specs.Unexpected.{notes_behind, unexpected_notes};
+ghost use Rattle.message_expected.specs.Expected.{IsExpectedSet, front};
+ghost use Rattle.message_expected.specs.Unexpected.{Notes, notes_behind};
 ghost use Rattle.message_expected.specs.declared.kinds.Kind.{Kind};
 
 use crate::finding::expected;
@@ -42,8 +42,8 @@ fn add_notes_behind(
     all: &[Token],
     first: &[Token],
 ) -> Result<(), AllocError>
-    ensures { OnOk result ((found : List Kind) → IsExpectedSet (front text.now first.now) found →
-        message.new ≡ message.old ++ notes_behind text.now line all.now first.now found) }
+    ensures { OnOk result ((found : List Kind) × IsExpectedSet (front text.now first.now) found
+        × (message.new ≡ message.old ++ notes_behind text.now line all.now first.now found)) }
 {
     let found = expected(alloc, text, first)?;
     let word = token_at(all, first.len());
@@ -73,9 +73,8 @@ pub fn add_unexpected_notes(
     text: &[u8],
     place: Place,
 ) -> Result<(), AllocError>
-    ensures { OnOk result ((toks : List SpecToken) (found : List Kind) →
-        are_tokens text.now toks → IsExpectedSet (front text.now (before_of toks place)) found →
-        message.new ≡ message.old ++ unexpected_notes text.now toks place found) }
+    ensures { OnOk result ((toks : List SpecToken) → are_tokens text.now toks →
+        Notes text.now toks place message.old message.new) }
 {
     match lex(alloc, text) {
         Ok(tokens) => {
