@@ -94,7 +94,8 @@ pub(crate) fn begun(
     place: Place,
     sentence: &[u8],
 ) -> Result<Text, AllocError>
-    ensures { IfOk result (λ message. message ≡ begun file.now source.now number place sentence.now) }
+    ensures { IfOk result (λ message.
+        message ≡ begun file.now source.now number place sentence.now) }
 {
     let mut message = Text::new(alloc);
     add_first_line(alloc, &mut message, file, number, place, sentence)?;
@@ -112,7 +113,8 @@ pub(crate) fn told(
     place: Place,
     sentence: &[u8],
 ) -> Result<Text, AllocError>
-    ensures { IfOk result (λ message. message ≡ told file.now source.now number place sentence.now) }
+    ensures { IfOk result (λ message.
+        message ≡ told file.now source.now number place sentence.now) }
 {
     let mut message = begun(alloc, file, source, number, place, sentence)?;
     add_remark(&mut message, remark(number, bytes_at(source, place)))?;
