@@ -94,12 +94,15 @@ long_message file = head file 1 1 (codes "E4") (codes "the text has more than 10
 abbrev pub unexpected_message : (file text : List ℕ) (place : Place) (notes : List ℕ) → List ℕ
 unexpected_message file text place notes = begun file text 10 place (word_sentence text 10 place) ++ notes
 
--- of a text with tokens, it has all notes by the kinds that are expected behind those before the
--- place
+-- it has all notes by exactly the kinds that are expected behind the tokens before the place
+pub record UnexpectedTold (file text : List ℕ) (place : Place) (toks : List Token) (message : List ℕ) : Type 0 where
+  pub found : List Kind
+  pub all : IsExpectedSet (front text (before toks place)) found
+  pub is : message ≡ unexpected_message file text place (unexpected_notes text toks place found)
+
+-- so it is of a text with tokens
 abbrev pub IsUnexpectedTold : (file text : List ℕ) (place : Place) (message : List ℕ) → Type 0
-IsUnexpectedTold file text place message =
-    (toks : List Token) (found : List Kind) → tokens text toks → IsExpectedSet (front text (before toks place)) found
-    → message ≡ unexpected_message file text place (unexpected_notes text toks place found)
+IsUnexpectedTold file text place message = (toks : List Token) → tokens text toks → UnexpectedTold file text place toks message
 
 -- ---- a fault of a rule
 
