@@ -1,0 +1,5 @@
+pub mod Examples
+pub mod Joined
+pub mod OneSet
+pub mod Opened
+pub mod Sought
