@@ -17,19 +17,15 @@ joined old first middle last one two three a b c =
     c ∙ ap (λ l. l ++ last) (b ∙ ap (λ l. l ++ middle) a) ∙ append_assoc (old ++ first) middle last ∙ append_assoc old first (middle ++ last)
 
 -- the notes of one place
-pub put_together : (text : List ℕ) (line : ℕ) (toks first : List Token) (items f1 f2 f3 found : List Kind) (word behind : Option Token) (m0 m1 m2 m3 m4 : List ℕ)
-    → f1 ≡ items → f2 ≡ items → f3 ≡ items → items ≡ found → word ≡ slice_get toks (length first) → behind ≡ slice_get toks (length first + 1)
-    → m1 ≡ m0 ++ expected_note text first f1 → m2 ≡ m1 ++ show_before text line (last first) → m3 ≡ m2 ++ open_note text first (kind_of word) f2
-    → m4 ≡ m3 ++ remark_note text line first word behind f3 → m4 ≡ m0 ++ notes_behind text line toks first found
-put_together text line toks first items f1 f2 f3 found word behind m0 m1 m2 m3 m4 a b c all w v one two three four =
+pub put_together : (text : List ℕ) (line : ℕ) (toks first : List Token) (found : List Kind) (word behind : Option Token) (m0 m1 m2 m3 m4 : List ℕ)
+    → word ≡ slice_get toks (length first) → behind ≡ slice_get toks (length first + 1) → m1 ≡ m0 ++ expected_note text first found → m2 ≡ m1 ++ show_before text line (last first)
+    → m3 ≡ m2 ++ open_note text first (kind_of word) found → m4 ≡ m3 ++ remark_note text line first word behind found → m4 ≡ m0 ++ notes_behind text line toks first found
+put_together text line toks first found word behind m0 m1 m2 m3 m4 w v one two three four =
     let part = show_before text line (last first) in
-    let opened = open_note text first (kind_of word) f2 in
-    let said = remark_note text line first word behind f3 in
-    let x = a ∙ all in
-    let y = b ∙ all in
-    let z = c ∙ all in
-    joined m1 part opened said m2 m3 m4 two three four ∙ ap (λ l. l ++ (part ++ (opened ++ said))) one ∙ append_assoc m0 (expected_note text first f1) (part ++ (opened ++ said))
-    ∙ (λ i. m0 ++ (expected_note text first (x i) ++ (part ++ (open_note text first (kind_of (w i)) (y i) ++ remark_note text line first (w i) (v i) (z i)))))
+    let opened = open_note text first (kind_of word) found in
+    let said = remark_note text line first word behind found in
+    joined m1 part opened said m2 m3 m4 two three four ∙ ap (λ l. l ++ (part ++ (opened ++ said))) one ∙ append_assoc m0 (expected_note text first found) (part ++ (opened ++ said))
+    ∙ (λ i. m0 ++ (expected_note text first found ++ (part ++ (open_note text first (kind_of (w i)) found ++ remark_note text line first (w i) (v i) found))))
 
 -- they are those of the tokens of the text
 pub of_tokens : (text : List ℕ) (place : Place) (list all first toks : List Token) (found : List Kind) (old new : List ℕ) → all ≡ list → first ≡ before all place

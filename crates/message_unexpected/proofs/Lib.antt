@@ -1,4 +1,5 @@
 pub mod Examples
+pub mod Gathered
 pub mod Joined
 pub mod OneSet
 pub mod Opened

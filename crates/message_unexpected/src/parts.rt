@@ -1,6 +1,7 @@
 //! What is still open behind some tokens.
 
 ghost use Rattle.std.specs.Prelude.{◌≡◌, ◌++◌, IfOk, OnOk};
+ghost use Rattle.message_expected.specs.Expected.{last};
 ghost use Rattle.message_expected.specs.Kinds.{has, kind_of as kind_of_word};
 ghost use Rattle.message_unexpected.specs.Parts.{closer, enders as all_enders, is_told, left_brackets};
 ghost use Rattle.message_unexpected.specs.Parts.{name_behind, next, note_of_part, open_note};
@@ -163,7 +164,7 @@ fn turn(opened: &mut Vec<Token>, is_behind_end: bool, token: Token) -> Result<()
 }
 
 /// The tokens that opened what is open behind these, in their order.
-pub(crate) fn open_parts(alloc: Global, before: &[Token]) -> Result<Vec<Token>, AllocError>
+fn open_parts(alloc: Global, before: &[Token]) -> Result<Vec<Token>, AllocError>
     ensures { IfOk result (λ opened. opened.items ≡ open_parts before.now) }
 {
     let mut opened = Vec::new(alloc);
@@ -174,6 +175,14 @@ pub(crate) fn open_parts(alloc: Global, before: &[Token]) -> Result<Vec<Token>, 
         is_behind_end = is_same(END, of_token(token));
     }
     Ok(opened)
+}
+
+/// The token that opened the last part that is open behind these; none where none is open.
+pub(crate) fn last_open(alloc: Global, before: &[Token]) -> Result<Option<Token>, AllocError>
+    ensures { IfOk result (λ opener. opener ≡ last (open_parts before.now)) }
+{
+    let opened = open_parts(alloc, before)?;
+    Ok(opened.last().copied())
 }
 
 /// Whether it is told that a part is open, where these kinds stand before and at a place.
@@ -303,7 +312,6 @@ pub fn add_open_note(
     ensures { OnOk result (message.new ≡
         message.old ++ open_note text.now before.now (kind_of_word word) found.now) }
 {
-    let opened = open_parts(alloc, before)?;
-    let opener = opened.last().copied();
+    let opener = last_open(alloc, before)?;
     add_part_note(alloc, message, text, before, kind_of(word), found, opener)
 }

@@ -3,11 +3,11 @@
 ghost use Rattle.std.specs.Prelude.{◌≡◌, ◌++◌, [], IfOk, OnOk, false};
 ghost use Rattle.std.specs.List.{prefix_len};
 ghost use Rattle.message_unexpected.specs.Remarks.{facts_at, from, has_else_if, has_pair, is_earlier};
-ghost use Rattle.message_unexpected.specs.Remarks.{is_pair};
+ghost use Rattle.message_unexpected.specs.Remarks.{is_pair, note_of};
 ghost use Rattle.message_unexpected.specs.Remarks.{later_remark, place_remark, remark};
 ghost use Rattle.message_unexpected.specs.Remarks.{remark_note, touch, word_remark};
 
-use crate::parts::open_parts;
+use crate::parts::last_open;
 use crate::remarks::{add_case_remark, add_comment_remark, add_nearest_remark, foreign_remark};
 use crate::rows::{Facts, add_row_remark};
 use crate::tokens::line_of;
@@ -145,8 +145,7 @@ fn add_place_remark(alloc: Global, said: &mut Text, sight: &Sight) -> Result<(),
     if !said.as_bytes().is_empty() {
         return Ok(());
     }
-    let opened = open_parts(alloc, sight.before)?;
-    let opener = opened.last().copied();
+    let opener = last_open(alloc, sight.before)?;
     let facts = facts_at(sight.line, sight.before, sight.word, sight.behind, opener);
     let last = sight.before.last().copied();
     add_row_remark(said, sight.text, sight.word, last, sight.found, facts)
@@ -209,6 +208,16 @@ fn remark(alloc: Global, sight: &Sight) -> Result<Text, AllocError>
     Ok(said)
 }
 
+/// Puts the note of what is said, if there is something.
+fn add_note_of(message: &mut Text, said: &[u8]) -> Result<(), AllocError>
+    ensures { OnOk result (message.new ≡ message.old ++ note_of said.now) }
+{
+    if said.is_empty() {
+        return Ok(());
+    }
+    add_note(message, &[said])
+}
+
 /// Puts the note of what is said of the place, if there is something.
 #[tactic(auto, unfolding(crate::specs::Remarks::remark_note))]
 pub(crate) fn add_remark_note(
@@ -221,8 +230,5 @@ pub(crate) fn add_remark_note(
         sight.now.behind sight.now.found.now) }
 {
     let said = remark(alloc, sight)?;
-    if said.as_bytes().is_empty() {
-        return Ok(());
-    }
-    add_note(message, &[said.as_bytes()])
+    add_note_of(message, said.as_bytes())
 }

@@ -5,12 +5,12 @@ ghost use Rattle.syntax.specs.declared.token.Token.{Token as SpecToken};
 ghost use Rattle.syntax.specs.Tokens.{tokens as are_tokens};
 ghost use Rattle.message_expected.specs.Expected.{before as before_of, front, IsExpectedSet};
 ghost use Rattle.message_unexpected.specs.Unexpected.{notes_behind, unexpected_notes};
-ghost use Rattle.message_expected.specs.declared.kinds.Kind.{Kind};
+ghost use Rattle.message_expected.specs.declared.kinds.Kind.{Kind as SpecKind};
 
 use crate::parts::add_open_note;
 use crate::sight::{Sight, add_remark_note};
 use crate::tokens::add_before;
-use message_expected::{add_expected_note, expected, tokens_before};
+use message_expected::{Kind, add_expected_note, expected, tokens_before};
 use std::alloc::{AllocError, Global};
 use syntax::{LexFault, Token, lex};
 use syntax_tree::{Place, Text};
@@ -32,6 +32,35 @@ fn put_nothing(fault: LexFault) -> Result<(), AllocError>
     }
 }
 
+/// Puts the notes behind the first tokens, at a place of this line, where these kinds are expected.
+fn add_notes(
+    alloc: Global,
+    message: &mut Text,
+    text: &[u8],
+    line: u32,
+    all: &[Token],
+    first: &[Token],
+    found: &[Kind],
+) -> Result<(), AllocError>
+    ensures { OnOk result
+        (message.new ≡ message.old ++ notes_behind text.now line all.now first.now found.now) }
+{
+    let word = token_at(all, first.len());
+    let behind = token_at(all, first.len() + 1);
+    add_expected_note(alloc, message, text, first, found)?;
+    add_before(message, text, line, first)?;
+    add_open_note(alloc, message, text, first, word, found)?;
+    let sight = Sight {
+        text,
+        line,
+        before: first,
+        word,
+        behind,
+        found,
+    };
+    add_remark_note(alloc, message, &sight)
+}
+
 /// Puts the notes behind the first tokens, at a place of this line.
 fn add_notes_behind(
     alloc: Global,
@@ -41,24 +70,11 @@ fn add_notes_behind(
     all: &[Token],
     first: &[Token],
 ) -> Result<(), AllocError>
-    ensures { OnOk result ((found : List Kind) → IsExpectedSet (front text.now first.now) found →
+    ensures { OnOk result ((found : List SpecKind) → IsExpectedSet (front text.now first.now) found →
         message.new ≡ message.old ++ notes_behind text.now line all.now first.now found) }
 {
     let found = expected(alloc, text, first)?;
-    let word = token_at(all, first.len());
-    let behind = token_at(all, first.len() + 1);
-    add_expected_note(alloc, message, text, first, found.as_slice())?;
-    add_before(message, text, line, first)?;
-    add_open_note(alloc, message, text, first, word, found.as_slice())?;
-    let sight = Sight {
-        text,
-        line,
-        before: first,
-        word,
-        behind,
-        found: found.as_slice(),
-    };
-    add_remark_note(alloc, message, &sight)
+    add_notes(alloc, message, text, line, all, first, found.as_slice())
 }
 
 /// Puts the notes at a place of a text where it goes on with no word of the grammar, or ends: what
@@ -72,7 +88,7 @@ pub fn add_unexpected_notes(
     text: &[u8],
     place: Place,
 ) -> Result<(), AllocError>
-    ensures { OnOk result ((toks : List SpecToken) (found : List Kind) →
+    ensures { OnOk result ((toks : List SpecToken) (found : List SpecKind) →
         are_tokens text.now toks → IsExpectedSet (front text.now (before_of toks place)) found →
         message.new ≡ message.old ++ unexpected_notes text.now toks place found) }
 {
