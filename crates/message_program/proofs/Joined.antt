@@ -2,7 +2,7 @@
 use Rattle.std.proofs.Common.{◌≡◌, ◌++◌, ℕ, List, ap, ◌∙◌, append_assoc}
 use Rattle.syntax.specs.declared.token.Token.{Token}
 use Rattle.syntax_tree.specs.declared.place.Place.{Place}
-use Rattle.message_expected.specs.Unexpected.{Notes, unexpected_notes}
+use Rattle.message_unexpected.specs.Unexpected.{Notes, unexpected_notes}
 use Rattle.message_program.specs.Program.{UnexpectedTold, begun, word_sentence}
 
 pub joined : (old part more text : List ℕ) → text ≡ old ++ part → text ++ more ≡ old ++ (part ++ more)

@@ -7,7 +7,7 @@ use Rattle.message_program.specs.Hints.{byte_note, first_byte, is_visible}
 use Rattle.message_program.specs.Rules.{rule, rule_sentence}
 use Rattle.message_program.specs.Word.{bytes_at, word_at}
 use Rattle.message_expected.specs.Expected.{IsExpectedSet, before, front}
-use Rattle.message_expected.specs.Unexpected.{unexpected_notes}
+use Rattle.message_unexpected.specs.Unexpected.{unexpected_notes}
 use Rattle.message_expected.specs.declared.kinds.Kind.{Kind}
 use Rattle.message_rules.specs.Findings as findings
 use Rattle.front_end.specs.Source.{IsTreeOf}

@@ -4,7 +4,7 @@ ghost use Rattle.std.specs.Prelude.{◌≡◌, IfOk};
 ghost use Rattle.message_program.specs.Program.{IsUnexpectedTold, begun, word_sentence};
 
 use crate::messages::{begun, word_sentence};
-use message_expected::add_unexpected_notes;
+use message_unexpected::add_unexpected_notes;
 use std::alloc::{AllocError, Global};
 use syntax_tree::{Place, Text};
 

@@ -6,7 +6,7 @@
 //! `specs/Word.antt` says which word stands at a place, `specs/Rules.antt` has the sentence and the
 //! note of each rule, and `specs/Hints.antt` what is said of bytes that begin no word.
 //! `specs/Program.antt` puts them together, with all notes where the grammar fails
-//! (`message_expected`), and with the sentence that has numbers and names where a rule for numbers
+//! (`message_expected`, `message_unexpected`), and with the sentence that has numbers and names where a rule for numbers
 //! does (`message_rules`).
 //!
 //! `program_message` and `long_message` make exactly these messages; the only error is want of
