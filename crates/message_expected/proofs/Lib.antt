@@ -3,10 +3,6 @@ pub mod Behind
 pub mod Cuts
 pub mod Examples
 pub mod Follows
-pub mod Joined
 pub mod Numbered
-pub mod OneSet
-pub mod Opened
 pub mod Picked
 pub mod Places
-pub mod Sought

@@ -1,11 +1,5 @@
 pub mod Behind
 pub mod Expected
-pub mod Foreign
 pub mod Groups
 pub mod Kinds
 pub mod Notes
-pub mod Parts
-pub mod Remarks
-pub mod Rows
-pub mod Seen
-pub mod Unexpected

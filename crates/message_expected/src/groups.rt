@@ -138,7 +138,7 @@ fn name(group: Group) -> &'static [u8]
 }
 
 /// The kinds of the group.
-pub(crate) fn members(group: Group) -> &'static [Kind]
+pub fn members(group: Group) -> &'static [Kind]
     ensures { result.now ≡ members group }
 {
     match group {

@@ -11,7 +11,7 @@ use syntax::{Token, TokenKind, keyword_spelling, sign_spelling};
 use syntax_tree::Text;
 
 /// How many keywords there are.
-pub(crate) const KEYWORDS: u8 = 51;
+pub const KEYWORDS: u8 = 51;
 
 /// How many signs there are.
 pub(crate) const SIGNS: u8 = 18;
@@ -52,7 +52,7 @@ fn sign_bytes(at: u8) -> &'static [u8]
 }
 
 /// The bytes of a word of the kind; none for the end.
-pub(crate) fn spelling(kind: Kind) -> &'static [u8]
+pub fn spelling(kind: Kind) -> &'static [u8]
     ensures { result.now ≡ spelling kind }
 {
     match kind {
@@ -80,7 +80,7 @@ pub(crate) fn add_told(text: &mut Text, kind: Kind) -> Result<(), AllocError>
 }
 
 /// Whether the kinds are one.
-pub(crate) fn is_same(kind: Kind, other: Kind) -> bool
+pub fn is_same(kind: Kind, other: Kind) -> bool
     ensures { result ≡ same kind other }
 {
     match (kind, other) {
@@ -95,14 +95,14 @@ pub(crate) fn is_same(kind: Kind, other: Kind) -> bool
 }
 
 /// Whether the kind is among these.
-pub(crate) fn has(found: &[Kind], kind: Kind) -> bool
+pub fn has(found: &[Kind], kind: Kind) -> bool
     ensures { result ≡ has found.now kind }
 {
     found.iter().any(|other| is_same(kind, *other))
 }
 
 /// The kind of a token.
-pub(crate) fn of_token(token: Token) -> Kind
+pub fn of_token(token: Token) -> Kind
     ensures { result ≡ of_token token.kind }
 {
     match token.kind {
@@ -114,7 +114,7 @@ pub(crate) fn of_token(token: Token) -> Kind
 }
 
 /// The kind of a token, or of the end where there is none.
-pub(crate) fn kind_of(token: Option<Token>) -> Kind
+pub fn kind_of(token: Option<Token>) -> Kind
     ensures { result ≡ kind_of token }
 {
     match token {

@@ -1,10 +1,11 @@
--- The messages for four texts that are no programs.
+-- The messages for three texts that are no programs.
 use Rattle.std.proofs.Common.{refl}
 use Rattle.std.specs.Prelude.{◌≡◌, ℕ, List, codes}
 use Rattle.std.specs.Fmt.{digits}
 use Rattle.message_text.specs.Shown.{show}
-use Rattle.message_program.specs.Hints.{beginnings, other_words}
-use Rattle.message_program.specs.Program.{word_message}
+use Rattle.message_program.specs.Hints.{beginnings}
+use Rattle.message_text.specs.Words.{note}
+use Rattle.message_program.specs.Program.{unexpected_message, word_message}
 use Rattle.message_program.specs.Rules.{rules}
 use Rattle.syntax_tree.specs.declared.place.Place.{Place}
 
@@ -25,12 +26,7 @@ pub no_word : word_message (codes "P") (codes "x != 1\n") 1 (at 1 3) ≡ codes "
 unfolding show beginnings digits
 no_word = refl
 
--- a word of another language
-pub other_word : word_message (codes "P") (codes "  while b\n") 10 (at 1 3) ≡ codes "P:1:3: E10: unexpected `while`\n      1 |   while b\n        |   ^^^^^\n        = a loop is `for i : 1 .. 9 do .. end for`; `exit when` leaves it\n"
-unfolding show other_words digits
-other_word = refl
-
--- a text that ends too early
-pub no_end : word_message (codes "P") (codes "program a\n") 10 (at 2 1) ≡ codes "P:2:1: E10: unexpected end of the text\n      2 | \n        | ^\n"
-unfolding show other_words digits
+-- a text that ends too early, with a note
+pub no_end : unexpected_message (codes "P") (codes "program a\n") (at 2 1) (note (codes "after `a` expected `end`")) ≡ codes "P:2:1: E10: unexpected end of the text\n      2 | \n        | ^\n        = after `a` expected `end`\n"
+unfolding show digits
 no_end = refl

@@ -1,5 +1,5 @@
--- What is said of bytes that begin no word, and of words of other languages.
-use Rattle.std.specs.Prelude.{ℕ, Bool, List, [], ◌∷◌, ◌&&◌, bytes_eq, codes, find, nat_eq, nat_le, if◌then◌else◌}
+-- What is said of bytes that begin no word.
+use Rattle.std.specs.Prelude.{ℕ, Bool, List, [], ◌∷◌, ◌&&◌, codes, find, nat_eq, nat_le, if◌then◌else◌}
 use Rattle.std.specs.List.{slice_index_or, starts_with}
 use Rattle.std.specs.Option.{option_map_or}
 
@@ -21,24 +21,6 @@ of_braces = codes "write words: `begin`, `then` or `do`, and `end` with its name
 abbrev pub of_texts : List ℕ
 of_texts = codes "there are no characters or texts; devices give and take numbers"
 
-abbrev pub of_branches : List ℕ
-of_branches = codes "write `else if .. then ..`; each `if` has its own `end if`"
-
-abbrev pub of_loops : List ℕ
-of_loops = codes "a loop is `for i : 1 .. 9 do .. end for`; `exit when` leaves it"
-
-abbrev pub of_devices : List ℕ
-of_devices = codes "`put` gives a number to a device, `get` takes one"
-
-abbrev pub of_leaving : List ℕ
-of_leaving = codes "`exit when` leaves a loop"
-
-abbrev pub of_choices : List ℕ
-of_choices = codes "write `if .. then .. else .. end if`"
-
-abbrev pub of_types : List ℕ
-of_types = codes "the types are `int`, `boolean` and `1 .. 9`"
-
 -- bytes that begin no word
 unfoldable pub beginnings : List Hint
 beginnings =
@@ -56,40 +38,6 @@ beginnings =
     ∷ hint (codes "\"") of_texts
     ∷ hint (codes "'") of_texts
     ∷ hint (codes "_") (codes "a name begins with a letter")
-    ∷ []
-
--- words of other languages
-unfoldable pub other_words : List Hint
-other_words =
-    hint (codes "elsif") of_branches
-    ∷ hint (codes "elseif") of_branches
-    ∷ hint (codes "elif") of_branches
-    ∷ hint (codes "endif") (codes "write `end if`")
-    ∷ hint (codes "endfor") (codes "write `end for`")
-    ∷ hint (codes "endwhile") (codes "write `end for`")
-    ∷ hint (codes "while") of_loops
-    ∷ hint (codes "until") of_loops
-    ∷ hint (codes "repeat") of_loops
-    ∷ hint (codes "loop") of_loops
-    ∷ hint (codes "print") of_devices
-    ∷ hint (codes "printf") of_devices
-    ∷ hint (codes "write") of_devices
-    ∷ hint (codes "read") of_devices
-    ∷ hint (codes "break") of_leaving
-    ∷ hint (codes "continue") of_leaving
-    ∷ hint (codes "switch") of_choices
-    ∷ hint (codes "case") of_choices
-    ∷ hint (codes "bool") of_types
-    ∷ hint (codes "float") of_types
-    ∷ hint (codes "double") of_types
-    ∷ hint (codes "real") of_types
-    ∷ hint (codes "char") of_types
-    ∷ hint (codes "string") of_types
-    ∷ hint (codes "void") of_types
-    ∷ hint (codes "long") of_types
-    ∷ hint (codes "short") of_types
-    ∷ hint (codes "unsigned") of_types
-    ∷ hint (codes "integer") of_types
     ∷ []
 
 -- a byte that is seen as it is
@@ -110,7 +58,3 @@ first_byte bytes = slice_index_or bytes 0 10
 -- what is said of bytes that begin no word
 abbrev pub byte_note : (bytes : List ℕ) → List ℕ
 byte_note bytes = option_map_or (λ h. h.note) (find (λ h. starts_with nat_eq bytes h.bytes) beginnings) (of_byte (first_byte bytes))
-
--- what is said of a word of another language; nothing of other words
-abbrev pub word_note : (word : List ℕ) → List ℕ
-word_note word = option_map_or (λ h. h.note) (find (λ h. bytes_eq h.bytes word) other_words) []

@@ -1,21 +1,19 @@
 -- The message for a text that is no program.
-use Rattle.std.specs.Prelude.{◌≡◌, ◌≢◌, ℕ, ◌<◌, ◌≤◌, ◌++◌, ◌==◌, not, ◌&&◌, Bool, List, [], ◌∷◌, codes, decimal, length, max, take, Option, if◌then◌else◌}
-use Rattle.std.specs.List.{prefix_len}
+use Rattle.std.specs.Prelude.{◌≡◌, ◌≢◌, ℕ, ◌<◌, ◌≤◌, ◌++◌, ◌==◌, List, [], ◌∷◌, codes, decimal, length, max, take, Option, if◌then◌else◌}
 use Rattle.std.specs.Option.{unwrap_or}
 use Rattle.message_text.specs.Shown.{show}
 use Rattle.message_text.specs.Words.{head, note, quoted}
-use Rattle.message_program.specs.Hints.{byte_note, first_byte, is_visible, word_note}
+use Rattle.message_program.specs.Hints.{byte_note, first_byte, is_visible}
 use Rattle.message_program.specs.Rules.{rule, rule_sentence}
 use Rattle.message_program.specs.Word.{bytes_at, word_at}
-use Rattle.message_expected.specs.Expected.{IsExpectedSet, front}
-use Rattle.message_expected.specs.Notes.{expected_note}
+use Rattle.message_expected.specs.Expected.{IsExpectedSet, before, front}
+use Rattle.message_unexpected.specs.Unexpected.{unexpected_notes}
 use Rattle.message_expected.specs.declared.kinds.Kind.{Kind}
 use Rattle.message_rules.specs.Findings as findings
 use Rattle.front_end.specs.Source.{IsTreeOf}
 use Rattle.static_names.specs.Resolved.{IsNamed}
 use Rattle.syntax.specs.Tokens.{tokens}
 use Rattle.syntax.specs.declared.token.Token.{Token}
-use Rattle.syntax_tree.specs.Parts.{same_place}
 use Rattle.syntax_tree.specs.Placed.{Prog}
 use Rattle.syntax_tree.specs.declared.place.Place.{Place}
 
@@ -56,8 +54,7 @@ abbrev pub remark : (number : ℕ) (bytes : List ℕ) → List ℕ
 remark number bytes =
     if number == 1 then byte_note bytes
     else (if number == 3 then codes "write a shorter name"
-    else (if number == 10 then word_note (word_at bytes)
-    else (rule number).note))
+    else (rule number).note)
 
 -- a note, where there is something to say
 abbrev pub note_of : (remark : List ℕ) → List ℕ
@@ -71,12 +68,13 @@ show_word text place word = show text place.line place.col (max (length word) 1)
 abbrev pub first_line : (file : List ℕ) (number : ℕ) (place : Place) (sentence : List ℕ) → List ℕ
 first_line file number place sentence = head file place.line place.col (codes "E" ++ decimal number) sentence
 
--- the message for a fault of this number, where these bytes stand at the place: what is wrong, the
--- line, what is expected, and what can be done
-abbrev pub told : (file text : List ℕ) (number : ℕ) (place : Place) (bytes sentence expected : List ℕ) → List ℕ
-told file text number place bytes sentence expected =
-    first_line file number place sentence
-    ++ (show_word text place (word_of number bytes) ++ (expected ++ note_of (remark number bytes)))
+-- the message up to its notes: what is wrong, and the line
+abbrev pub begun : (file text : List ℕ) (number : ℕ) (place : Place) (sentence : List ℕ) → List ℕ
+begun file text number place sentence = first_line file number place sentence ++ show_word text place (word_of number (bytes_at text place))
+
+-- the message for a fault of this number: what is wrong, the line, and what can be done
+abbrev pub told : (file text : List ℕ) (number : ℕ) (place : Place) (sentence : List ℕ) → List ℕ
+told file text number place sentence = begun file text number place sentence ++ note_of (remark number (bytes_at text place))
 
 -- what is wrong, told by the word at the place alone
 abbrev pub word_sentence : (text : List ℕ) (number : ℕ) (place : Place) → List ℕ
@@ -84,7 +82,7 @@ word_sentence text number place = sentence number (word_of number (bytes_at text
 
 -- the message by the word at the place alone
 abbrev pub word_message : (file text : List ℕ) (number : ℕ) (place : Place) → List ℕ
-word_message file text number place = told file text number place (bytes_at text place) (word_sentence text number place) []
+word_message file text number place = told file text number place (word_sentence text number place)
 
 -- the message for a text that is too long
 unfoldable pub long_message : (file : List ℕ) → List ℕ
@@ -92,37 +90,33 @@ long_message file = head file 1 1 (codes "E4") (codes "the text has more than 10
 
 -- ---- a fault of the grammar
 
--- the token stands elsewhere
-abbrev pub stands_elsewhere : Place → Token → Bool
-stands_elsewhere place t = not (t.line == place.line && t.col == place.col)
+-- the message with these notes
+abbrev pub unexpected_message : (file text : List ℕ) (place : Place) (notes : List ℕ) → List ℕ
+unexpected_message file text place notes = begun file text 10 place (word_sentence text 10 place) ++ notes
 
--- the tokens before that of a place
-abbrev pub before : Place → List Token → List Token
-before place toks = take (prefix_len (stands_elsewhere place) toks) toks
-
--- the message with the note of what is expected at the place
-abbrev pub expected_message : (file text : List ℕ) (place : Place) (note : List ℕ) → List ℕ
-expected_message file text place note = told file text 10 place (bytes_at text place) (word_sentence text 10 place) note
-
--- it has the note of the kinds that are expected behind the tokens before the place
-pub record IsExpectedTold (file text : List ℕ) (place : Place) (toks : List Token) (message : List ℕ) : Type 0 where
+-- it has all notes by exactly the kinds that are expected behind the tokens before the place
+pub record UnexpectedTold (file text : List ℕ) (place : Place) (toks : List Token) (message : List ℕ) : Type 0 where
   pub found : List Kind
-  pub all : IsExpectedSet (front text (before place toks)) found
-  pub is : message ≡ expected_message file text place (expected_note text (before place toks) found)
+  pub all : IsExpectedSet (front text (before toks place)) found
+  pub is : message ≡ unexpected_message file text place (unexpected_notes text toks place found)
+
+-- so it is of a text with tokens
+abbrev pub IsUnexpectedTold : (file text : List ℕ) (place : Place) (message : List ℕ) → Type 0
+IsUnexpectedTold file text place message = (toks : List Token) → tokens text toks → UnexpectedTold file text place toks message
 
 -- ---- a fault of a rule
 
 -- the message with the sentence that has the rule's numbers and names, where there is one
 abbrev pub rule_message : (file text : List ℕ) (number : ℕ) (place : Place) (said : Option (List ℕ)) → List ℕ
-rule_message file text number place said = told file text number place (bytes_at text place) (unwrap_or said (word_sentence text number place)) []
+rule_message file text number place said = told file text number place (unwrap_or said (word_sentence text number place))
 
 -- ---- the message
 
--- by the number of the rule: where it is the grammar, with what is expected behind the text's
--- tokens; where it is a static rule, with its sentence for the text's tree
+-- by the number of the rule: where it is the grammar, with the notes by the text's tokens; where it
+-- is a static rule, with its sentence for the text's tree
 pub data IsFaultTold (file text : List ℕ) (number : ℕ) (place : Place) (message : List ℕ) : Type 0 where
   of_word : number ≢ 10 → number < 30 → message ≡ word_message file text number place → IsFaultTold file text number place message
-  of_grammar : number ≡ 10 → ((toks : List Token) → tokens text toks → IsExpectedTold file text place toks message) → IsFaultTold file text number place message
+  of_grammar : number ≡ 10 → IsUnexpectedTold file text place message → IsFaultTold file text number place message
   of_rule : 30 ≤ number → ((g : Prog Place) → IsTreeOf text g → IsNamed g → message ≡ rule_message file text number place (findings.rule_sentence g number place)) → IsFaultTold file text number place message
 
 -- the message for a text that is no program, or that of a program that is too large: the number of

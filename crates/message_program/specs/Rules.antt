@@ -40,13 +40,13 @@ rules =
     ∷ plain_rule 36 (codes "a frame, a deadline or a first activation is out of its range") []
     ∷ plain_rule 37 (codes "the event starts no process, or more than one") (codes "write `atEvent` with it in exactly one process, or leave the event out")
     ∷ plain_rule 38 (codes "the device has the other direction") (codes "`get` takes from `in` devices, `put` gives to `out` devices")
-    ∷ plain_rule 39 (codes "the number of an exception is out of its range") (codes "`except` and `wait` take 10 to 999, a handler 1 to 4 or 10 to 999")
+    ∷ plain_rule 39 (codes "the number of an exception is out of its range") []
     ∷ plain_rule 40 (codes "a program has 1 to 64 processes, and up to 64 monitors, devices and events each") (codes "declare one, or join or leave out some")
     ∷ plain_rule 41 (codes "this is condition number 257; 256 are the most") (codes "join or leave out some")
     ∷ plain_rule 42 (codes "this is routine number 513; 512 are the most") (codes "join or leave out some")
     ∷ plain_rule 43 (codes "the variables take more than 1048576 words") (codes "make arrays smaller")
     ∷ plain_rule 44 (codes "the array has more than 65536 elements") (codes "make arrays smaller")
-    ∷ plain_rule 45 (codes "the limit of a wait is out of its range") (codes "it may be 1 to 1000000000")
+    ∷ plain_rule 45 (codes "the limit of a wait is out of its range") []
     ∷ plain_rule 46 (codes "the program has more than 65535 instructions") (codes "make the program smaller")
     ∷ with_word 47 (codes "the stack of ") (codes " takes more than 4096 words") (codes "make arrays smaller")
     ∷ plain_rule 48 (codes "`edf` takes no program with a `wait`") (codes "`go`, `check` and `run` take it")

@@ -4,10 +4,10 @@
 //! the line and the word at the place, and what can be done.
 //!
 //! `specs/Word.antt` says which word stands at a place, `specs/Rules.antt` has the sentence and the
-//! note of each rule, and `specs/Hints.antt` what is said of bytes that begin no word and of words
-//! of other languages. `specs/Program.antt` puts them together, with what is expected where the
-//! grammar fails (`message_expected`), and with the sentence that has numbers and names where a rule
-//! for declarations does (`message_rules`).
+//! note of each rule, and `specs/Hints.antt` what is said of bytes that begin no word.
+//! `specs/Program.antt` puts them together, with all notes where the grammar fails
+//! (`message_expected`, `message_unexpected`), and with the sentence that has numbers and names where a rule for numbers
+//! does (`message_rules`).
 //!
 //! `program_message` and `long_message` make exactly these messages; the only error is want of
 //! memory.

@@ -1,7 +1,7 @@
 //! The messages, by the word at the place.
 
 ghost use Rattle.std.specs.Prelude.{◌≡◌, ◌++◌, IfOk, OnOk, codes, decimal};
-ghost use Rattle.message_program.specs.Program.{first_line, long_message, note_of, remark};
+ghost use Rattle.message_program.specs.Program.{begun, first_line, long_message, note_of, remark};
 ghost use Rattle.message_program.specs.Program.{show_word, told, word_message, word_of};
 ghost use Rattle.message_program.specs.Program.{word_sentence};
 ghost use Rattle.message_program.specs.Word.{bytes_at};
@@ -85,24 +85,26 @@ fn add_word(text: &mut Text, source: &[u8], place: Place, word: &[u8]) -> Result
     )
 }
 
-/// Puts the line of the place, what is expected there, and what can be done.
-fn add_notes(
-    text: &mut Text,
+/// The message up to its notes, for a fault of this number with this sentence.
+pub(crate) fn begun(
+    alloc: Global,
+    file: &[u8],
     source: &[u8],
     number: u8,
     place: Place,
-    bytes: &[u8],
-    expected: &[u8],
-) -> Result<(), AllocError>
-    ensures { OnOk result (text.new ≡ text.old ++ (show_word source.now place (word_of number bytes.now)
-        ++ (expected.now ++ note_of (remark number bytes.now)))) }
+    sentence: &[u8],
+) -> Result<Text, AllocError>
+    ensures { IfOk result (λ message.
+        message ≡ begun file.now source.now number place sentence.now) }
 {
-    add_word(text, source, place, word_of(number, bytes))?;
-    text.extend(expected)?;
-    add_remark(text, remark(number, bytes))
+    let mut message = Text::new(alloc);
+    add_first_line(alloc, &mut message, file, number, place, sentence)?;
+    let word = word_of(number, bytes_at(source, place));
+    add_word(&mut message, source, place, word)?;
+    Ok(message)
 }
 
-/// The message for a fault of this number, with this sentence and what is expected.
+/// The message for a fault of this number, with this sentence.
 pub(crate) fn told(
     alloc: Global,
     file: &[u8],
@@ -110,21 +112,12 @@ pub(crate) fn told(
     number: u8,
     place: Place,
     sentence: &[u8],
-    expected: &[u8],
 ) -> Result<Text, AllocError>
-    ensures { IfOk result (λ message. message ≡ told file.now source.now number place
-        (bytes_at source.now place) sentence.now expected.now) }
+    ensures { IfOk result (λ message.
+        message ≡ told file.now source.now number place sentence.now) }
 {
-    let mut message = Text::new(alloc);
-    add_first_line(alloc, &mut message, file, number, place, sentence)?;
-    add_notes(
-        &mut message,
-        source,
-        number,
-        place,
-        bytes_at(source, place),
-        expected,
-    )?;
+    let mut message = begun(alloc, file, source, number, place, sentence)?;
+    add_remark(&mut message, remark(number, bytes_at(source, place)))?;
     Ok(message)
 }
 
@@ -139,7 +132,7 @@ pub(crate) fn word_message(
     ensures { IfOk result (λ message. message ≡ word_message file.now source.now number place) }
 {
     let sentence = word_sentence(alloc, source, number, place)?;
-    told(alloc, file, source, number, place, sentence.as_bytes(), b"")
+    told(alloc, file, source, number, place, sentence.as_bytes())
 }
 
 /// The message for a text that is too long.

@@ -1,14 +1,13 @@
 //! What can be done.
 
-ghost use Rattle.std.specs.Prelude.{◌≡◌, ◌++◌, OnOk, bytes_eq, find, map, nat_eq};
+ghost use Rattle.std.specs.Prelude.{◌≡◌, ◌++◌, OnOk, find, map, nat_eq};
 ghost use Rattle.std.specs.List.{starts_with};
 ghost use Rattle.std.specs.Option.{option_map_or};
-ghost use Rattle.message_program.specs.Hints.{byte_note, first_byte, is_visible, of_byte, word_note};
+ghost use Rattle.message_program.specs.Hints.{byte_note, first_byte, is_visible, of_byte};
 ghost use Rattle.message_program.specs.Program.{note_of, remark};
 ghost use Rattle.message_program.specs.Seen.{hint_of};
 
-use crate::hint_rows::{Hint, beginnings, other_words};
-use crate::place_words::word_at;
+use crate::hint_rows::{Hint, beginnings};
 use crate::rule_rows::numbered;
 use message_text::add_note;
 use std::alloc::AllocError;
@@ -71,33 +70,6 @@ fn byte_note(bytes: &[u8]) -> &'static str
     begun_note(beginnings(), bytes, of_byte(first_byte(bytes)))
 }
 
-/// Whether the hint is for this word.
-fn is_for(hint: &Hint, word: &[u8]) -> bool
-    ensures { result ≡ bytes_eq hint.now.bytes.now word.now }
-{
-    hint.bytes.as_bytes() == word
-}
-
-/// The note for the word, or the other one.
-fn note_for(hints: &'static [Hint], word: &[u8], other: &'static str) -> &'static str
-    ensures { result.now ≡ option_map_or (λ hint. hint.note)
-        (find (λ hint. bytes_eq hint.bytes word.now) (map hint_of hints.now)) other.now }
-{
-    for hint in hints {
-        if is_for(hint, word) {
-            return hint.note;
-        }
-    }
-    other
-}
-
-/// What is said of a word of another language; nothing of other words.
-fn word_note(word: &[u8]) -> &'static str
-    ensures { result.now ≡ word_note word.now }
-{
-    note_for(other_words(), word, "")
-}
-
 /// What can be done about a fault of this number, where these bytes stand at its place.
 pub(crate) fn remark(number: u8, bytes: &[u8]) -> &'static str
     ensures { result.now ≡ remark number bytes.now }
@@ -105,7 +77,6 @@ pub(crate) fn remark(number: u8, bytes: &[u8]) -> &'static str
     match number {
         1 => byte_note(bytes),
         3 => "write a shorter name",
-        10 => word_note(word_at(bytes)),
         _ => numbered(number).note,
     }
 }

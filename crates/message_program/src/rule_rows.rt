@@ -111,7 +111,7 @@ const RULES: [Rule; 25] = [
         number: 39,
         before: "the number of an exception is out of its range",
         behind: "",
-        note: "`except` and `wait` take 10 to 999, a handler 1 to 4 or 10 to 999",
+        note: "",
     },
     Rule {
         number: 40,
@@ -147,7 +147,7 @@ const RULES: [Rule; 25] = [
         number: 45,
         before: "the limit of a wait is out of its range",
         behind: "",
-        note: "it may be 1 to 1000000000",
+        note: "",
     },
     Rule {
         number: 46,

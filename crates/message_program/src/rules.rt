@@ -66,7 +66,7 @@ fn with_sentence(
     ensures { IfOk result (λ message. message ≡ rule_message file.now text.now number place said) }
 {
     match said {
-        Some(sentence) => told(alloc, file, text, number, place, sentence.as_bytes(), b""),
+        Some(sentence) => told(alloc, file, text, number, place, sentence.as_bytes()),
         None => word_message(alloc, file, text, number, place),
     }
 }

@@ -92,6 +92,7 @@ K: overhead in ticks, 0 to 1000; 0 where it is not given
       6 | x = 1
         |   ^
         = after `x` expected `:=`, `.`, `(` or `[`
+        = `:=` assigns, `=` compares
 ",
     },
     Row {
@@ -105,6 +106,12 @@ K: overhead in ticks, 0 to 1000; 0 where it is not given
       7 | end p
         | ^^^
         = after `7` expected an operator, a comparison or `)`
+      6 | x := (7 % 3)
+        |       ^
+        = still open, up to `)`:
+      6 | x := (7 % 3)
+        |      ^
+        = `%` made the rest of line 6 a comment; the remainder is `mod`
 ",
     },
     Row {

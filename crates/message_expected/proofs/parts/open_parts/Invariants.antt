@@ -1,6 +1,0 @@
-use Rattle.std.proofs.Common.{◌≡◌, false, [], drop}
-use Rattle.message_expected.specs.Parts.{open_behind}
-use Rattle.message_expected.proofs.parts.open_parts.Given as goal
-
-abbrev pub invariant-loop-index : goal.invariant-loop-index
-invariant-loop-index l = open_behind l.is_behind_end (drop l.index l.before) l.opened.items ≡ open_behind false l.before []

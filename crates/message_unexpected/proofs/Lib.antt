@@ -1,0 +1,5 @@
+pub mod Examples
+pub mod Gathered
+pub mod Joined
+pub mod Opened
+pub mod Sought
