@@ -19,8 +19,8 @@ stmt-returns-in-Call-clause-out g t c =
     let k = option_copied c.routine.result in
     on_ok c.called.result c.called.ensures (λ e.
     e
-    ∙ ap (λ ls. call_out k (λ rs. args_out p (inside ls around) (plain_exprs (placed_exprs c.as_slice-in-Call-2.result.now)) rs o) o) c.as_slice-in-Call.ensures.value
-    ∙ ap (λ es. call_out k (λ rs. args_out p s (plain_exprs (placed_exprs es)) rs o) o) c.as_slice-in-Call-2.ensures
+    ∙ ap (λ ls. call_out k (λ rs. args_out p (inside ls around) (plain_exprs (placed_exprs c.exprs-in-Call.result.now)) rs o) o) c.as_slice-around.ensures.value
+    ∙ ap (λ es. call_out k (λ rs. args_out p s (plain_exprs (placed_exprs es)) rs o) o) c.exprs-in-Call.ensures
     ∙ called_is p around s c.in-Call.name (plain_exprs (placed_exprs c.in-Call.args)) k o (owner_inside c.args.loops.now.items around) c.routine.ensures
     ∙ sym (ap (λ x. stmt_out p s (plain_stmt x) o) (ap placed_stmt c.in-Call.is ∙ stmt-Call c.in-Call.place c.in-Call.name c.in-Call.args)))
 
