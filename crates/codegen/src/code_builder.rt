@@ -2,10 +2,10 @@
 
 ghost use Rattle.std.specs.Prelude.{◌≡◌, [], pos, length, OnOk, IfOk};
 ghost use Rattle.machine_isa.specs.declared.instr.Instr.TheVariants as i;
-ghost use Rattle.codegen_spec.specs.Told.{fit as fitting};
 ghost use Rattle.codegen_spec.specs.Parts.{opened, part_of};
 ghost use Rattle.codegen_spec.specs.Made.{aim as aim_of, aim_one as aim_one_of, aimed, aims, begun, closed, counted, joined, line_of, patched, push as pushed};
 
+use crate::errors::tri;
 use codegen_spec::Part;
 use image_format::{Seg, Segs};
 use machine_isa::Instr;
@@ -35,17 +35,6 @@ impl Model for CodeBuilder {
     ghost view = { λ o. record { code = o.code.items; segs = o.segs; from = o.from; word = o.word } };
 }
 
-/// A number as it fits into an operand.
-pub fn fit(number: usize) -> i32
-    ensures { result ≡ fitting (pos number) }
-{
-    if number > 2_147_483_647 {
-        2_147_483_647
-    } else {
-        number as i32
-    }
-}
-
 impl CodeBuilder {
     pub fn new(alloc: Global, word: usize) -> CodeBuilder
         ensures { result ≡ record { code = []; segs = []; from = 0; word = word } }
@@ -70,9 +59,7 @@ impl CodeBuilder {
     pub fn patch(&mut self, at: usize, instr: Instr)
         ensures { self.new ≡ patched self.old at instr }
     {
-        if at < self.code.len() {
-            self.code[at] = instr;
-        }
+        codegen_branches::patch(&mut self.code, at, instr);
     }
 
     /// The word for a loop's variable is taken.
@@ -96,7 +83,7 @@ impl CodeBuilder {
         let mut segs = std::mem::replace(&mut self.segs, Segs::new(self.alloc));
         let count = self.code.len().saturating_sub(self.from);
         if count > 0 {
-            segs.push(Seg::Line(u32::try_from(count).unwrap_or(u32::MAX)))?;
+            tri!(segs.push(Seg::Line(u32::try_from(count).unwrap_or(u32::MAX))));
         }
         self.from = self.code.len();
         Ok(segs)
@@ -115,9 +102,8 @@ impl CodeBuilder {
         ensures { OnOk result (self.new ≡ joined self.old before seg) }
     {
         self.segs = before;
-        self.segs.push(seg)?;
         self.from = self.code.len();
-        Ok(())
+        self.segs.push(seg)
     }
 
     /// The address of the next instruction.
@@ -148,8 +134,8 @@ impl CodeBuilder {
         ensures out { OnOk result (self.new ≡ pushed (begun self.old) last) }
         ensures part { IfOk result (λ part. part ≡ part_of start self.old (pushed self.old last)) }
     {
-        let tree = self.take()?;
-        self.push(last)?;
+        let tree = tri!(self.take());
+        tri!(self.push(last));
         Ok(Part {
             start,
             end: self.address(),

@@ -7,6 +7,7 @@ ghost use Rattle.code_spec.specs.Numbering.{numbered};
 ghost use Rattle.codegen_spec.specs.Parts.{nothing_made, process_made, processes_made, program_made, routine_made, texts_made};
 
 use crate::CodeBuilder;
+use crate::errors::tri;
 use crate::part::{handler, return_from, text};
 use codegen_spec::{Code, Lookup, Lookups, Part, ProcessParts};
 use machine_isa::Instr;
@@ -40,7 +41,7 @@ fn listed(alloc: Global, code: &[Instr]) -> Result<List<Instr>, AllocError>
 {
     let mut list = List::new(alloc);
     for instr in code {
-        list.push(*instr)?;
+        tri!(list.push(*instr));
     }
     Ok(list)
 }
@@ -68,8 +69,8 @@ impl Maker {
     {
         let start = self.out.address();
         self.out.begin_part(words);
-        text(&mut self.out, names, routine)?;
-        let part = self.out.end_part(start, return_from(routine))?;
+        tri!(text(&mut self.out, names, routine));
+        let part = tri!(self.out.end_part(start, return_from(routine)));
         self.routines.push(part)
     }
 
@@ -80,9 +81,9 @@ impl Maker {
     {
         let start = self.out.address();
         self.out.begin_part(0);
-        self.out.statements(names, process.body.as_slice())?;
-        let body = self.out.end_part(start, Instr::End)?;
-        let handler = handler(&mut self.out, names, &process.handler)?;
+        tri!(self.out.statements(names, process.body.as_slice()));
+        let body = tri!(self.out.end_part(start, Instr::End));
+        let handler = tri!(handler(&mut self.out, names, &process.handler));
         self.processes.push(ProcessParts { body, handler })
     }
 
@@ -92,11 +93,11 @@ impl Maker {
             (numbered (P.program program.now)) self.old) }
     {
         for number in 0..program.routines() {
-            self.routine(
+            tri!(self.routine(
                 program.routine_names(number),
                 program.words(number),
                 program.routine(number),
-            )?;
+            ));
         }
         Ok(())
     }
@@ -107,16 +108,27 @@ impl Maker {
             (processes_of (P.program program.now)) self.old) }
     {
         for number in 0..program.processes() {
-            self.process(program.process_names(number), program.process(number))?;
+            tri!(self.process(program.process_names(number), program.process(number)));
         }
         Ok(())
+    }
+
+    /// All texts: the routines, and then the processes.
+    fn texts<P: Lookups>(&mut self, program: &P) -> Result<(), AllocError>
+        ensures { let g = P.program program.now in
+            OnOk result (self.new ≡ processes_made g 0 (processes_of g) (texts_made g (numbered g)
+            self.old)) }
+    {
+        tri!(self.routines(program));
+        self.processes(program)
     }
 
     fn finish(self, alloc: Global) -> Result<Code, AllocError>
         ensures { IfOk result (λ code. code ≡ self) }
     {
+        let instrs = tri!(listed(alloc, self.out.as_slice()));
         Ok(Code {
-            instrs: listed(alloc, self.out.as_slice())?,
+            instrs,
             routines: self.routines,
             processes: self.processes,
         })
@@ -129,7 +141,6 @@ pub fn generate<P: Lookups>(alloc: Global, program: &P) -> Result<Code, AllocErr
     ensures { IfOk result (λ code. code ≡ program_made (P.program program.now)) }
 {
     let mut maker = Maker::new(alloc);
-    maker.routines(program)?;
-    maker.processes(program)?;
+    tri!(maker.texts(program));
     maker.finish(alloc)
 }

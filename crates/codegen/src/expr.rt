@@ -10,7 +10,9 @@ ghost use Rattle.codegen_spec.specs.Told.{fit as fitting, inside, range_told, to
 ghost use Rattle.codegen_spec.specs.Made.{call_out, called as called_of, load_at_from, load_at_told, load_from, load_told, range_out};
 ghost use Rattle.codegen.specs.Of.{args_of, expr_of, row_of};
 
-use crate::code_builder::{CodeBuilder, fit};
+use crate::code_builder::CodeBuilder;
+use crate::errors::tri;
+use codegen_branches::fit;
 use codegen_spec::{Area, Callee, Lookup, Loop, ValueRange, VarLocation, VarShape};
 use image_format::Seg;
 use machine_isa::Instr;
@@ -118,10 +120,10 @@ impl CodeBuilder {
     fn call(&mut self, number: usize) -> Result<(), AllocError>
         ensures { OnOk result (self.new ≡ called_of number self.old) }
     {
-        let before = self.take()?;
-        self.push(Instr::Call {
+        let before = tri!(self.take());
+        tri!(self.push(Instr::Call {
             routine: fit(number),
-        })?;
+        }));
         self.join(before, Seg::Call(u16::try_from(number).unwrap_or(u16::MAX)))
     }
 
@@ -138,8 +140,8 @@ impl CodeBuilder {
             OnOk result (self.new ≡ args_of g c args.now ranges.now self.old) }
     {
         for (arg, range) in args.iter().zip(ranges) {
-            self.expr(names, loops, arg)?;
-            self.range(range)?;
+            tri!(self.expr(names, loops, arg));
+            tri!(self.range(range));
         }
         Ok(())
     }
@@ -160,7 +162,7 @@ impl CodeBuilder {
         match callee {
             None => Ok(()),
             Some(callee) => {
-                self.args(names, loops, args, callee.ranges.as_slice())?;
+                tri!(self.args(names, loops, args, callee.ranges.as_slice()));
                 self.call(callee.number)
             }
         }
@@ -178,8 +180,8 @@ impl CodeBuilder {
             OnOk result (self.new ≡ row_of g c operands.now self.old) }
     {
         for operand in operands {
-            self.expr(names, loops, &operand.1)?;
-            self.push(instr_of(operand.0))?;
+            tri!(self.expr(names, loops, &operand.1));
+            tri!(self.push(instr_of(operand.0)));
         }
         Ok(())
     }
@@ -203,23 +205,23 @@ impl CodeBuilder {
             Expr::False { .. } => self.push(Instr::Push { value: 0 }),
             Expr::Variable { name, .. } => self.push(crate::expr::name(names, loops, name)),
             Expr::Element { name, index, .. } => {
-                self.expr(names, loops, index)?;
+                tri!(self.expr(names, loops, index));
                 self.push(element(names, loops, name))
             }
             Expr::Call { name, args, .. } => {
                 self.called(names, loops, names.routine(name), args.as_slice())
             }
             Expr::Minus { operand, .. } => {
-                self.expr(names, loops, operand)?;
+                tri!(self.expr(names, loops, operand));
                 self.push(Instr::Neg)
             }
             Expr::Not { operand, .. } => {
-                self.expr(names, loops, operand)?;
+                tri!(self.expr(names, loops, operand));
                 self.push(Instr::Not)
             }
             Expr::Paren { inner, .. } => self.expr(names, loops, inner),
             Expr::Chain { first, rest } => {
-                self.expr(names, loops, first)?;
+                tri!(self.expr(names, loops, first));
                 self.operands(names, loops, rest.as_slice())
             }
         }

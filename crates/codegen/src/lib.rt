@@ -8,6 +8,7 @@
 
 mod code_builder;
 mod codegen_program;
+mod errors;
 mod expr;
 mod nest;
 mod part;
@@ -15,7 +16,8 @@ mod stmt;
 mod store;
 mod texts;
 
-pub use code_builder::{CodeBuilder, fit};
+pub use code_builder::CodeBuilder;
+pub use codegen_branches::fit;
 pub use codegen_program::generate;
 pub use expr::range_of;
 pub use texts::ProgramTexts;

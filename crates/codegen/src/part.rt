@@ -4,6 +4,7 @@ ghost use Rattle.std.specs.Prelude.{◌≡◌, OnOk, IfOk, Some, option_map};
 ghost use Rattle.syntax_tree.specs.Placed.{optional, placed_handler, placed_routine, plain_handler, plain_routine};
 ghost use Rattle.codegen_spec.specs.Parts.{answer_out, entered, handler_part, inner_out, left, process_out, return_of, routine_out};
 
+use crate::errors::tri;
 use crate::{CodeBuilder, fit, range_of};
 use codegen_spec::{Lookup, Owner, Part};
 use image_format::{Seg, Segs};
@@ -29,7 +30,7 @@ fn answer<L: Lookup>(out: &mut CodeBuilder, names: &L, routine: &Routine) -> Res
 {
     match (&routine.result, &routine.value) {
         (Some(kind), Some(value)) => {
-            out.expr(names, &[], value)?;
+            tri!(out.expr(names, &[], value));
             out.range(&range_of(names, kind))
         }
         _ => Ok(()),
@@ -41,8 +42,21 @@ fn inner<L: Lookup>(out: &mut CodeBuilder, names: &L, routine: &Routine) -> Resu
     ensures { OnOk result (out.new ≡ inner_out (L.program names.now) (L.scope names.now)
         (plain_routine (placed_routine routine.now)) out.old) }
 {
-    out.statements(names, routine.body.as_slice())?;
+    tri!(out.statements(names, routine.body.as_slice()));
     answer(out, names, routine)
+}
+
+/// The end of a stay in a monitor.
+fn leave(out: &mut CodeBuilder, number: usize) -> Result<(), AllocError>
+    ensures { OnOk result (out.new ≡ left number out.old) }
+{
+    let monitor = u16::try_from(number).unwrap_or(u16::MAX);
+    let body = tri!(out.take());
+    tri!(out.push(Instr::Leave {
+        monitor: fit(number),
+    }));
+    let stay = tri!(Seg::stay(out.alloc, monitor, body));
+    out.join(Segs::new(out.alloc), stay)
 }
 
 /// An entry but for its return: a stay in its monitor.
@@ -56,18 +70,12 @@ fn stay<L: Lookup>(
         (inner_out (L.program names.now) (L.scope names.now)
         (plain_routine (placed_routine routine.now)) (entered number out.old))) }
 {
-    out.push(Instr::Enter {
+    tri!(out.push(Instr::Enter {
         monitor: fit(number),
-    })?;
+    }));
     out.begin();
-    inner(out, names, routine)?;
-    let before = Segs::new(out.alloc);
-    let body = out.take()?;
-    out.push(Instr::Leave {
-        monitor: fit(number),
-    })?;
-    let monitor = u16::try_from(number).unwrap_or(u16::MAX);
-    out.join(before, Seg::stay(out.alloc, monitor, body)?)
+    tri!(inner(out, names, routine));
+    leave(out, number)
 }
 
 /// A routine or entry but for its return.
@@ -100,7 +108,7 @@ fn handler_of<L: Lookup>(
 {
     let start = out.address();
     out.begin();
-    out.statements(names, handler.body.as_slice())?;
+    tri!(out.statements(names, handler.body.as_slice()));
     out.end_part(start, Instr::End)
 }
 
@@ -120,7 +128,7 @@ pub fn handler<L: Lookup>(
     match handler {
         None => Ok(None),
         Some(handler) => {
-            let part = handler_of(out, names, handler)?;
+            let part = tri!(handler_of(out, names, handler));
             Ok(Some(part))
         }
     }

@@ -11,12 +11,14 @@ ghost use Rattle.codegen_spec.specs.Told.{fit as fitting, inside, told_callee, w
 ghost use Rattle.codegen_spec.specs.Made.{call_out, condition_told, count_told, push as push_of, choice as choice_of, closed, one_arm, stmt_out, waiting};
 ghost use Rattle.codegen.specs.Of.{args_of, expr_of, index_of, put_of, stmt_of, stmts_of, store_of};
 
-use crate::code_builder::{CodeBuilder, fit};
+use crate::code_builder::CodeBuilder;
+use crate::errors::tri;
+use codegen_branches::fit;
 use codegen_spec::{Lookup, Loop, Owner};
 use image_format::Seg;
 use machine_isa::Instr;
 use std::alloc::AllocError;
-use syntax_tree::{Constant, Expr, Name, Ref, Stmt};
+use syntax_tree::{Constant, Expr, List, Name, Ref, Stmt};
 
 /// A constant that is used as a number of ticks or as an exception number.
 fn count<L: Lookup>(names: &L, constant: &Constant) -> i32
@@ -37,6 +39,20 @@ fn monitor<L: Lookup>(names: &L) -> usize
     }
 }
 
+/// The arguments of a call.
+fn exprs(list: &List<Expr>) -> &[Expr]
+    ensures { result.now ≡ list.now }
+{
+    list.as_slice()
+}
+
+/// The statements of an arm or a body.
+fn listed(list: &List<Stmt>) -> &[Stmt]
+    ensures { result.now ≡ list.now }
+{
+    list.as_slice()
+}
+
 impl CodeBuilder {
     fn assign<L: Lookup>(
         &mut self,
@@ -49,8 +65,8 @@ impl CodeBuilder {
             OnOk result (self.new ≡ put_of g c target.now (expr_of g c value.now (index_of g c
             target.now self.old))) }
     {
-        self.index(names, loops, target)?;
-        self.expr(names, loops, value)?;
+        tri!(self.index(names, loops, target));
+        tri!(self.expr(names, loops, value));
         self.put(names, loops, target)
     }
 
@@ -68,8 +84,8 @@ impl CodeBuilder {
             mon.now entry.now)) (λ rs. args_of g c args.now rs (index_of g c target.now self.old))
             (index_of g c target.now self.old))) }
     {
-        self.index(names, loops, target)?;
-        self.called(names, loops, names.entry(mon, entry), args)?;
+        tri!(self.index(names, loops, target));
+        tri!(self.called(names, loops, names.entry(mon, entry), args));
         self.put(names, loops, target)
     }
 
@@ -85,10 +101,10 @@ impl CodeBuilder {
             OnOk result (self.new ≡ store_of g c target.now (push_of (index_of g c target.now
             self.old) (i.Empty (condition_told g c cond.now)))) }
     {
-        self.index(names, loops, target)?;
-        self.push(Instr::Empty {
+        tri!(self.index(names, loops, target));
+        tri!(self.push(Instr::Empty {
             condition: names.condition(cond),
-        })?;
+        }));
         self.store(names, loops, target)
     }
 
@@ -103,10 +119,10 @@ impl CodeBuilder {
             OnOk result (self.new ≡ put_of g c target.now (push_of (index_of g c target.now
             self.old) (i.In (fitting (pos (device_number g device.now)))))) }
     {
-        self.index(names, loops, target)?;
-        self.push(Instr::In {
+        tri!(self.index(names, loops, target));
+        tri!(self.push(Instr::In {
             device: names.device(device),
-        })?;
+        }));
         self.put(names, loops, target)
     }
 
@@ -121,10 +137,32 @@ impl CodeBuilder {
             OnOk result (self.new ≡ push_of (expr_of g c value.now self.old) (i.Out (fitting (pos
             (device_number g device.now))))) }
     {
-        self.expr(names, loops, value)?;
+        tri!(self.expr(names, loops, value));
         self.push(Instr::Out {
             device: names.device(device),
         })
+    }
+
+    /// A wait for a condition, with the way back into the monitor of this number.
+    fn waiting(
+        &mut self,
+        condition: i32,
+        limit: i32,
+        number: i32,
+        monitor: usize,
+    ) -> Result<(), AllocError>
+        ensures { OnOk result (self.new ≡ waiting condition limit number monitor self.old) }
+    {
+        let before = tri!(self.take());
+        tri!(self.push(Instr::Wait {
+            condition,
+            limit,
+            number,
+        }));
+        tri!(self.push(Instr::Reenter {
+            monitor: fit(monitor),
+        }));
+        self.join(before, Seg::Wait)
     }
 
     /// A wait, with the way back into the monitor.
@@ -140,16 +178,10 @@ impl CodeBuilder {
             (plain_constant (placed_constant limit.now))) (count_told g (plain_constant
             (placed_constant number.now))) (monitor_of c.owner) self.old) }
     {
-        let before = self.take()?;
-        self.push(Instr::Wait {
-            condition: names.condition(cond),
-            limit: count(names, limit),
-            number: count(names, number),
-        })?;
-        self.push(Instr::Reenter {
-            monitor: fit(monitor(names)),
-        })?;
-        self.join(before, Seg::Wait)
+        let condition = names.condition(cond);
+        let limit = count(names, limit);
+        let number = count(names, number);
+        self.waiting(condition, limit, number, monitor(names))
     }
 
     fn signal<L: Lookup>(&mut self, names: &L, cond: &Name) -> Result<(), AllocError>
@@ -186,11 +218,9 @@ impl CodeBuilder {
             OnOk result (self.new ≡ stmts_of g (within c name.now word) body.now self.old) }
         ensures loops { OnOk result (loops.new.items ≡ loops.old.items) }
     {
-        loops.push(Loop {
-            name: Name::new(self.alloc, name.as_bytes())?,
-            word,
-        })?;
-        self.stmts(names, loops, body)?;
+        let name = tri!(Name::new(self.alloc, name.as_bytes()));
+        loops.push(Loop { name, word })?;
+        tri!(self.stmts(names, loops, body));
         loops.pop();
         Ok(())
     }
@@ -210,8 +240,8 @@ impl CodeBuilder {
         ensures loops { OnOk result (loops.new.items ≡ loops.old.items) }
     {
         let at = self.code.len();
-        let before = self.begin_choice()?;
-        self.stmts(names, loops, first)?;
+        let before = tri!(self.begin_choice());
+        tri!(self.stmts(names, loops, first));
         self.end_one_arm(at, before)
     }
 
@@ -234,10 +264,10 @@ impl CodeBuilder {
         ensures loops { OnOk result (loops.new.items ≡ loops.old.items) }
     {
         let word = self.word;
-        let (turns, before) = self.begin_turns(names, low, high)?;
+        let (turns, before) = tri!(self.begin_turns(names, low, high));
         let start = self.code.len();
-        self.body(names, loops, name, word, body)?;
-        self.step(fit(word))?;
+        tri!(self.body(names, loops, name, word, body));
+        tri!(self.step(fit(word)));
         self.end_loop(turns, start, before)
     }
 
@@ -254,40 +284,30 @@ impl CodeBuilder {
             OnOk result (self.new ≡ stmt_of g c stmt.now self.old) }
         ensures loops { OnOk result (loops.new.items ≡ loops.old.items) }
     {
+        let around = loops.as_slice();
         match stmt {
-            Stmt::Assign { target, value } => self.assign(names, loops.as_slice(), target, value),
+            Stmt::Assign { target, value } => self.assign(names, around, target, value),
             Stmt::AssignEntry {
                 target,
                 mon,
                 entry,
                 args,
                 ..
-            } => self.assign_entry(names, loops.as_slice(), target, mon, entry, args.as_slice()),
-            Stmt::AssignEmpty { target, cond, .. } => self.assign_empty(
-                names,
-                loops.as_slice(),
-                target,
-                cond,
-            ),
-            Stmt::Call { name, args, .. } => self.called(
-                names,
-                loops.as_slice(),
-                names.routine(name),
-                args.as_slice(),
-            ),
+            } => self.assign_entry(names, around, target, mon, entry, exprs(args)),
+            Stmt::AssignEmpty { target, cond, .. } => {
+                self.assign_empty(names, around, target, cond)
+            }
+            Stmt::Call { name, args, .. } => {
+                self.called(names, around, names.routine(name), exprs(args))
+            }
             Stmt::CallEntry {
                 mon,
                 entry,
                 args,
                 ..
-            } => self.called(
-                names,
-                loops.as_slice(),
-                names.entry(mon, entry),
-                args.as_slice(),
-            ),
-            Stmt::Get { device, target, .. } => self.get(names, loops.as_slice(), device, target),
-            Stmt::Put { device, value, .. } => self.output(names, loops.as_slice(), device, value),
+            } => self.called(names, around, names.entry(mon, entry), exprs(args)),
+            Stmt::Get { device, target, .. } => self.get(names, around, device, target),
+            Stmt::Put { device, value, .. } => self.output(names, around, device, value),
             Stmt::Wait {
                 cond,
                 limit,
@@ -300,11 +320,11 @@ impl CodeBuilder {
                 number: count(names, number),
             }),
             Stmt::Assert { test, .. } => {
-                self.expr(names, loops.as_slice(), test)?;
+                tri!(self.expr(names, around, test));
                 self.assertion()
             }
             Stmt::ExitWhen { test, .. } => {
-                self.expr(names, loops.as_slice(), test)?;
+                tri!(self.expr(names, around, test));
                 self.exit()
             }
             Stmt::If {
@@ -313,16 +333,16 @@ impl CodeBuilder {
                 second,
                 ..
             } => {
-                self.expr(names, loops.as_slice(), test)?;
+                tri!(self.expr(names, around, test));
                 match second {
-                    None => self.choice(names, loops, first.as_slice()),
+                    None => self.choice(names, loops, listed(first)),
                     Some(second) => {
                         let at = self.code.len();
-                        let before = self.begin_choice()?;
-                        self.stmts(names, loops, first.as_slice())?;
+                        let before = tri!(self.begin_choice());
+                        tri!(self.stmts(names, loops, listed(first)));
                         let mid = self.code.len();
-                        let made = self.begin_second(at)?;
-                        self.stmts(names, loops, second.as_slice())?;
+                        let made = tri!(self.begin_second(at));
+                        tri!(self.stmts(names, loops, listed(second)));
                         self.end_two_arms(mid, before, made)
                     }
                 }
@@ -333,7 +353,7 @@ impl CodeBuilder {
                 high,
                 body,
                 ..
-            } => self.repetition(names, loops, name, low, high, body.as_slice()),
+            } => self.repetition(names, loops, name, low, high, listed(body)),
         }
     }
 
@@ -351,7 +371,7 @@ impl CodeBuilder {
         ensures loops { OnOk result (loops.new.items ≡ loops.old.items) }
     {
         for stmt in stmts {
-            self.stmt(names, loops, stmt)?;
+            tri!(self.stmt(names, loops, stmt));
         }
         Ok(())
     }

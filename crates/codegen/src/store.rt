@@ -6,6 +6,7 @@ ghost use Rattle.codegen_spec.specs.Made.{put_part, put_whole, store_part, store
 ghost use Rattle.codegen.specs.Of.{index_of, put_of, store_of};
 
 use crate::code_builder::CodeBuilder;
+use crate::errors::tri;
 use codegen_spec::{Area, Lookup, Loop, VarLocation, VarShape};
 use machine_isa::Instr;
 use std::alloc::AllocError;
@@ -43,7 +44,7 @@ impl CodeBuilder {
     fn put_whole(&mut self, spot: &VarLocation) -> Result<(), AllocError>
         ensures { OnOk result (self.new ≡ put_whole (Some spot.now) self.old) }
     {
-        self.range(&spot.range)?;
+        tri!(self.range(&spot.range));
         self.store_whole(spot)
     }
 
@@ -51,7 +52,7 @@ impl CodeBuilder {
     fn put_part(&mut self, spot: &VarLocation) -> Result<(), AllocError>
         ensures { OnOk result (self.new ≡ put_part (Some spot.now) self.old) }
     {
-        self.range(&spot.range)?;
+        tri!(self.range(&spot.range));
         self.store_part(spot)
     }
 

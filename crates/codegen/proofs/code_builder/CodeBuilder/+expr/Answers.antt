@@ -22,10 +22,10 @@ operands-loop-operand-preserved g t c =
     let rest = plain_operands (placed_operands (drop (c.loop-operand.operand-index + 1) c.args.operands.now)) in
     turned (λ o ys. row_out p s (plain_operands (placed_operands ys)) o) c.args.operands.now c.loop-operand.operand-index x c.loop-operand.self c.push.new.self _ c.loop-operand-test.true c.operand-item.is
     c.loop-operand.invariant
-    (ap (row_out p s rest) (sym (c.in_ok-push.ensures ∙ ap (λ j. push c.expr.new.self j) c.instr_of.ensures ∙ ap (λ o. push o (op_instr (op_of x.0))) c.in_ok-expr.ensures)))
+    (ap (row_out p s rest) (sym (c.in-Ok-push.ensures ∙ ap (λ j. push c.expr.new.self j) c.instr_of.ensures ∙ ap (λ o. push o (op_instr (op_of x.0))) c.in-Ok.ensures)))
 
-pub expr-returns-in_ok-expr-in-Chain : goal.expr-returns-in_ok-expr-in-Chain
-expr-returns-in_ok-expr-in-Chain g t c =
+pub expr-returns-in-Ok-expr-3 : goal.expr-returns-in-Ok-expr-3
+expr-returns-in-Ok-expr-3 g t c =
     on_ok c.operands.result c.operands.ensures (λ e.
     let v = expr-Chain c.in-Chain.first c.in-Chain.rest in
     grind (arith, common_steps))
@@ -55,7 +55,7 @@ args-loop-arg-preserved g t c =
     c.in-Some.arg.now c.in-Some.range.now c.loop-arg.self c.range.new.self _ at.0 at.1 (at.2 c.in-Some.arg.now) (at.3 c.in-Some.range.now) next
     c.loop-arg.invariant
     (ap (args_out p s (plain_exprs (placed_exprs (drop (length done + 1) c.args.args.now))) (drop (length done + 1) c.args.ranges.now))
-    (sym (c.in_ok-range.ensures ∙ ap (range_out c.in-Some.range.now) c.in_ok-expr.ensures)))
+    (sym (c.in-Ok-range.ensures ∙ ap (range_out c.in-Some.range.now) c.in-Ok.ensures)))
 
 pub args-returns : goal.args-returns
 args-returns g t c =
