@@ -6,7 +6,7 @@ ghost use Rattle.syntax.specs.Grammar.{MOST_LEVELS};
 ghost use Rattle.syntax_reading.specs.Reading as reading;
 ghost use Rattle.syntax_parser.specs.Reads.{Reads};
 
-use crate::fault::{Refusal, tri};
+use crate::fault::{Refusal, made, tri};
 use crate::parser::Parser;
 use std::alloc::Global;
 use syntax::{keyword, sign};
@@ -109,7 +109,7 @@ impl Parser<'_> {
                 return Ok(decls);
             }
             let decl = tri!(self.decl(alloc));
-            decls.push(decl)?;
+            made!(decls.push(decl));
         }
         Ok(decls)
     }

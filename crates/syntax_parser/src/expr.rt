@@ -1,13 +1,13 @@
 //! Reading constants and expressions.
 
-ghost use Rattle.std.specs.Prelude.{◌≡◌, ◌≤◌, ◌-◌, true, map};
+ghost use Rattle.std.specs.Prelude.{◌≡◌, ◌≤◌, ◌-◌, true, map, IfOk, IfErr};
 ghost use Rattle.syntax_tree.specs.Placed.{placed_constant, placed_expr, op_of as placed_of};
 ghost use Rattle.syntax.specs.Words.{COMMA, keyword as keyword_word, sign as sign_word};
 ghost use Rattle.syntax.specs.ExprGrammar.{height as height_in};
 ghost use Rattle.syntax_reading.specs.ExprReading as reading;
 ghost use Rattle.syntax_parser.specs.Reads.{Reads, row_from, with_front, placed_op, placed_pair, op_of_kind};
 
-use crate::fault::{Refusal, tri};
+use crate::fault::{Refusal, made, tri};
 use crate::parser::Parser;
 use std::alloc::Global;
 use syntax::{TokenKind, keyword, sign};
@@ -71,6 +71,17 @@ fn of_height(op: Option<Op>, height: u8) -> Option<Op>
     match op {
         Some(op) if height_of(op) == height => Some(op),
         _ => None,
+    }
+}
+
+/// An expression in a box.
+pub(crate) fn boxed(alloc: Global, expr: Expr) -> Result<Box<Expr>, Refusal>
+    ensures ok { IfOk result (λ b. b.value ≡ expr) }
+    ensures err { IfErr result (λ e. e ≡ Refusal.Memory) }
+{
+    match Box::new(alloc, expr) {
+        Ok(it) => Ok(it),
+        Err(_) => Err(Refusal::Memory),
     }
 }
 
@@ -153,7 +164,7 @@ impl Parser<'_> {
         ensures { Reads (λ b. placed_constant b.value) (reading.constant self.old) result self.new }
     {
         let constant = tri!(self.constant(alloc));
-        Ok(Box::new(alloc, constant)?)
+        Ok(made!(Box::new(alloc, constant)))
     }
 
     /// An expression of at most this height, with `depth` levels of nesting left: a factor, and for
@@ -188,7 +199,7 @@ impl Parser<'_> {
             return Ok(first);
         }
         Ok(Expr::Chain {
-            first: Box::new(alloc, first)?,
+            first: tri!(boxed(alloc, first)),
             rest,
         })
     }
@@ -213,7 +224,7 @@ impl Parser<'_> {
                 return Ok(rest);
             }
             let operand = tri!(self.operand(alloc, depth, height));
-            rest.push(operand)?;
+            made!(rest.push(operand));
         }
         Ok(rest)
     }
@@ -293,7 +304,7 @@ impl Parser<'_> {
             return Ok(Expr::Element {
                 place,
                 name,
-                index: Box::new(alloc, index)?,
+                index: tri!(boxed(alloc, index)),
             });
         }
         if self.is_sign(sign::LEFT_PAREN) {
@@ -341,7 +352,7 @@ impl Parser<'_> {
             return Ok(args);
         }
         let first = tri!(self.level(alloc, depth, 5));
-        args.push(first)?;
+        made!(args.push(first));
         self.more_args(alloc, depth, args)
     }
 
@@ -364,7 +375,7 @@ impl Parser<'_> {
                 return Ok(args);
             }
             let more = tri!(self.more_arg(alloc, depth));
-            args.push(more)?;
+            made!(args.push(more));
         }
         Ok(args)
     }
@@ -391,7 +402,7 @@ impl Parser<'_> {
         let operand = tri!(self.factor(alloc, inside));
         Ok(Expr::Minus {
             place,
-            operand: Box::new(alloc, operand)?,
+            operand: tri!(boxed(alloc, operand)),
         })
     }
 
@@ -406,7 +417,7 @@ impl Parser<'_> {
         let operand = tri!(self.factor(alloc, inside));
         Ok(Expr::Not {
             place,
-            operand: Box::new(alloc, operand)?,
+            operand: tri!(boxed(alloc, operand)),
         })
     }
 
@@ -423,7 +434,7 @@ impl Parser<'_> {
         tri!(self.expect_sign(sign::RIGHT_PAREN));
         Ok(Expr::Paren {
             place,
-            inner: Box::new(alloc, inner)?,
+            inner: tri!(boxed(alloc, inner)),
         })
     }
 }

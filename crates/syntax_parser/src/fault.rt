@@ -1,6 +1,5 @@
 //! Why tokens have no tree.
 
-use std::alloc::{AllocError, AllocFailed};
 use syntax_tree::Place;
 use thiserror::Error;
 
@@ -19,7 +18,7 @@ pub enum SyntaxFault {
 }
 
 /// Why reading stopped. A fault has the number of tokens that are left from its own on.
-#[derive(Debug, Drop)]
+#[derive(Drop)]
 pub enum Refusal {
     Memory,
     Syntax { left: usize },
@@ -37,26 +36,16 @@ macro_rules! tri {
     };
 }
 
+/// What was made or stored; where there is no memory for it the function returns so. It spares what
+/// `tri` does, and that the failure is converted.
+macro_rules! made {
+    ($made:expr) => {
+        match $made {
+            Ok(it) => it,
+            Err(_) => return Err(Refusal::Memory),
+        }
+    };
+}
+
+pub(crate) use made;
 pub(crate) use tri;
-
-impl From<AllocError> for Refusal {
-    ghost use Rattle.std.specs.Prelude.{◌≡◌};
-    ghost use Rattle.syntax_parser.specs.declared.fault.Refusal.TheVariants.{Memory};
-
-    ghost from_gives = { λ _ e. e ≡ Memory };
-
-    fn from(_: AllocError) -> Self {
-        Refusal::Memory
-    }
-}
-
-impl<T: Drop> From<AllocFailed<T>> for Refusal {
-    ghost use Rattle.std.specs.Prelude.{◌≡◌};
-    ghost use Rattle.syntax_parser.specs.declared.fault.Refusal.TheVariants.{Memory};
-
-    ghost from_gives = { λ _ e. e ≡ Memory };
-
-    fn from(_: AllocFailed<T>) -> Self {
-        Refusal::Memory
-    }
-}

@@ -2,11 +2,11 @@
 
 ghost use Rattle.std.specs.Prelude.{◌≡◌, length, suc, IfOk, IfErr, IsTrue, ◌↔◌};
 ghost use Rattle.syntax.specs.Tokens.{bytes_of as bytes_of_token};
-ghost use Rattle.syntax.specs.Words.{keyword as keyword_word, sign as sign_word, DEADLINE};
+ghost use Rattle.syntax.specs.Words.{Word, keyword as keyword_word, sign as sign_word, DEADLINE};
 ghost use Rattle.syntax_reading.specs.ExprReading as reading;
 ghost use Rattle.syntax_parser.specs.Reads.{Reads, kind_at};
 
-use crate::fault::Refusal;
+use crate::fault::{Refusal, made};
 use std::alloc::Global;
 use std::marker::Model;
 use syntax::{Token, TokenKind};
@@ -109,12 +109,12 @@ impl Parser<'_> {
         }
     }
 
-    /// Passes this keyword, and gives its place.
+    /// Passes the next token, where it is the one that is looked for, and gives its place.
     #[tactic(auto, unfolding(syntax_reading::specs::ExprReading::expect))]
-    pub(crate) fn expect_keyword(&mut self, at: u8) -> Result<Place, Refusal>
-        ensures { Reads (λ p. p) (reading.expect (keyword_word at) self.old) result self.new }
+    fn pass(&mut self, matches: bool) -> Result<Place, Refusal>
+        ensures { (word : Word) → matches ≡ reading.is_at word self.old →
+            Reads (λ p. p) (reading.expect word self.old) result self.new }
     {
-        let matches = self.is_keyword(at);
         if let Some((token, others)) = self.toks.split_first() {
             if matches {
                 self.toks = others;
@@ -124,19 +124,20 @@ impl Parser<'_> {
         Err(Refusal::Syntax { left: self.left() })
     }
 
+    /// Passes this keyword, and gives its place.
+    pub(crate) fn expect_keyword(&mut self, at: u8) -> Result<Place, Refusal>
+        ensures { Reads (λ p. p) (reading.expect (keyword_word at) self.old) result self.new }
+    {
+        let matches = self.is_keyword(at);
+        self.pass(matches)
+    }
+
     /// Passes this sign, and gives its place.
-    #[tactic(auto, unfolding(syntax_reading::specs::ExprReading::expect))]
     pub(crate) fn expect_sign(&mut self, at: u8) -> Result<Place, Refusal>
         ensures { Reads (λ p. p) (reading.expect (sign_word at) self.old) result self.new }
     {
         let matches = self.is_sign(at);
-        if let Some((token, others)) = self.toks.split_first() {
-            if matches {
-                self.toks = others;
-                return Ok(place_of(token));
-            }
-        }
-        Err(Refusal::Syntax { left: self.left() })
+        self.pass(matches)
     }
 
     /// Whether the name `deadline` is next, which begins a deadline where one may stand.
@@ -153,18 +154,11 @@ impl Parser<'_> {
     }
 
     /// Passes the name `deadline`, and gives its place.
-    #[tactic(auto, unfolding(syntax_reading::specs::ExprReading::expect))]
     pub(crate) fn expect_deadline(&mut self) -> Result<Place, Refusal>
         ensures { Reads (λ p. p) (reading.expect DEADLINE self.old) result self.new }
     {
         let matches = self.is_deadline();
-        if let Some((token, others)) = self.toks.split_first() {
-            if matches {
-                self.toks = others;
-                return Ok(place_of(token));
-            }
-        }
-        Err(Refusal::Syntax { left: self.left() })
+        self.pass(matches)
     }
 
     /// Passes a name, and gives it with its place.
@@ -175,7 +169,7 @@ impl Parser<'_> {
         let matches = self.is_name();
         if let Some((token, others)) = self.toks.split_first() {
             if matches {
-                let name = Name::new(alloc, bytes_of(self.text, token))?;
+                let name = made!(Name::new(alloc, bytes_of(self.text, token)));
                 self.toks = others;
                 return Ok((name, place_of(token)));
             }

@@ -9,7 +9,7 @@ ghost use Rattle.syntax_reading.specs.Reading as reading;
 ghost use Rattle.syntax_parser.specs.Parts.{process_code, placed_process_code, process_end, placed_process_end, process_rest, placed_process_rest, periodic, at_event};
 ghost use Rattle.syntax_parser.specs.Reads.{Reads, with_front};
 
-use crate::fault::{Refusal, tri};
+use crate::fault::{Refusal, made, tri};
 use crate::parser::Parser;
 use std::alloc::Global;
 use syntax::{keyword, sign};
@@ -121,7 +121,7 @@ impl Parser<'_> {
     {
         let mut numbers = List::new(alloc);
         let first = tri!(self.constant(alloc));
-        numbers.push(first)?;
+        made!(numbers.push(first));
         self.more_numbers(alloc, numbers)
     }
 
@@ -142,7 +142,7 @@ impl Parser<'_> {
                 return Ok(numbers);
             }
             let more = tri!(self.next_constant(alloc));
-            numbers.push(more)?;
+            made!(numbers.push(more));
         }
         Ok(numbers)
     }

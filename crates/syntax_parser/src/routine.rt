@@ -7,7 +7,7 @@ ghost use Rattle.syntax_reading.specs.Reading as reading;
 ghost use Rattle.syntax_parser.specs.Reads.{Reads};
 ghost use Rattle.syntax_parser.specs.Parts.{signature, placed_signature, routine_end, placed_routine_end};
 
-use crate::fault::{Refusal, tri};
+use crate::fault::{Refusal, made, tri};
 use crate::parser::Parser;
 use std::alloc::Global;
 use syntax::{keyword, sign};
@@ -161,7 +161,7 @@ impl Parser<'_> {
                 return Ok(routines);
             }
             let routine = tri!(self.routine(alloc));
-            routines.push(routine)?;
+            made!(routines.push(routine));
         }
         Ok(routines)
     }
@@ -197,7 +197,7 @@ impl Parser<'_> {
                 return Ok(members);
             }
             let member = tri!(self.member(alloc));
-            members.push(member)?;
+            made!(members.push(member));
         }
         Ok(members)
     }
@@ -224,7 +224,7 @@ impl Parser<'_> {
                 return Ok(entries);
             }
             let entry = tri!(self.entry_decl(alloc));
-            entries.push(entry)?;
+            made!(entries.push(entry));
         }
         Ok(entries)
     }

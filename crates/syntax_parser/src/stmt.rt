@@ -1,6 +1,9 @@
 //! Reading statements.
 
-ghost use Rattle.std.specs.Prelude.{◌≡◌, map};
+ghost use Rattle.std.specs.Prelude.{◌≡◌, map, List as SpecList};
+ghost use Rattle.syntax_tree.specs.declared.place.Place.{Place as SpecPlace};
+ghost use Rattle.syntax_tree.specs.declared.expr.Expr.{Expr as SpecExpr};
+ghost use Rattle.syntax_tree.specs.declared.stmt.Stmt.{Stmt as SpecStmt};
 ghost use Rattle.syntax_tree.specs.Placed.{placed_expr, placed_ref, placed_stmt};
 ghost use Rattle.syntax.specs.Words.{keyword as keyword_word, IF, FOR};
 ghost use Rattle.syntax_reading.specs.StmtReading as reading;
@@ -8,7 +11,8 @@ ghost use Rattle.syntax_reading.specs.ExprReading.{is_entry as is_entry_at};
 ghost use Rattle.syntax_parser.specs.Parts.{placed_bounds, wait_bounds, loop_bounds, loop_body};
 ghost use Rattle.syntax_parser.specs.Reads.{Reads, placed_entry};
 
-use crate::fault::{Refusal, tri};
+use crate::expr::boxed;
+use crate::fault::{Refusal, made, tri};
 use crate::parser::Parser;
 use std::alloc::Global;
 use syntax::{TokenKind, keyword, sign};
@@ -78,7 +82,7 @@ impl Parser<'_> {
             return Ok(Ref {
                 place,
                 name,
-                index: Some(Box::new(alloc, index)?),
+                index: Some(tri!(boxed(alloc, index))),
             });
         }
         Ok(Ref {
@@ -372,7 +376,7 @@ impl Parser<'_> {
                 return Ok(stmts);
             }
             let stmt = tri!(self.stmt(alloc, depth));
-            stmts.push(stmt)?;
+            made!(stmts.push(stmt));
         }
         Ok(stmts)
     }
@@ -393,7 +397,6 @@ impl Parser<'_> {
 
     /// What stands behind the first statements of a branch.
     #[cycle(stmt)]
-    #[tactic(auto, unfolding(syntax_reading::specs::StmtReading::else_by, syntax_reading::specs::StmtReading::stmts))]
     fn choice_from(
         &mut self,
         alloc: Global,
@@ -405,24 +408,32 @@ impl Parser<'_> {
         ensures { Reads placed_stmt (reading.else_by (reading.stmt depth) place (placed_expr test)
             (map placed_stmt first) self.old) result self.new }
     {
-        if self.is_keyword(keyword::ELSE) {
-            tri!(self.expect_keyword(keyword::ELSE));
-            let second = tri!(self.stmts(alloc, depth));
-            tri!(self.closing(keyword::IF));
-            return Ok(Stmt::If {
-                place,
-                test,
-                first,
-                second: Some(second),
-            });
-        }
-        tri!(self.closing(keyword::IF));
+        let second = tri!(self.else_stmts(alloc, depth));
         Ok(Stmt::If {
             place,
             test,
             first,
-            second: None,
+            second,
         })
+    }
+
+    /// The statements behind the `else` of a branch, where it has one, up to the branch's end.
+    #[cycle(stmt)]
+    #[tactic(auto, unfolding(syntax_reading::specs::StmtReading::else_by, syntax_reading::specs::StmtReading::stmts))]
+    fn else_stmts(&mut self, alloc: Global, depth: usize) -> Result<Option<List<Stmt>>, Refusal>
+        ensures { (p : SpecPlace) (e : SpecExpr) (ss : SpecList SpecStmt) →
+            Reads (λ second. placed_stmt (Stmt.If p e ss second))
+            (reading.else_by (reading.stmt depth) p (placed_expr e) (map placed_stmt ss) self.old)
+            result self.new }
+    {
+        if self.is_keyword(keyword::ELSE) {
+            tri!(self.expect_keyword(keyword::ELSE));
+            let second = tri!(self.stmts(alloc, depth));
+            tri!(self.closing(keyword::IF));
+            return Ok(Some(second));
+        }
+        tri!(self.closing(keyword::IF));
+        Ok(None)
     }
 
     /// The bounds of a loop, behind its name.

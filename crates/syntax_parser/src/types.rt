@@ -7,7 +7,7 @@ ghost use Rattle.syntax_reading.specs.ExprReading.{many, is_at, behind_comma, so
 ghost use Rattle.syntax_reading.specs.Reading as reading;
 ghost use Rattle.syntax_parser.specs.Reads.{Reads, with_front, placed_range};
 
-use crate::fault::{Refusal, tri};
+use crate::fault::{Refusal, made, tri};
 use crate::parser::Parser;
 use std::alloc::Global;
 use syntax::{keyword, sign};
@@ -81,7 +81,7 @@ impl Parser<'_> {
                 return Ok(vars);
             }
             let var = tri!(self.var(alloc));
-            vars.push(var)?;
+            made!(vars.push(var));
         }
         Ok(vars)
     }
@@ -116,7 +116,7 @@ impl Parser<'_> {
             return Ok(params);
         }
         let first = tri!(self.param(alloc));
-        params.push(first)?;
+        made!(params.push(first));
         self.more_params(alloc, params)
     }
 
@@ -136,7 +136,7 @@ impl Parser<'_> {
                 return Ok(params);
             }
             let more = tri!(self.next_param(alloc));
-            params.push(more)?;
+            made!(params.push(more));
         }
         Ok(params)
     }

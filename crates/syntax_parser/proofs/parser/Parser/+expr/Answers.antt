@@ -48,7 +48,7 @@ level-loop-below-preserved t c = elim c.if-has_op.branch [
 pub row-returns : goal.row-returns
 row-returns t c =
     let some : c.in-Ok.it ≡ [] → ⊥ = λ e. grind (arith, common_steps) in
-    let v = row-view c.in_ok-new.field-0 c.in-Ok.it some in
+    let v = row-view c.in-Ok-boxed.it c.in-Ok.it some in
     grind (arith, common_steps)
 
 pub more_args-returns-then-not-is_sign : goal.more_args-returns-then-not-is_sign

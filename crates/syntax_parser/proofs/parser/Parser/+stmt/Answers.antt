@@ -1,7 +1,7 @@
 use Rattle.std.proofs.Common.{arith, sym, ◌∙◌}
 use Rattle.std.proofs.lemmas.Grind.{common_steps}
 use Rattle.syntax_tree.specs.Placed.{placed_stmt}
-use Rattle.syntax_tree.proofs.StmtViews.{stmt-IfElse, stmt-For}
+use Rattle.syntax_tree.proofs.StmtViews.{stmt-If, stmt-IfElse, stmt-For}
 use Rattle.syntax_reading.specs.StmtReading as reading
 use Rattle.syntax_reading.specs.StmtReading.{begins, stmt}
 use Rattle.syntax_parser.proofs.Stmts.{stmt-by}
@@ -45,10 +45,24 @@ stmt-returns t c =
     let e = stmt-by c.args.depth c.args.self.now in
     grind (arith, common_steps)
 
-pub choice_from-returns-then-is_keyword : goal.choice_from-returns-then-is_keyword
+pub choice_from-returns : goal.choice_from-returns
+choice_from-returns t c = c.in-Ok.ensures c.args.place c.args.test c.args.first
+
+pub choice_from-returns-in-Err : goal.choice_from-returns-in-Err
+choice_from-returns-in-Err t c =
+    let e = c.in-Err.ensures c.args.place c.args.test c.args.first in
+    grind (arith, common_steps)
+
+pub else_stmts-returns-then-is_keyword : goal.else_stmts-returns-then-is_keyword
 unfolding reading.else_by reading.stmts
-choice_from-returns-then-is_keyword t c =
-    let v = stmt-IfElse c.args.place c.args.test c.args.first c.in-Ok-stmts.it in
+else_stmts-returns-then-is_keyword t c p e ss =
+    let v = stmt-IfElse p e ss c.in-Ok-stmts.it in
+    grind (arith, common_steps)
+
+pub else_stmts-returns : goal.else_stmts-returns
+unfolding reading.else_by reading.stmts
+else_stmts-returns t c p e ss =
+    let v = stmt-If p e ss in
     grind (arith, common_steps)
 
 pub for_stmt-returns : goal.for_stmt-returns

@@ -11,11 +11,14 @@ decreases-stmt l = 8 * l.depth
 abbrev pub decreases-stmts : goal.decreases-stmts
 decreases-stmts l = 8 * l.depth + 1
 
+abbrev pub decreases-else_stmts : goal.decreases-else_stmts
+decreases-else_stmts l = 8 * l.depth + 2
+
 abbrev pub decreases-choice_from : goal.decreases-choice_from
-decreases-choice_from l = 8 * l.depth + 2
+decreases-choice_from l = 8 * l.depth + 3
 
 abbrev pub decreases-choice : goal.decreases-choice
-decreases-choice l = 8 * l.depth + 3
+decreases-choice l = 8 * l.depth + 4
 
 abbrev pub decreases-loop_body : goal.decreases-loop_body
 decreases-loop_body l = 8 * l.depth + 2
