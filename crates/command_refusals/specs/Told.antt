@@ -26,7 +26,7 @@ use Rattle.message_log.specs.Log.{log_message, refused_message}
 pub record IsTextTold (file bytes : List ℕ) (outcome : Outcome) (message : List ℕ) : Type 0 where
   pub number : ℕ
   pub place : Place
-  pub line : outcome ≡ told 2 (fault_line number place)
+  pub put : outcome ≡ told 2 (fault_line number place)
   pub is : IsProgramMessage file bytes number place message
 
 -- what is told in place of the report of a program that is late
@@ -66,13 +66,13 @@ pub record IsTableTold (file bytes : List ℕ) (outcome : Outcome) (message : Li
 pub record IsBytesTold (file : List ℕ) (outcome : Outcome) (message : List ℕ) : Type 0 where
   pub number : ℕ
   pub offset : ℕ
-  pub line : outcome ≡ told 4 (image_fault_line number offset)
+  pub put : outcome ≡ told 4 (image_fault_line number offset)
   pub is : message ≡ image_message file number offset
 
 -- the fault of an image that is not valid
 pub record IsInvalidTold (file : List ℕ) (outcome : Outcome) (message : List ℕ) : Type 0 where
   pub fault : Shown
-  pub line : outcome ≡ told 4 (valid_fault_line fault)
+  pub put : outcome ≡ told 4 (valid_fault_line fault)
   pub is : message ≡ valid_message file fault.number fault.a fault.b
 
 abbrev pub IsImageTold : (file : List ℕ) (outcome : Outcome) (message : List ℕ) → Type 0
@@ -93,13 +93,13 @@ IsImageTextTold file bytes outcome message = IsLinesTold file bytes outcome mess
 -- the fault of a script, where these are the names that it is for
 pub record IsScriptTold (names : ImageNames) (file bytes : List ℕ) (outcome : Outcome) (message : List ℕ) : Type 0 where
   pub fault : ScriptFault
-  pub line : outcome ≡ bad_script fault
+  pub put : outcome ≡ bad_script fault
   pub is : message ≡ script_message file bytes names fault
 
 -- the fault of the text of a log
 pub record IsMisreadTold (names : ImageNames) (file bytes : List ℕ) (outcome : Outcome) (message : List ℕ) : Type 0 where
   pub fault : LogFault
-  pub line : outcome ≡ told 9 (log_fault_line fault)
+  pub put : outcome ≡ told 9 (log_fault_line fault)
   pub is : message ≡ log_message file bytes names fault
 
 -- the line of a log at which its events are no run

@@ -21,5 +21,5 @@ returns-in_ok-message-in-Invalid-clause-due c =
 pub returns-in_ok-message-in-Invalid-clause-told : goal.returns-in_ok-message-in-Invalid-clause-told
 returns-in_ok-message-in-Invalid-clause-told c =
     IfOk-weaker c.valid_fault_line.result _ _
-    (λ line is text held. inr (record { fault = record { number = c.in-Invalid.number; a = c.in-Invalid.a; b = c.in-Invalid.b }; line = ap (told 4) is; is = c.in_ok-message-in-Invalid.ensures }))
+    (λ line is text held. inr (record { fault = record { number = c.in-Invalid.number; a = c.in-Invalid.a; b = c.in-Invalid.b }; put = ap (told 4) is; is = c.in_ok-message-in-Invalid.ensures }))
     c.valid_fault_line.ensures

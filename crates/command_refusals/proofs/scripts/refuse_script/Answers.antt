@@ -8,7 +8,7 @@ pub returns-clause-told : goal.returns-clause-told
 returns-clause-told c =
     IfOk-weaker c.refuse_script.result _ _ (λ act is bytes content. record {
       fault = c.args.fault.now;
-      line = put_comes_to status.Script (script_fault_line c.args.fault.now) act is;
+      put = put_comes_to status.Script (script_fault_line c.args.fault.now) act is;
       is = c.in_ok-message.ensures bytes content;
     })
     c.refuse_script.ensures.act

@@ -9,7 +9,7 @@ returns-clause-told c =
     IfOk-weaker c.put_fault.result _ _ (λ act is. record {
       number = c.args.number;
       place = c.args.place;
-      line = put_comes_to status.Text (fault_line c.args.number c.args.place) act is;
+      put = put_comes_to status.Text (fault_line c.args.number c.args.place) act is;
       is = c.in_ok-message.ensures;
     })
     c.put_fault.ensures.act

@@ -10,7 +10,7 @@ returns-clause-told c =
     IfOk-weaker c.put_fault.result _ _ (λ act is bytes long. record {
       number = c.args.number;
       place = c.args.place;
-      line = put_comes_to status.Text (fault_line c.args.number c.args.place) act is;
+      put = put_comes_to status.Text (fault_line c.args.number c.args.place) act is;
       is = long_program c.args.file.now bytes c.args.number c.args.place _ c.in_ok-message.ensures long;
     })
     c.put_fault.ensures.act
