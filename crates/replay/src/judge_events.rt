@@ -7,14 +7,15 @@
 //! Events, judged in turn.
 
 ghost use Rattle.std.specs.Prelude.{IfOk, length, ◌<◌, ◌^◌};
-ghost use Rattle.replay_accept.specs.Cursors.{IsAt, script_in};
+ghost use Rattle.replay_script.specs.Cursors.{IsAt, script_in};
 ghost use Rattle.replay_accept.specs.Running.{Stands, program_of};
 ghost use Rattle.replay_state.specs.View.{config_of};
 ghost use Rattle.script_meaning.specs.Script.{said};
 ghost use Rattle.source_semantics.specs.Verdicts.{Judges};
 
 use base::Event;
-use replay_accept::{Running, ScriptCursor};
+use replay_accept::Running;
+use replay_script::ScriptCursor;
 use script::Script;
 use source_semantics::Verdict;
 use std::alloc::AllocError;

@@ -1,6 +1,6 @@
 pub mod Steps
 pub mod Judging
 pub mod Fitting
-mod Passing
 mod Quiet
 mod Kept
+mod Missing

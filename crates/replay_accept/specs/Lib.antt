@@ -2,4 +2,3 @@ pub mod Told
 pub mod Effects
 pub mod Judged
 pub mod Running
-pub mod Cursors

@@ -5,16 +5,16 @@ ghost use Rattle.source_semantics.specs.Config.{is_ready as is_at_work};
 ghost use Rattle.replay_state.specs.Tables.{Fits};
 ghost use Rattle.replay_state.specs.View.{config_of, doing_of, next_of};
 ghost use Rattle.replay_due_events.specs.Accepts.{Accepts};
-ghost use Rattle.replay_accept.specs.Cursors.{IsAt, script_in};
+ghost use Rattle.replay_script.specs.Cursors.{IsAt, script_in};
 ghost use Rattle.replay_accept.specs.Judged.{IsNextOf, IsOpen, IsReady, IsToAct};
 ghost use Rattle.replay_accept.specs.Running.{AreRules, IsFirstOf, program_of};
 
-use crate::cursor::ScriptCursor;
 use crate::rules::Rules;
 use crate::{act, is_told, may_act};
 use base::Event;
 use replay_due_events::has_acted;
 use replay_next::next_action;
+use replay_script::ScriptCursor;
 use replay_state::{Activity, Config, NextAction};
 use replay_values::EvalContext;
 use std::alloc::AllocError;

@@ -5,15 +5,15 @@ ghost use Rattle.replay_state.specs.Tables.{Fits};
 ghost use Rattle.replay_state.specs.View.{config_of};
 ghost use Rattle.replay_due_events.specs.Next.{IsQuiet};
 ghost use Rattle.replay_due_events.specs.Timings.{event_of};
-ghost use Rattle.replay_accept.specs.Cursors.{IsAt, script_in};
+ghost use Rattle.replay_script.specs.Cursors.{IsAt, script_in};
 ghost use Rattle.replay_accept.specs.Judged.{Begins, ComesAs, IsInTime, IsOpen};
 ghost use Rattle.replay_accept.specs.Running.{AreRules, program_of};
 
-use crate::cursor::ScriptCursor;
 use crate::rules::Rules;
 use crate::starting::{come, is_release, is_start};
 use base::Event;
 use replay_due_events::Start;
+use replay_script::ScriptCursor;
 use replay_state::Config;
 use std::alloc::AllocError;
 

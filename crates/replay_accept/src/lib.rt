@@ -6,16 +6,14 @@
 //! tests: its tick, start events that are due, the process that is to act, what its next action
 //! tells.
 //!
-//! `ScriptCursor` passes the lines of a script as ticks are reached, and keeps what they set
-//! (`specs/Cursors.antt`). `is_told` and `may_act` test an act, `act` does it (`specs/Effects.antt`). Where memory is
-//! wanting the configuration is as it was.
+//! The script is a `ScriptCursor` of `replay_script`, which passes its lines as ticks are reached;
+//! until when nothing starts is told by `replay_quiet`. `is_told` and `may_act` test an act, `act` does
+//! it (`specs/Effects.antt`). Where memory is wanting the configuration is as it was.
 #![tactic(auto)]
 
 mod act_events;
 mod as_defined;
 mod begin;
-mod cursor;
-mod device;
 mod effects;
 mod giving;
 mod perform;
@@ -27,7 +25,6 @@ mod source_actions;
 mod starting;
 mod telling;
 
-pub use cursor::ScriptCursor;
 pub use perform::{act, may_act};
 pub use rules::Rules;
 pub use running::Running;

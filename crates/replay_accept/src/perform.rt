@@ -4,15 +4,15 @@ ghost use Rattle.std.specs.Prelude.{OnErr, OnOk, ◌≡◌};
 ghost use Rattle.syntax_tree.specs.Placed.{placed, plain};
 ghost use Rattle.source_semantics.specs.Source.{acts, may_act as is_free_for};
 ghost use Rattle.replay_state.specs.View.{action_of, config_of, next_of};
-ghost use Rattle.replay_accept.specs.Cursors.{IsWithin, script_in};
+ghost use Rattle.replay_script.specs.Cursors.{IsWithin, script_in};
 ghost use Rattle.replay_state.specs.Texts.{IsText};
 
-use crate::cursor::ScriptCursor;
 use crate::effects::Wanted;
 use crate::saving::save;
 use crate::source_actions::{
     ask_empty, broadcast_on, end, enter, get, leave, raise_in, signal_on, wait,
 };
+use replay_script::ScriptCursor;
 use replay_state::{Action, Config, NextAction, ProgramContext};
 use std::alloc::AllocError;
 

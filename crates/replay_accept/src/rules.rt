@@ -1,19 +1,19 @@
 //! What events are judged by.
 
-ghost use Rattle.std.specs.Prelude.{IsTrue, length, option_map, List, ◌<◌, ◌^◌, ◌↔◌, ◌≡◌};
+ghost use Rattle.std.specs.Prelude.{IsTrue, length, option_map, ◌<◌, ◌^◌, ◌↔◌, ◌≡◌};
 ghost use Rattle.syntax_tree.specs.Plain.{Program};
 ghost use Rattle.source_semantics.specs.Source.{before, is_empty, ready_from};
 ghost use Rattle.source_semantics.specs.Starts.{NoneMissing, due};
 ghost use Rattle.replay_state.specs.Tables.{AreRanksOf, Fits};
 ghost use Rattle.replay_state.specs.View.{config_of};
-ghost use Rattle.replay_due_events.specs.Next.{AreWaitsAfter, IsQuiet};
-ghost use Rattle.replay_due_events.specs.NextDue.{FramesPass, due_from};
-ghost use Rattle.replay_due_events.specs.Timings.{IsClockFree, IsTimetableOf, event_of, first_in};
-ghost use Rattle.replay_due_events.specs.declared.timetable.Timing.{Timing};
-ghost use Rattle.replay_accept.specs.Cursors.{IsAt, IsWithin, script_in};
+ghost use Rattle.replay_due_events.specs.Next.{IsQuiet};
+ghost use Rattle.replay_due_events.specs.NextDue.{FramesPass};
+ghost use Rattle.replay_due_events.specs.Timings.{IsTimetableOf, event_of, first_in};
+ghost use Rattle.replay_script.specs.Cursors.{IsAt, IsWithin, script_in};
 
-use crate::cursor::ScriptCursor;
 use replay_due_events::{Start, Timetable, is_none_missing_before};
+use replay_quiet::free_until;
+use replay_script::ScriptCursor;
 use replay_state::{Config, ProgramContext, Ranks};
 
 /// What of a program events are judged by: its text, its timings, its ranks and ceilings, and how
@@ -25,17 +25,6 @@ pub struct Rules<'a> {
     pub ranks: Ranks,
     /// Calls are nested at most so deep.
     pub routines: usize,
-}
-
-/// The tick before which neither the clock nor a wait starts a process from the first tick on at
-/// which a start event can be missing, where neither does after the tick reached and before a tick.
-fn free_until(config: &Config<'_>, next_start: u64) -> u64
-    ensures clock { (timings : List Timing) → IsQuiet timings (config_of config.now) next_start →
-        IsClockFree timings (due_from (config_of config.now)) result }
-    ensures waits { (timings : List Timing) → IsQuiet timings (config_of config.now) next_start →
-        AreWaitsAfter result (config_of config.now).jobs }
-{
-    if config.acted { next_start } else { 0 }
 }
 
 impl<'a> Rules<'a> {

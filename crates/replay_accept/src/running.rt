@@ -1,20 +1,19 @@
 //! A program that runs by its events.
 
-ghost use Rattle.std.specs.Prelude.{IfOk, IfSome, Ok, OnErr, true, ◌<◌, ◌+◌, ◌^◌, ◌≡◌};
+ghost use Rattle.std.specs.Prelude.{IfOk, IfSome, Ok, OnErr, true, ◌<◌, ◌^◌, ◌≡◌};
 ghost use Rattle.replay_state.specs.Tables.{Fits};
 ghost use Rattle.replay_state.specs.View.{config_of};
 ghost use Rattle.replay_due_events.specs.Accepts.{Accepts, IsComplete};
-ghost use Rattle.replay_due_events.specs.Next.{AreOthersAfter, IsQuiet};
-ghost use Rattle.replay_due_events.specs.Timings.{IsClockFree};
-ghost use Rattle.replay_accept.specs.Cursors.{IsAt, script_in};
+ghost use Rattle.replay_due_events.specs.Next.{IsQuiet};
+ghost use Rattle.replay_script.specs.Cursors.{IsAt, script_in};
 ghost use Rattle.replay_accept.specs.Running.{AreRules, IsFirstOf, Stands, keeps_first as keeps_order, program_of};
 
 use crate::act_events::act_by;
 use crate::begin::{Begun, begin};
-use crate::cursor::ScriptCursor;
 use crate::rules::Rules;
 use base::{Act, Event};
-use replay_due_events::quiet_until;
+use replay_quiet::next_start_after;
+use replay_script::ScriptCursor;
 use replay_state::Config;
 use std::alloc::AllocError;
 
@@ -54,18 +53,6 @@ fn accept_by<'a>(
         Begun::Started => Ok(true),
         Begun::Open => act_by(rules, config, script, first, event),
     }
-}
-
-/// A tick before which neither the clock nor a wait starts a process after the tick reached, where
-/// it is known that none but a wait of this process does before another.
-fn next_start_from(rules: &Rules<'_>, config: &Config<'_>, process: usize, known: u64) -> u64
-    requires rules { AreRules rules.now }
-    requires tick { config.now.tick < 2 ^ 61 }
-    requires clock { IsClockFree rules.now.table.timings.items (config.now.tick + 1) known }
-    requires others { AreOthersAfter process known (config_of config.now).jobs }
-    ensures { IsQuiet rules.now.table.timings.items (config_of config.now) result }
-{
-    quiet_until(rules.table.timings.as_slice(), config, process, known)
 }
 
 /// Whether the act changes neither what processes are doing nor who is inside a monitor.
@@ -118,7 +105,7 @@ impl<'a> Running<'a> {
         let accepted = accept_by(&self.rules, &mut self.config, script, known, first, event);
         script.pass(self.config.tick);
         let process = usize::from(event.proc);
-        self.next_start = next_start_from(&self.rules, &self.config, process, known);
+        self.next_start = next_start_after(&self.rules.table, &self.config, process, known);
         self.first = first_after(event, &accepted);
         accepted
     }

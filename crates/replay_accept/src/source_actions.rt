@@ -10,15 +10,14 @@ ghost use Rattle.source_semantics.specs.Run.{asks_empty, broadcasts, ends, signa
 ghost use Rattle.source_semantics.specs.Source.{after_raise, effect, give_to, saved};
 ghost use Rattle.source_semantics.specs.Starts.{Script, device_value as value_at};
 ghost use Rattle.replay_state.specs.View.{config_of, next_of};
-ghost use Rattle.replay_accept.specs.Cursors.{IsWithin, script_in};
+ghost use Rattle.replay_script.specs.Cursors.{IsWithin, script_in};
 ghost use Rattle.replay_state.specs.Texts.{IsText};
 
-use crate::cursor::ScriptCursor;
-use crate::device::device_value;
 use crate::effects::{Wanted, begin_wait, broadcast, signal};
 use crate::giving::{give, word_of};
 use crate::queue::{is_nobody_in, queue};
 use crate::saving::save;
+use replay_script::{ScriptCursor, device_value};
 use replay_state::{Activity, Config, NextAction, ProgramContext, join, prepare, raise, set_doing};
 use std::alloc::AllocError;
 

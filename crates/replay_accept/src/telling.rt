@@ -4,16 +4,15 @@ ghost use Rattle.std.specs.Prelude.{IsTrue, ℕ, ◌↔◌, ◌≡◌};
 ghost use Rattle.syntax_tree.specs.Plain.{Program};
 ghost use Rattle.source_semantics.specs.Source.{acts, effect};
 ghost use Rattle.replay_state.specs.View.{action_of, config_of, next_of};
-ghost use Rattle.replay_accept.specs.Cursors.{IsWithin, script_in};
+ghost use Rattle.replay_script.specs.Cursors.{IsWithin, script_in};
 
 use crate::as_defined::{
     is_asked, is_broadcast, is_end, is_enter, is_get, is_leave, is_put, is_raise, is_signal,
     is_wait,
 };
-use crate::cursor::ScriptCursor;
-use crate::device::device_value;
 use crate::queue::{first, is_nobody_in, queue};
 use base::Act;
+use replay_script::{ScriptCursor, device_value};
 use replay_state::{Action, Config, NextAction};
 
 /// Whether the act is what the action tells at the tick, from this configuration.

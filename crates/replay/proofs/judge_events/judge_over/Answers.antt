@@ -3,7 +3,7 @@ use Rattle.replay_accept.specs.declared.rules.Rules.{Rules}
 use Rattle.replay_accept.specs.Running.{program_of}
 use Rattle.replay_state.specs.View.{config_of}
 use Rattle.replay_due_events.specs.Accepts.{Accepts, IsComplete}
-use Rattle.replay_accept.specs.Cursors.{script_in}
+use Rattle.replay_script.specs.Cursors.{script_in}
 use Rattle.source_semantics.specs.Starts.{Script}
 use Rattle.source_semantics.specs.Verdicts.{Allowed}
 use Rattle.replay.proofs.ReplayingLemmas.{allowed_all, allowed_here, refused_at_end, refused_here, run_from, some_event}

@@ -1,7 +1,7 @@
 use Rattle.std.proofs.Common.{◌≡◌, take}
 use Rattle.replay_accept.specs.Running.{Stands, program_of}
 use Rattle.replay_state.specs.View.{config_of}
-use Rattle.replay_accept.specs.Cursors.{IsAt, script_in}
+use Rattle.replay_script.specs.Cursors.{IsAt, script_in}
 use Rattle.source_semantics.specs.Verdicts.{Allowed}
 use Rattle.replay.proofs.judge_events.judge_over.Given as goal
 

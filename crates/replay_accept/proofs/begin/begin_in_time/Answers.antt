@@ -2,7 +2,7 @@ use Rattle.std.proofs.Common.{◌≡◌, false, refl, sym, true, ◌∙◌}
 use Rattle.replay_state.specs.View.{config_of}
 use Rattle.replay_due_events.specs.Timings.{event_of}
 use Rattle.replay_accept.specs.declared.begin.Begun.{Begun}
-use Rattle.replay_accept.specs.Cursors.{script_in}
+use Rattle.replay_script.specs.Cursors.{script_in}
 use Rattle.replay_accept.specs.Judged.{Begins, ComesAs}
 use Rattle.replay_accept.specs.Running.{program_of}
 use Rattle.replay_accept.proofs.Judging.{begun_of, if_ok, not_first, open_for}

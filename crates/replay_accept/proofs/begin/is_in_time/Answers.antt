@@ -1,6 +1,6 @@
 use Rattle.std.proofs.Common.{arith}
 use Rattle.replay_state.specs.View.{config_of}
-use Rattle.replay_accept.specs.Cursors.{script_in}
+use Rattle.replay_script.specs.Cursors.{script_in}
 use Rattle.replay_accept.specs.Running.{program_of}
 use Rattle.replay_accept.proofs.Judging.{in_time}
 use Rattle.replay_accept.proofs.begin.is_in_time.Goals as goal

@@ -2,7 +2,7 @@ use Rattle.std.proofs.Common.{ap}
 use Rattle.syntax_tree.specs.Placed.{placed, plain}
 use Rattle.source_semantics.specs.Run.{gets, waits, signals, broadcasts, asks_empty, ends}
 use Rattle.replay_state.specs.View.{action_of, config_of, next_of}
-use Rattle.replay_accept.specs.Cursors.{script_in}
+use Rattle.replay_script.specs.Cursors.{script_in}
 use Rattle.replay_accept.proofs.Steps.{acted}
 use Rattle.replay_accept.proofs.perform.act.Goals as goal
 

@@ -4,7 +4,7 @@ use Rattle.source_semantics.specs.Config.{at_tick}
 use Rattle.source_semantics.specs.Source.{saved}
 use Rattle.source_semantics.specs.Starts.{device_value}
 use Rattle.replay_state.specs.View.{config_of, jobs_of, next_of}
-use Rattle.replay_accept.specs.Cursors.{script_in}
+use Rattle.replay_script.specs.Cursors.{script_in}
 use Rattle.replay_accept.proofs.Steps.{given_to}
 use Rattle.replay_accept.proofs.source_actions.get.Goals as goal
 

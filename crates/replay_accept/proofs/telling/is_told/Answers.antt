@@ -2,7 +2,7 @@ use Rattle.std.proofs.Common.{◌≡◌, subst}
 use Rattle.std.specs.Prelude.{◌↔◌, IsTrue}
 use Rattle.base.specs.declared.event.Act.{Act}
 use Rattle.replay_state.specs.View.{action_of, config_of, next_of}
-use Rattle.replay_accept.specs.Cursors.{script_in}
+use Rattle.replay_script.specs.Cursors.{script_in}
 use Rattle.replay_accept.proofs.Steps.{told_saved}
 use Rattle.replay_accept.proofs.telling.is_told.Goals as goal
 

@@ -5,7 +5,7 @@ use Rattle.base.specs.declared.event.Act.TheVariants as act_is
 use Rattle.source_semantics.specs.Source.{effect}
 use Rattle.replay_state.specs.View.{action_of, config_of}
 use Rattle.replay_state.specs.declared.call.Action.{Action}
-use Rattle.replay_accept.specs.Cursors.{script_in}
+use Rattle.replay_script.specs.Cursors.{script_in}
 use Rattle.replay_accept.proofs.telling.is_told_by.Goals as goal
 
 pub returns-in-Gets : goal.returns-in-Gets

@@ -3,8 +3,8 @@ use Rattle.std.specs.Prelude.{IsTrue}
 use Rattle.std.proofs.lemmas.List.{length-map}
 use Rattle.replay_state.specs.View.{config_of, job_of}
 use Rattle.script_meaning.specs.Script.{said}
-use Rattle.replay_accept.specs.Cursors.{script_in}
-use Rattle.replay_accept.proofs.Passing.{missing_alike}
+use Rattle.replay_script.specs.Cursors.{script_in}
+use Rattle.replay_accept.proofs.Missing.{missing_alike}
 use Rattle.replay_accept.proofs.rules.Rules.is_none_missing.Goals as goal
 
 pub is_none_missing_before-requires : goal.is_none_missing_before-requires

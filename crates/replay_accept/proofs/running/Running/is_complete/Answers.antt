@@ -2,7 +2,7 @@ use Rattle.std.proofs.Common.{ℕ, subst}
 use Rattle.std.specs.Prelude.{◌↔◌, IsTrue}
 use Rattle.source_semantics.specs.Starts.{NoneMissing}
 use Rattle.replay_state.specs.View.{config_of}
-use Rattle.replay_accept.specs.Cursors.{script_in}
+use Rattle.replay_script.specs.Cursors.{script_in}
 use Rattle.replay_accept.specs.Running.{program_of}
 use Rattle.replay_accept.proofs.running.Running.is_complete.Goals as goal
 

@@ -1,7 +1,7 @@
 use Rattle.std.proofs.Common.{◌<◌, ◌≤◌, ◌∙◌, arith, get_or, sym}
 use Rattle.script.specs.Scripts.{tick_of}
-use Rattle.replay_accept.proofs.Passing.{order_here, pass_one, some_line, split_at}
-use Rattle.replay_accept.proofs.cursor.pass_lines.Goals as goal
+use Rattle.replay_script.proofs.Passing.{order_here, pass_one, some_line, split_at}
+use Rattle.replay_script.proofs.cursor.pass_lines.Goals as goal
 
 pub returns-then-tick-tick_of-clause-coming : goal.returns-then-tick-tick_of-clause-coming
 returns-then-tick-tick_of-clause-coming c =

@@ -2,9 +2,9 @@ use Rattle.std.proofs.Common.{List, ap, drop, map, sym, ◌∙◌}
 use Rattle.script.specs.declared.script.ScriptLine.{ScriptLine}
 use Rattle.source_semantics.specs.Starts.{event_releases, value_set}
 use Rattle.script_meaning.specs.Script.{line_said}
-use Rattle.replay_accept.specs.Cursors.{lines_of, until, word}
-use Rattle.replay_accept.proofs.Passing.{due_alike, releases_until, value_until}
-use Rattle.replay_accept.proofs.cursor.ScriptCursor.up_to.Goals as goal
+use Rattle.replay_script.specs.Cursors.{lines_of, until, word}
+use Rattle.replay_script.proofs.Passing.{due_alike, releases_until, value_until}
+use Rattle.replay_script.proofs.cursor.ScriptCursor.up_to.Goals as goal
 
 pub returns-then-self-clause-due : goal.returns-then-self-clause-due
 returns-then-self-clause-due c = λ g d u low high.

@@ -1,6 +1,6 @@
 use Rattle.std.proofs.Common.{◌≡◌, ◌≤◌, ◌-◌, length}
-use Rattle.replay_accept.specs.Cursors.{ArePassed}
-use Rattle.replay_accept.proofs.cursor.pass_lines.Given as goal
+use Rattle.replay_script.specs.Cursors.{ArePassed}
+use Rattle.replay_script.proofs.cursor.pass_lines.Given as goal
 
 abbrev pub invariant-loop-done : goal.invariant-loop-done
 invariant-loop-done l = record {

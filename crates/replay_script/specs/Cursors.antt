@@ -7,7 +7,7 @@ use Rattle.script.specs.declared.script.ScriptLine.{ScriptLine}
 use Rattle.script.specs.declared.script.ScriptLine.TheVariants as line_is
 use Rattle.script.specs.Scripts.{tick_of}
 use Rattle.script_meaning.specs.Script.{line_said, said}
-use Rattle.replay_accept.specs.declared.cursor.ScriptCursor.{ScriptCursor}
+use Rattle.replay_script.specs.declared.cursor.ScriptCursor.{ScriptCursor}
 
 -- the ticks of the lines do not descend, and none is before t
 abbrev pub are_in_order : ℕ → List ScriptLine → Bool

@@ -1,5 +1,5 @@
 -- Lines that are passed, and lines that come too late to count.
-use Rattle.std.specs.Prelude.{◌≡◌, ◌↔◌, ◌≤◌, ◌<◌, ℕ, zero, suc, ◌+◌, ℤ, pos, Bool, true, false, cond, ◌&&◌, List, [], ◌∷◌, ◌++◌, length, drop, take, map, nat_eq, nat_le}
+use Rattle.std.specs.Prelude.{◌≡◌, ◌≤◌, ◌<◌, ℕ, zero, suc, ◌+◌, ℤ, pos, Bool, true, false, cond, ◌&&◌, List, [], ◌∷◌, ◌++◌, length, drop, take, map, nat_eq, nat_le}
 use Rattle.std.proofs.Common.{refl, sym, ◌∙◌, ap, arith, get_or, set, replicate, get_or-set_same, get_or-set_other}
 use Rattle.std.proofs.lemmas.Bool.{ne_eqb}
 use Rattle.std.proofs.lemmas.Bool.Decides.{nat_tests}
@@ -7,12 +7,12 @@ use Rattle.base.specs.declared.event.Event.{Event}
 use Rattle.syntax_tree.specs.Plain.{Program}
 use Rattle.source_semantics.specs.Names.{processes}
 use Rattle.source_semantics.specs.Config.{Config}
-use Rattle.source_semantics.specs.Starts.{NoneMissing, Script, due, event_releases, releases_by, value_set}
+use Rattle.source_semantics.specs.Starts.{Script, due, event_releases, releases_by, value_set}
 use Rattle.script.specs.declared.script.ScriptLine.{ScriptLine}
 use Rattle.script.specs.declared.script.ScriptLine.TheVariants as line_is
 use Rattle.script.specs.Scripts.{tick_of}
 use Rattle.script_meaning.specs.Script.{line_said, said}
-use Rattle.replay_accept.specs.Cursors.{ArePassed, are_in_order, until, word, word_after}
+use Rattle.replay_script.specs.Cursors.{ArePassed, are_in_order, until, word, word_after}
 
 -- what stands past the end of a list of lines
 abbrev pub some_line : ScriptLine
@@ -208,10 +208,3 @@ word_kept words e w d within = by_case (nat_eq e d) refl
 pub due_alike : (g : Program) (c : Config) (u end : ℕ) (a b : List ScriptLine) → event_releases g c u (map line_said a) ≡ event_releases g c u (map line_said b) → due g (said a end) c u ≡ due g (said b end) c u
 unfolding due
 due_alike g c u end a b e = rw e refl
-
--- and nothing else missing
-pub missing_alike : (g : Program) (c : Config) (s s' : Script) (t : ℕ) (P : Type 0) → ((u : ℕ) → c.tick ≤ u → u < t → due g s c u ≡ due g s' c u) → NoneMissing g s c t ↔ P → NoneMissing g s' c t ↔ P
-missing_alike g c s s' t P alike either = (
-  λ none. either.0 (λ u low high. alike u low high ∙ none u low high),
-  λ p u low high. sym (alike u low high) ∙ either.1 p u low high,
-)

@@ -3,8 +3,8 @@
 ghost use Rattle.std.specs.Prelude.{map, ◌≡◌};
 ghost use Rattle.source_semantics.specs.Starts.{device_value as value_at, value_set};
 ghost use Rattle.script_meaning.specs.Script.{line_said};
-ghost use Rattle.replay_accept.specs.Cursors.{IsWithin, script_in};
-ghost use Rattle.replay_accept.specs.Told.{value_after};
+ghost use Rattle.replay_script.specs.Cursors.{IsWithin, script_in};
+ghost use Rattle.replay_script.specs.Devices.{value_after};
 
 use crate::cursor::ScriptCursor;
 use script::ScriptLine;

@@ -1,7 +1,7 @@
 use Rattle.std.proofs.Common.{◌<◌, arith, get_or, sym}
 use Rattle.script.specs.Scripts.{tick_of}
-use Rattle.replay_accept.proofs.Passing.{some_line, until_all, until_stops}
-use Rattle.replay_accept.proofs.cursor.lines_until.Goals as goal
+use Rattle.replay_script.proofs.Passing.{some_line, until_all, until_stops}
+use Rattle.replay_script.proofs.cursor.lines_until.Goals as goal
 
 pub returns-then-tick-tick_of : goal.returns-then-tick-tick_of
 returns-then-tick-tick_of c =

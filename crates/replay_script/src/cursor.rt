@@ -6,7 +6,7 @@ ghost use Rattle.source_semantics.specs.Config.{Config};
 ghost use Rattle.source_semantics.specs.Starts.{device_value, due, value_set};
 ghost use Rattle.script.specs.Scripts.{tick_of as tick_in};
 ghost use Rattle.script_meaning.specs.Script.{line_said, said};
-ghost use Rattle.replay_accept.specs.Cursors.{ArePassed, IsAt, IsCursor, IsWithin, are_in_order, lines_of, script_in, until, word, word_after};
+ghost use Rattle.replay_script.specs.Cursors.{ArePassed, IsAt, IsCursor, IsWithin, are_in_order, lines_of, script_in, until, word, word_after};
 
 use script::{Script, ScriptLine};
 use std::alloc::{AllocError, Global};
@@ -145,7 +145,7 @@ impl<'s> ScriptCursor<'s> {
     }
 
     /// The tick before which the run over the script ends.
-    pub(crate) fn end(&self) -> u64
+    pub fn end(&self) -> u64
         ensures { result ≡ self.now.script.now.end }
     {
         self.script.end()
@@ -160,7 +160,7 @@ impl<'s> ScriptCursor<'s> {
     }
 
     /// The lines that count from the tick reached up to this tick.
-    pub(crate) fn up_to(&self, tick: u64) -> &[ScriptLine]
+    pub fn up_to(&self, tick: u64) -> &[ScriptLine]
         requires { IsCursor self.now }
         ensures due { (g : Program) (c : Config) (u : ℕ) → self.now.reached ≤ u → u ≤ tick →
             due g (said result.now self.now.script.now.end) c u ≡
