@@ -50,7 +50,9 @@ fn put_log(alloc: Global, image: &EdfImage, text: &[u8], out: &mut MemorySink) -
     images_of_files_can_be_run(image);
     let script = read_script(alloc, text, image.shape().names())?;
     let mut run = AdmittedRun::new(alloc, image, &script)?;
-    Ok(run.run(image, &script, out)?)
+    let put = run.run(image, &script, out);
+    drop(run);
+    Ok(put?)
 }
 
 fn holds(out: &MemorySink, log: &str) -> Result<(), Fail> {
@@ -131,10 +133,7 @@ fn is(found: Option<EdfFault>, want: Option<EdfFault>) -> Result<(), Fail> {
 }
 
 fn answers(alloc: Global, shape: Shape, want: Option<EdfFault>) -> Result<(), Fail> {
-    match EdfImage::admit(alloc, shape) {
-        Ok(_) => is(None, want),
-        Err(fault) => is(Some(fault), want),
-    }
+    is(EdfImage::admit(alloc, shape).err(), want)
 }
 
 fn answer(alloc: Global, bytes: &[u8], rows: &[Row]) -> Result<(), Fail> {

@@ -1,6 +1,6 @@
 //! What the loader tells of changed bytes.
 
-use image_loaded::{Image, Shape};
+use image_loaded::{Image, Shape, ValidFault};
 use std::alloc::{AllocError, Global};
 use std::test::Fail;
 
@@ -42,17 +42,17 @@ const CHANGED: &[Changed] = &[
     (97, 1, "I7 94"),
 ];
 
-fn told_image(alloc: Global, shape: Shape) -> Result<String, Fail> {
-    match Image::of(shape) {
-        Ok(_) => Ok(String::from_str(alloc, "ok")?),
-        Err(fault) => Ok(format!(in alloc; "{fault}")?),
+fn told_image(alloc: Global, fault: Option<ValidFault>) -> Result<String, Fail> {
+    match fault {
+        None => Ok(String::from_str(alloc, "ok")?),
+        Some(fault) => Ok(format!(in alloc; "{fault}")?),
     }
 }
 
 /// The answer to bytes: ok, or the fault.
 fn told(alloc: Global, bytes: Vec<u8>) -> Result<String, Fail> {
     match Shape::load(alloc, bytes) {
-        Ok(shape) => told_image(alloc, shape),
+        Ok(shape) => told_image(alloc, Image::of(shape).err()),
         Err(fault) => Ok(format!(in alloc; "{fault}")?),
     }
 }
@@ -95,22 +95,28 @@ fn tells_each_changed_byte(rt: HostRuntime) -> Result<(), Fail> {
     answer(rt.alloc(), idle.as_slice(), CHANGED)
 }
 
-fn has_bytes(shape: &Shape, bytes: &[u8]) -> Result<(), Fail> {
-    if shape.bytes() == bytes {
+fn copy(alloc: Global, bytes: &[u8]) -> Result<Vec<u8>, Fail> {
+    Ok(Vec::from_slice(alloc, bytes)?)
+}
+
+/// The bytes that a shape keeps of these.
+fn kept(alloc: Global, bytes: Vec<u8>) -> Result<Vec<u8>, Fail> {
+    let shape = Shape::load(alloc, bytes)?;
+    copy(alloc, shape.bytes())
+}
+
+fn are(bytes: &[u8], want: &[u8]) -> Result<(), Fail> {
+    if bytes == want {
         return Ok(());
     }
     Err(Fail::new("the bytes are others"))
 }
 
-fn becomes(alloc: Global, first: Vec<u8>, second: &[u8]) -> Result<(), Fail> {
-    let shape = Shape::load(alloc, first)?;
-    has_bytes(&shape, second)
-}
-
 #[test]
 fn keeps_the_bytes_of_version_two(rt: HostRuntime) -> Result<(), Fail> {
     let again = hex::decode(rt.alloc(), IDLE_AGAIN)?;
-    becomes(rt.alloc(), hex::decode(rt.alloc(), IDLE)?, again.as_slice())
+    let idle = kept(rt.alloc(), hex::decode(rt.alloc(), IDLE)?)?;
+    are(idle.as_slice(), again.as_slice())
 }
 
 /// A declared run that is one too low, and a bound.
@@ -134,6 +140,6 @@ fn answer_again(alloc: Global, bytes: &[u8]) -> Result<(), Fail> {
 
 #[test]
 fn tells_costs_and_bounds_in_version_two(rt: HostRuntime) -> Result<(), Fail> {
-    let valve = Shape::load(rt.alloc(), hex::decode(rt.alloc(), VALVE)?)?;
-    answer_again(rt.alloc(), valve.bytes())
+    let valve = kept(rt.alloc(), hex::decode(rt.alloc(), VALVE)?)?;
+    answer_again(rt.alloc(), valve.as_slice())
 }

@@ -121,9 +121,9 @@ fn reads_script(alloc: Global, names: &ImageNames, row: &Row) -> Result<(), Fail
     requires devices { length names.now.devices ≤ 2 ^ 16 }
     requires events { length names.now.events ≤ 2 ^ 16 }
 {
-    match read_script(alloc, row.1.as_bytes(), names) {
-        Ok(_) => is("ok", row),
-        Err(fault) => tells(alloc, fault, row),
+    match read_script(alloc, row.1.as_bytes(), names).err() {
+        None => is("ok", row),
+        Some(fault) => tells(alloc, fault, row),
     }
 }
 
@@ -140,7 +140,9 @@ fn reads_scripts(alloc: Global, names: &ImageNames, rows: &[Row]) -> Result<(), 
 #[test]
 fn scripts_and_their_faults(rt: HostRuntime) -> Result<(), Fail> {
     let names = some_names(rt.alloc())?;
-    reads_scripts(rt.alloc(), &names, SCRIPTS)
+    let read = reads_scripts(rt.alloc(), &names, SCRIPTS);
+    drop(names);
+    read
 }
 
 fn has_lines(script: &Script, lines: &[ScriptLine], end: u64) -> Result<(), Fail> {
@@ -171,7 +173,9 @@ const LINES: &[ScriptLine] = &[
 #[test]
 fn the_lines_of_a_script(rt: HostRuntime) -> Result<(), Fail> {
     let names = some_names(rt.alloc())?;
-    is_script(rt.alloc(), &names, b"0 set gauge -7\n3 event e\nend 30\n")
+    let read = is_script(rt.alloc(), &names, b"0 set gauge -7\n3 event e\nend 30\n");
+    drop(names);
+    read
 }
 
 /// Logs and their faults, or none.
@@ -188,9 +192,9 @@ const LOGS: &[Row] = &[
 fn reads_log(alloc: Global, names: &ImageNames, row: &Row) -> Result<(), Fail>
     requires { AreFew names.now }
 {
-    match read_log(alloc, row.1.as_bytes(), names) {
-        Ok(_) => is("ok", row),
-        Err(fault) => tells(alloc, fault, row),
+    match read_log(alloc, row.1.as_bytes(), names).err() {
+        None => is("ok", row),
+        Some(fault) => tells(alloc, fault, row),
     }
 }
 
@@ -206,7 +210,9 @@ fn reads_logs(alloc: Global, names: &ImageNames, rows: &[Row]) -> Result<(), Fai
 #[test]
 fn logs_and_their_faults(rt: HostRuntime) -> Result<(), Fail> {
     let names = some_names(rt.alloc())?;
-    reads_logs(rt.alloc(), &names, LOGS)
+    let read = reads_logs(rt.alloc(), &names, LOGS);
+    drop(names);
+    read
 }
 
 fn has_events(events: &[Event], want: &[Event]) -> Result<(), Fail> {
@@ -240,5 +246,7 @@ const EVENTS: &[Event] = &[
 #[test]
 fn the_events_of_a_log(rt: HostRuntime) -> Result<(), Fail> {
     let names = some_names(rt.alloc())?;
-    is_log(rt.alloc(), &names, b"0 p release\n9 p get gauge -7\n")
+    let read = is_log(rt.alloc(), &names, b"0 p release\n9 p get gauge -7\n");
+    drop(names);
+    read
 }
