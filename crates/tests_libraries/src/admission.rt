@@ -75,7 +75,9 @@ fn puts(alloc: Global, image: &EdfImage, text: &[u8], log: &str) -> Result<(), F
 /// The image that the bytes are over the script puts the log.
 fn runs(alloc: Global, bytes: &[u8], text: &[u8], log: &str) -> Result<(), Fail> {
     let image = admitted(alloc, bytes)?;
-    puts(alloc, &image, text, log)
+    let put = puts(alloc, &image, text, log);
+    drop(image);
+    put
 }
 
 #[test]

@@ -102,7 +102,9 @@ fn copy(alloc: Global, bytes: &[u8]) -> Result<Vec<u8>, Fail> {
 /// The bytes that a shape keeps of these.
 fn kept(alloc: Global, bytes: Vec<u8>) -> Result<Vec<u8>, Fail> {
     let shape = Shape::load(alloc, bytes)?;
-    copy(alloc, shape.bytes())
+    let bytes = copy(alloc, shape.bytes());
+    drop(shape);
+    bytes
 }
 
 fn are(bytes: &[u8], want: &[u8]) -> Result<(), Fail> {

@@ -118,5 +118,7 @@ fn has_parts(room: &Shape) -> Result<(), Fail> {
 #[test]
 fn gives_parts_by_their_numbers(rt: HostRuntime) -> Result<(), Fail> {
     let room = Shape::load(rt.alloc(), hex::decode(rt.alloc(), ROOM)?)?;
-    has_parts(&room)
+    let held = has_parts(&room);
+    drop(room);
+    held
 }

@@ -74,8 +74,13 @@ fn some_names(alloc: Global) -> Result<ImageNames, AllocError>
         devices: List::new(alloc),
         events: List::new(alloc),
     };
-    add_names(alloc, &mut names)?;
-    Ok(names)
+    match add_names(alloc, &mut names) {
+        Ok(()) => Ok(names),
+        Err(fault) => {
+            drop(names);
+            Err(fault)
+        }
+    }
 }
 
 /// The answer, `ok` or a fault, and the text.
