@@ -1,6 +1,6 @@
 //! Images from any hand under earliest deadline first.
 
-ghost use Rattle.std.specs.Prelude.{ℕ, List, IfOk};
+ghost use Rattle.std.specs.Prelude.{IfOk};
 ghost use Rattle.image_loaded.specs.Shape.{AreOf};
 
 use edf_admission::{AdmittedRun, EdfFault, EdfImage, images_of_files_can_be_run};
@@ -42,10 +42,15 @@ fn admitted(alloc: Global, bytes: &[u8]) -> Result<EdfImage, Fail>
     Ok(EdfImage::admit(alloc, shape)?)
 }
 
-/// Puts the log of the image over the script.
-fn put_log(alloc: Global, image: &EdfImage, text: &[u8], out: &mut MemorySink) -> Result<(), Fail>
-    ghost bytes: { List ℕ }
-    requires { AreOf bytes image.now }
+/// Puts the log of the image that the bytes are over the script.
+fn put_log(
+    alloc: Global,
+    bytes: &[u8],
+    image: &EdfImage,
+    text: &[u8],
+    out: &mut MemorySink,
+) -> Result<(), Fail>
+    requires { AreOf bytes.now image.now }
 {
     images_of_files_can_be_run(image);
     let script = read_script(alloc, text, image.shape().names())?;
@@ -62,20 +67,19 @@ fn holds(out: &MemorySink, log: &str) -> Result<(), Fail> {
     Err(Fail::new("the log is another"))
 }
 
-/// The image over the script puts the log.
-fn puts(alloc: Global, image: &EdfImage, text: &[u8], log: &str) -> Result<(), Fail>
-    ghost bytes: { List ℕ }
-    requires { AreOf bytes image.now }
+/// The image that the bytes are over the script puts the log.
+fn puts(alloc: Global, bytes: &[u8], image: &EdfImage, text: &[u8], log: &str) -> Result<(), Fail>
+    requires { AreOf bytes.now image.now }
 {
     let mut out = MemorySink::new(alloc, 1000, Vec::new(alloc))?;
-    put_log(alloc, image, text, &mut out)?;
+    put_log(alloc, bytes, image, text, &mut out)?;
     holds(&out, log)
 }
 
-/// The image that the bytes are over the script puts the log.
+/// The bytes are an image that is admitted, and puts the log over the script.
 fn runs(alloc: Global, bytes: &[u8], text: &[u8], log: &str) -> Result<(), Fail> {
     let image = admitted(alloc, bytes)?;
-    let put = puts(alloc, &image, text, log);
+    let put = puts(alloc, bytes, &image, text, log);
     drop(image);
     put
 }
