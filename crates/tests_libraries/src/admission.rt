@@ -1,11 +1,14 @@
 //! Images from any hand under earliest deadline first.
 
+ghost use Rattle.std.specs.Prelude.{IfOk};
+ghost use Rattle.image_loaded.specs.Shape.{AreOf};
+
 use edf_admission::{AdmittedRun, EdfFault, EdfImage, images_of_files_can_be_run};
 use image_loaded::Shape;
 use outside::MemorySink;
 use sched_demand::Judgement;
 use script::read_script;
-use std::alloc::Global;
+use std::alloc::{AllocError, Global};
 use std::test::Fail;
 
 /// The image of a program of two processes: `p` has a frame of 30 and puts 1 to the device `a`, `q`
@@ -26,24 +29,64 @@ const TWO: &[u8] = &[
 const LOG: &str =
     "0 p release\n0 q release\n10 p put a 1\n14 p end\n25 q put a 2\n30 p release\n36 q put a 3\n40 q end\n51 p put a 1\n52 q release\n55 p end\n";
 
-/// Puts the log of the image that the bytes are, over the script.
-fn put_log(alloc: Global, bytes: &[u8], text: &[u8], out: &mut MemorySink) -> Result<(), Fail> {
-    let shape = Shape::load(alloc, Vec::from_slice(alloc, bytes)?)?;
-    let image = EdfImage::admit(alloc, shape)?;
+fn shape_of(alloc: Global, bytes: &[u8]) -> Result<Shape, Fail>
+    ensures { IfOk result (λ shape. AreOf bytes.now shape) }
+{
+    Ok(Shape::load(alloc, Vec::from_slice(alloc, bytes)?)?)
+}
+
+fn admitted(alloc: Global, bytes: &[u8]) -> Result<EdfImage, Fail>
+    ensures { IfOk result (λ image. AreOf bytes.now image) }
+{
+    let shape = shape_of(alloc, bytes)?;
+    Ok(EdfImage::admit(alloc, shape)?)
+}
+
+/// Puts the log of the image that the bytes are over the script.
+fn put_log(
+    alloc: Global,
+    bytes: &[u8],
+    image: &EdfImage,
+    text: &[u8],
+    out: &mut MemorySink,
+) -> Result<(), Fail>
+    requires { AreOf bytes.now image.now }
+{
+    images_of_files_can_be_run(image);
     let script = read_script(alloc, text, image.shape().names())?;
-    images_of_files_can_be_run(&image);
-    let mut run = AdmittedRun::new(alloc, &image, &script)?;
-    run.run(&image, &script, out)?;
-    Ok(())
+    let mut run = AdmittedRun::new(alloc, image, &script)?;
+    let put = run.run(image, &script, out);
+    drop(run);
+    Ok(put?)
+}
+
+fn holds(out: &MemorySink, log: &str) -> Result<(), Fail> {
+    if out.bytes() == log.as_bytes() {
+        return Ok(());
+    }
+    Err(Fail::new("the log is another"))
+}
+
+/// The image that the bytes are over the script puts the log.
+fn puts(alloc: Global, bytes: &[u8], image: &EdfImage, text: &[u8], log: &str) -> Result<(), Fail>
+    requires { AreOf bytes.now image.now }
+{
+    let mut out = MemorySink::new(alloc, 1000, Vec::new(alloc))?;
+    put_log(alloc, bytes, image, text, &mut out)?;
+    holds(&out, log)
+}
+
+/// The bytes are an image that is admitted, and puts the log over the script.
+fn runs(alloc: Global, bytes: &[u8], text: &[u8], log: &str) -> Result<(), Fail> {
+    let image = admitted(alloc, bytes)?;
+    let put = puts(alloc, bytes, &image, text, log);
+    drop(image);
+    put
 }
 
 #[test]
 fn runs_an_image_of_two_processes(rt: HostRuntime) -> Result<(), Fail> {
-    let alloc = rt.alloc();
-    let mut out = MemorySink::new(alloc, 1000, Vec::new(alloc))?;
-    put_log(alloc, TWO, b"end 60\n", &mut out)?;
-    assert!(rt; out.bytes() == LOG.as_bytes());
-    Ok(())
+    runs(rt.alloc(), TWO, b"end 60\n", LOG)
 }
 
 /// The image of a program whose one process does nothing: it takes 4 ticks of a frame of 10.
@@ -54,34 +97,60 @@ const IDLE: &[u8] = &[
     48, 0, 0, 0, 0, 0, 0, 0, 0, 0, 0, 0, 0,
 ];
 
-/// Why the image with some bytes changed was refused, if it was.
-fn answer(alloc: Global, changes: &[(usize, u8)]) -> Result<Option<EdfFault>, Fail> {
-    let mut bytes = Vec::from_slice(alloc, IDLE)?;
-    for (at, value) in changes {
-        if *at < bytes.len() {
-            bytes[*at] = *value;
+/// Bytes of it that are changed, to what, and why it is refused then, if it is.
+type Row = (&'static [(usize, u8)], Option<EdfFault>);
+
+const LATE: Judgement = Judgement::Late {
+    points: 1,
+    at: 10,
+    demand: 15,
+};
+
+const ROWS: &[Row] = &[
+    (&[], None),
+    (&[(7, 1), (48, 6)], Some(EdfFault::Overhead { over: 1 })),
+    (&[(48, 11)], Some(EdfFault::Unfit(Judgement::Many))),
+    (&[(60, 11)], Some(EdfFault::Unfit(LATE))),
+];
+
+fn set(bytes: &mut [u8], changes: &[(usize, u8)]) {
+    for &(at, value) in changes {
+        if at < bytes.len() {
+            bytes[at] = value;
         }
     }
-    match EdfImage::admit(alloc, Shape::load(alloc, bytes)?) {
-        Ok(_) => Ok(None),
-        Err(fault) => Ok(Some(fault)),
+}
+
+fn with_changes(
+    alloc: Global,
+    bytes: &[u8],
+    changes: &[(usize, u8)],
+) -> Result<Vec<u8>, AllocError> {
+    let mut changed = Vec::from_slice(alloc, bytes)?;
+    set(changed.as_mut_slice(), changes);
+    Ok(changed)
+}
+
+fn is(found: Option<EdfFault>, want: Option<EdfFault>) -> Result<(), Fail> {
+    if found == want {
+        return Ok(());
     }
+    Err(Fail::new(format_args!("{found:?}, not {want:?}")))
+}
+
+fn answers(alloc: Global, shape: Shape, want: Option<EdfFault>) -> Result<(), Fail> {
+    is(EdfImage::admit(alloc, shape).err(), want)
+}
+
+fn answer(alloc: Global, bytes: &[u8], rows: &[Row]) -> Result<(), Fail> {
+    for &(changes, want) in rows {
+        let changed = with_changes(alloc, bytes, changes)?;
+        answers(alloc, Shape::load(alloc, changed)?, want)?;
+    }
+    Ok(())
 }
 
 #[test]
 fn answers_four_images(rt: HostRuntime) -> Result<(), Fail> {
-    let alloc = rt.alloc();
-    assert_eq!(rt; answer(alloc, &[])?, None);
-    let slow = answer(alloc, &[(7, 1), (48, 6)])?;
-    assert_eq!(rt; slow, Some(EdfFault::Overhead { over: 1 }));
-    let long = answer(alloc, &[(48, 11)])?;
-    assert_eq!(rt; long, Some(EdfFault::Unfit(Judgement::Many)));
-    let blocked = answer(alloc, &[(60, 11)])?;
-    let late = Judgement::Late {
-        points: 1,
-        at: 10,
-        demand: 15,
-    };
-    assert_eq!(rt; blocked, Some(EdfFault::Unfit(late)));
-    Ok(())
+    answer(rt.alloc(), IDLE, ROWS)
 }

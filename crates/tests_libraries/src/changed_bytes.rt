@@ -1,7 +1,7 @@
 //! What the loader tells of changed bytes.
 
-use image_loaded::{Image, Shape};
-use std::alloc::Global;
+use image_loaded::{Image, Shape, ValidFault};
+use std::alloc::{AllocError, Global};
 use std::test::Fail;
 
 /// A program whose one process does nothing, as an image of version 1.
@@ -16,8 +16,11 @@ const IDLE_AGAIN: &str =
 const VALVE: &str =
     "5254455500010001000000000001000000000000000301610576616c7665010170000000000f00000000000000010000000f0000000000000000000000000000000f00000000000000010000000000000000000000000000000000010100000002010000000700000000000000002e00000000000000000000000030000000000000000000000000";
 
-/// Bytes of the first image that are changed, to what, and the answer.
-const CHANGED: &[(usize, u8, &str)] = &[
+/// A byte that is changed, to what, and the answer.
+type Changed = (usize, u8, &'static str);
+
+/// Those of the first image.
+const CHANGED: &[Changed] = &[
     (0, 0x52, "ok"),
     (0, 0x58, "I1 0"),
     (5, 3, "I1 4"),
@@ -39,61 +42,106 @@ const CHANGED: &[(usize, u8, &str)] = &[
     (97, 1, "I7 94"),
 ];
 
+fn told_image(alloc: Global, fault: Option<ValidFault>) -> Result<String, Fail> {
+    match fault {
+        None => Ok(String::from_str(alloc, "ok")?),
+        Some(fault) => Ok(format!(in alloc; "{fault}")?),
+    }
+}
+
 /// The answer to bytes: ok, or the fault.
-fn answer(alloc: Global, bytes: Vec<u8>) -> Result<String, Fail> {
-    let shape = match Shape::load(alloc, bytes) {
-        Ok(shape) => shape,
-        Err(fault) => return Ok(format!(in alloc; "{fault}")?),
-    };
-    match Image::of(shape) {
-        Ok(_) => Ok(format!(in alloc; "ok")?),
+fn told(alloc: Global, bytes: Vec<u8>) -> Result<String, Fail> {
+    match Shape::load(alloc, bytes) {
+        Ok(shape) => told_image(alloc, Image::of(shape).err()),
         Err(fault) => Ok(format!(in alloc; "{fault}")?),
     }
 }
 
-/// The same of bytes of which one is changed.
-fn answer_with(alloc: Global, bytes: &[u8], at: usize, value: u8) -> Result<String, Fail> {
-    let mut changed = Vec::from_slice(alloc, bytes)?;
-    if at < changed.len() {
-        changed[at] = value;
+fn is(said: &str, change: &Changed) -> Result<(), Fail> {
+    let (at, value, answer) = *change;
+    if said == answer {
+        return Ok(());
     }
-    answer(alloc, changed)
+    Err(Fail::new(format_args!("{value} at {at}: {said}")))
+}
+
+fn set(bytes: &mut [u8], change: &Changed) {
+    if change.0 < bytes.len() {
+        bytes[change.0] = change.1;
+    }
+}
+
+fn with_change(alloc: Global, bytes: &[u8], change: &Changed) -> Result<Vec<u8>, AllocError> {
+    let mut changed = Vec::from_slice(alloc, bytes)?;
+    set(changed.as_mut_slice(), change);
+    Ok(changed)
+}
+
+fn answers(alloc: Global, bytes: &[u8], change: &Changed) -> Result<(), Fail> {
+    let said = told(alloc, with_change(alloc, bytes, change)?)?;
+    is(said.as_str(), change)
+}
+
+fn answer(alloc: Global, bytes: &[u8], changes: &[Changed]) -> Result<(), Fail> {
+    for change in changes {
+        answers(alloc, bytes, change)?;
+    }
+    Ok(())
 }
 
 #[test]
 fn tells_each_changed_byte(rt: HostRuntime) -> Result<(), Fail> {
-    let alloc = rt.alloc();
-    let idle = hex::decode(alloc, IDLE)?;
-    for (at, value, line) in CHANGED {
-        let told = answer_with(alloc, idle.as_slice(), *at, *value)?;
-        assert_eq!(rt; told.as_str(), *line);
+    let idle = hex::decode(rt.alloc(), IDLE)?;
+    answer(rt.alloc(), idle.as_slice(), CHANGED)
+}
+
+fn copy(alloc: Global, bytes: &[u8]) -> Result<Vec<u8>, Fail> {
+    Ok(Vec::from_slice(alloc, bytes)?)
+}
+
+/// The bytes that a shape keeps of these.
+fn kept(alloc: Global, bytes: Vec<u8>) -> Result<Vec<u8>, Fail> {
+    let shape = Shape::load(alloc, bytes)?;
+    let bytes = copy(alloc, shape.bytes());
+    drop(shape);
+    bytes
+}
+
+fn are(bytes: &[u8], want: &[u8]) -> Result<(), Fail> {
+    if bytes == want {
+        return Ok(());
     }
-    Ok(())
+    Err(Fail::new("the bytes are others"))
 }
 
 #[test]
 fn keeps_the_bytes_of_version_two(rt: HostRuntime) -> Result<(), Fail> {
-    let alloc = rt.alloc();
-    let idle = Shape::load(alloc, hex::decode(alloc, IDLE)?)?;
-    let again = hex::decode(alloc, IDLE_AGAIN)?;
-    assert!(rt; idle.bytes() == again.as_slice());
-    Ok(())
+    let again = hex::decode(rt.alloc(), IDLE_AGAIN)?;
+    let idle = kept(rt.alloc(), hex::decode(rt.alloc(), IDLE)?)?;
+    are(idle.as_slice(), again.as_slice())
 }
 
-/// Whether a declared run that is one too low is told, and a bound.
-fn is_too_low(alloc: Global, bytes: &[u8], run: usize, bound: usize) -> Result<bool, Fail> {
-    let run = answer_with(alloc, bytes, run, 14)?;
-    let bound = answer_with(alloc, bytes, bound, 14)?;
-    Ok(run.as_str() == "V2 14 15" && bound.as_str() == "V5 14 15")
+/// A declared run that is one too low, and a bound.
+const TOO_LOW: &[Changed] = &[(49, 14, "V2 14 15"), (65, 14, "V5 14 15")];
+
+/// The same in version 2.
+const TOO_LOW_AGAIN: &[Changed] = &[(55, 14, "V2 14 15"), (71, 14, "V5 14 15")];
+
+#[test]
+fn tells_costs_and_bounds(rt: HostRuntime) -> Result<(), Fail> {
+    let valve = hex::decode(rt.alloc(), VALVE)?;
+    answer(rt.alloc(), valve.as_slice(), TOO_LOW)
+}
+
+fn answer_again(alloc: Global, bytes: &[u8]) -> Result<(), Fail> {
+    if bytes.len() != 142 {
+        return Err(Fail::new(format_args!("{} bytes", bytes.len())));
+    }
+    answer(alloc, bytes, TOO_LOW_AGAIN)
 }
 
 #[test]
-fn tells_costs_and_bounds_in_both_versions(rt: HostRuntime) -> Result<(), Fail> {
-    let alloc = rt.alloc();
-    let first = hex::decode(alloc, VALVE)?;
-    assert!(rt; is_too_low(alloc, first.as_slice(), 49, 65)?);
-    let valve = Shape::load(alloc, first)?;
-    assert_eq!(rt; valve.bytes().len(), 142);
-    assert!(rt; is_too_low(alloc, valve.bytes(), 55, 71)?);
-    Ok(())
+fn tells_costs_and_bounds_in_version_two(rt: HostRuntime) -> Result<(), Fail> {
+    let valve = kept(rt.alloc(), hex::decode(rt.alloc(), VALVE)?)?;
+    answer_again(rt.alloc(), valve.as_slice())
 }

@@ -54,13 +54,16 @@ fn has_process(room: &Shape) -> bool {
         return false;
     }
     let process = room.process(0);
-    process.frame == 100
-        && process.deadline == 90
-        && process.first == 5
-        && process.run == 26
-        && process.stack == 3
-        && process.start == 5
-        && process.handler == 7
+    let numbers = [
+        process.frame,
+        process.deadline,
+        process.first,
+        process.run,
+        process.stack,
+        process.start,
+        process.handler,
+    ];
+    numbers == [100, 90, 5, 26, 3, 5, 7]
 }
 
 /// The numbers that its handler takes.
@@ -96,12 +99,26 @@ fn has_code(room: &Shape) -> bool {
         && room.instr(7) == Instr::End
 }
 
+fn has_parts(room: &Shape) -> Result<(), Fail> {
+    if has_routine(room)
+        && has_routine_tree(room)
+        && has_monitor(room)
+        && has_process(room)
+        && has_numbers(room)
+        && has_process_trees(room)
+        && has_code(room)
+        && room.overhead() == 0
+        && room.bytes().len() == 264
+    {
+        return Ok(());
+    }
+    Err(Fail::new("a part is another"))
+}
+
 #[test]
 fn gives_parts_by_their_numbers(rt: HostRuntime) -> Result<(), Fail> {
     let room = Shape::load(rt.alloc(), hex::decode(rt.alloc(), ROOM)?)?;
-    assert!(rt; has_routine(&room) && has_routine_tree(&room) && has_monitor(&room));
-    assert!(rt; has_process(&room) && has_numbers(&room) && has_process_trees(&room));
-    assert!(rt; has_code(&room) && room.overhead() == 0);
-    assert_eq!(rt; room.bytes().len(), 264);
-    Ok(())
+    let held = has_parts(&room);
+    drop(room);
+    held
 }

@@ -1,65 +1,105 @@
 //! Scripts and logs, read for the names of a small program.
 
-ghost use Rattle.std.specs.Prelude.{◌≡◌, ◌≤◌, ◌^◌, IfOk, length};
+ghost use Rattle.std.specs.Prelude.{◌≡◌, ◌+◌, ◌≤◌, ◌^◌, IfOk, OnOk, length};
 ghost use Rattle.event_log.specs.Logs.{AreFew};
 
 use base::{Act, Event};
-use event_log::{LogFault, read_log};
+use event_log::read_log;
 use image::{DeviceName, EventName, ImageNames};
-use script::{Script, ScriptFault, ScriptLine, read_script};
+use script::{Script, ScriptLine, read_script};
 use std::alloc::{AllocError, Global};
-use std::process::Abort;
+use std::fmt::Display;
 use std::test::Fail;
 use syntax_tree::{List, Name};
 
-/// An out device and an in device.
-fn some_devices(alloc: Global) -> Result<List<DeviceName>, AllocError>
-    ensures { IfOk result (λ devices. length devices ≡ 2) }
+fn add_device(
+    alloc: Global,
+    devices: &mut List<DeviceName>,
+    name: &[u8],
+    out: bool,
+) -> Result<(), AllocError>
+    ensures { OnOk result (length devices.new ≡ length devices.old + 1) }
 {
-    let mut devices = List::new(alloc);
-    let name = Name::new(alloc, b"valve")?;
-    devices.push(DeviceName { name, out: true })?;
-    let name = Name::new(alloc, b"gauge")?;
-    devices.push(DeviceName { name, out: false })?;
-    Ok(devices)
+    let name = Name::new(alloc, name)?;
+    devices.push(DeviceName { name, out })
+}
+
+/// An out device and an in device.
+fn add_devices(alloc: Global, devices: &mut List<DeviceName>) -> Result<(), AllocError>
+    ensures { OnOk result (length devices.new ≡ length devices.old + 2) }
+{
+    add_device(alloc, devices, b"valve", true)?;
+    add_device(alloc, devices, b"gauge", false)
 }
 
 /// The event `e`, whose process has frame 15.
-fn some_events(alloc: Global) -> Result<List<EventName>, AllocError>
-    ensures { IfOk result (λ events. length events ≡ 1) }
+fn add_event(alloc: Global, events: &mut List<EventName>) -> Result<(), AllocError>
+    ensures { OnOk result (length events.new ≡ length events.old + 1) }
 {
-    let mut events = List::new(alloc);
     let name = Name::new(alloc, b"e")?;
-    events.push(EventName { name, frame: 15 })?;
-    Ok(events)
+    events.push(EventName { name, frame: 15 })
 }
 
 /// The process `p`.
-fn some_processes(alloc: Global) -> Result<List<Name>, AllocError>
-    ensures { IfOk result (λ processes. length processes ≡ 1) }
+fn add_process(alloc: Global, processes: &mut List<Name>) -> Result<(), AllocError>
+    ensures { OnOk result (length processes.new ≡ length processes.old + 1) }
 {
-    let mut processes = List::new(alloc);
-    processes.push(Name::new(alloc, b"p")?)?;
-    Ok(processes)
+    let name = Name::new(alloc, b"p")?;
+    processes.push(name)
 }
 
 /// A process that an event releases, an out device and an in device.
+fn add_names(alloc: Global, names: &mut ImageNames) -> Result<(), AllocError>
+    ensures processes { OnOk result (length names.new.processes ≡ length names.old.processes + 1) }
+    ensures monitors { names.new.monitors ≡ names.old.monitors }
+    ensures conditions { names.new.conditions ≡ names.old.conditions }
+    ensures devices { OnOk result (length names.new.devices ≡ length names.old.devices + 2) }
+    ensures events { OnOk result (length names.new.events ≡ length names.old.events + 1) }
+{
+    add_process(alloc, &mut names.processes)?;
+    add_event(alloc, &mut names.events)?;
+    add_devices(alloc, &mut names.devices)
+}
+
+/// The same alone.
 fn some_names(alloc: Global) -> Result<ImageNames, AllocError>
     ensures devices { IfOk result (λ names. length names.devices ≤ 2 ^ 16) }
     ensures events { IfOk result (λ names. length names.events ≤ 2 ^ 16) }
     ensures few { IfOk result AreFew }
 {
-    Ok(ImageNames {
-        processes: some_processes(alloc)?,
+    let mut names = ImageNames {
+        processes: List::new(alloc),
         monitors: List::new(alloc),
         conditions: List::new(alloc),
-        devices: some_devices(alloc)?,
-        events: some_events(alloc)?,
-    })
+        devices: List::new(alloc),
+        events: List::new(alloc),
+    };
+    match add_names(alloc, &mut names) {
+        Ok(()) => Ok(names),
+        Err(fault) => {
+            drop(names);
+            Err(fault)
+        }
+    }
+}
+
+/// The answer, `ok` or a fault, and the text.
+type Row = (&'static str, &'static str);
+
+fn is(said: &str, row: &Row) -> Result<(), Fail> {
+    if said == row.0 {
+        return Ok(());
+    }
+    Err(Fail::new(format_args!("{said}: {}", row.1)))
+}
+
+fn tells<F: Display + Drop>(alloc: Global, fault: F, row: &Row) -> Result<(), Fail> {
+    let said = format!(in alloc; "{fault}")?;
+    is(said.as_str(), row)
 }
 
 /// Texts and their faults, or none.
-const SCRIPTS: &[(&str, &str)] = &[
+const SCRIPTS: &[Row] = &[
     ("ok", "end 0\n"),
     ("ok", "0 event e\n15 event e\nend 30\n"),
     ("ok", "0 set gauge -2147483648\n0 event e\nend 1\n"),
@@ -82,47 +122,69 @@ const SCRIPTS: &[(&str, &str)] = &[
     ("S3 3", "5 event e\nend 9\n4 set gauge 1\n"),
 ];
 
-/// How a script was read.
-fn told(alloc: Global, read: Result<Script, ScriptFault>) -> Result<String, Fail> {
-    match read {
-        Ok(_) => Ok(String::from_str(alloc, "ok")?),
-        Err(fault) => Ok(format!(in alloc; "{fault}")?),
+fn reads_script(alloc: Global, names: &ImageNames, row: &Row) -> Result<(), Fail>
+    requires devices { length names.now.devices ≤ 2 ^ 16 }
+    requires events { length names.now.events ≤ 2 ^ 16 }
+{
+    match read_script(alloc, row.1.as_bytes(), names).err() {
+        None => is("ok", row),
+        Some(fault) => tells(alloc, fault, row),
     }
+}
+
+fn reads_scripts(alloc: Global, names: &ImageNames, rows: &[Row]) -> Result<(), Fail>
+    requires devices { length names.now.devices ≤ 2 ^ 16 }
+    requires events { length names.now.events ≤ 2 ^ 16 }
+{
+    for row in rows {
+        reads_script(alloc, names, row)?;
+    }
+    Ok(())
 }
 
 #[test]
 fn scripts_and_their_faults(rt: HostRuntime) -> Result<(), Fail> {
-    let alloc = rt.alloc();
-    let names = some_names(alloc)?;
-    for &(answer, text) in SCRIPTS {
-        let said = told(alloc, read_script(alloc, text.as_bytes(), &names))?;
-        assert!(rt; said.as_str() == answer, "{text}");
-    }
-    Ok(())
+    let names = some_names(rt.alloc())?;
+    let read = reads_scripts(rt.alloc(), &names, SCRIPTS);
+    drop(names);
+    read
 }
 
-#[test]
-fn the_lines_of_a_script(rt: HostRuntime) -> Result<(), Fail> {
-    let alloc = rt.alloc();
-    let names = some_names(alloc)?;
-    let text = b"0 set gauge -7\n3 event e\nend 30\n";
-    let script = read_script(alloc, text, &names)?;
-    let set = ScriptLine::Set {
+fn has_lines(script: &Script, lines: &[ScriptLine], end: u64) -> Result<(), Fail> {
+    if script.lines().as_slice() == lines && script.end() == end {
+        return Ok(());
+    }
+    Err(Fail::new("the script has other lines"))
+}
+
+fn is_script(alloc: Global, names: &ImageNames, text: &[u8]) -> Result<(), Fail>
+    requires devices { length names.now.devices ≤ 2 ^ 16 }
+    requires events { length names.now.events ≤ 2 ^ 16 }
+{
+    let script = read_script(alloc, text, names)?;
+    has_lines(&script, LINES, 30)
+}
+
+/// What the test's script says.
+const LINES: &[ScriptLine] = &[
+    ScriptLine::Set {
         tick: 0,
         dev: 1,
         value: -7,
-    };
-    let occur = ScriptLine::Occur { tick: 3, event: 0 };
-    assert!(rt;
-        script.lines().as_slice() == [set, occur].as_slice(),
-        "lines"
-    );
-    assert!(rt; script.end() == 30, "end");
-    Ok(())
+    },
+    ScriptLine::Occur { tick: 3, event: 0 },
+];
+
+#[test]
+fn the_lines_of_a_script(rt: HostRuntime) -> Result<(), Fail> {
+    let names = some_names(rt.alloc())?;
+    let read = is_script(rt.alloc(), &names, b"0 set gauge -7\n3 event e\nend 30\n");
+    drop(names);
+    read
 }
 
 /// Logs and their faults, or none.
-const LOGS: &[(&str, &str)] = &[
+const LOGS: &[Row] = &[
     ("ok", ""),
     ("ok", "0 p release\n10 p put valve 7\n14 p end\n"),
     ("L1 2", "0 p release\n0 p releases\n"),
@@ -132,39 +194,64 @@ const LOGS: &[(&str, &str)] = &[
     ("L1 3", "0 p release\n10 p put valve 7\n14 p end"),
 ];
 
-fn told_log(alloc: Global, read: Result<List<Event>, LogFault>) -> Result<String, Fail> {
-    match read {
-        Ok(_) => Ok(String::from_str(alloc, "ok")?),
-        Err(fault) => Ok(format!(in alloc; "{fault}")?),
+fn reads_log(alloc: Global, names: &ImageNames, row: &Row) -> Result<(), Fail>
+    requires { AreFew names.now }
+{
+    match read_log(alloc, row.1.as_bytes(), names).err() {
+        None => is("ok", row),
+        Some(fault) => tells(alloc, fault, row),
     }
+}
+
+fn reads_logs(alloc: Global, names: &ImageNames, rows: &[Row]) -> Result<(), Fail>
+    requires { AreFew names.now }
+{
+    for row in rows {
+        reads_log(alloc, names, row)?;
+    }
+    Ok(())
 }
 
 #[test]
 fn logs_and_their_faults(rt: HostRuntime) -> Result<(), Fail> {
-    let alloc = rt.alloc();
-    let names = some_names(alloc)?;
-    for &(answer, text) in LOGS {
-        let said = told_log(alloc, read_log(alloc, text.as_bytes(), &names))?;
-        assert!(rt; said.as_str() == answer, "{text}");
-    }
-    Ok(())
+    let names = some_names(rt.alloc())?;
+    let read = reads_logs(rt.alloc(), &names, LOGS);
+    drop(names);
+    read
 }
 
-#[test]
-fn the_events_of_a_log(rt: HostRuntime) -> Result<(), Fail> {
-    let alloc = rt.alloc();
-    let names = some_names(alloc)?;
-    let events = read_log(alloc, b"0 p release\n9 p get gauge -7\n", &names)?;
-    let release = Event {
+fn has_events(events: &[Event], want: &[Event]) -> Result<(), Fail> {
+    if events == want {
+        return Ok(());
+    }
+    Err(Fail::new("the log has other events"))
+}
+
+fn is_log(alloc: Global, names: &ImageNames, text: &[u8]) -> Result<(), Fail>
+    requires { AreFew names.now }
+{
+    let events = read_log(alloc, text, names)?;
+    has_events(events.as_slice(), EVENTS)
+}
+
+/// What the test's log tells.
+const EVENTS: &[Event] = &[
+    Event {
         tick: 0,
         proc: 0,
         act: Act::Release,
-    };
-    let get = Event {
+    },
+    Event {
         tick: 9,
         proc: 0,
         act: Act::Get { dev: 1, value: -7 },
-    };
-    assert!(rt; events.as_slice() == [release, get].as_slice(), "events");
-    Ok(())
+    },
+];
+
+#[test]
+fn the_events_of_a_log(rt: HostRuntime) -> Result<(), Fail> {
+    let names = some_names(rt.alloc())?;
+    let read = is_log(rt.alloc(), &names, b"0 p release\n9 p get gauge -7\n");
+    drop(names);
+    read
 }
