@@ -1,8 +1,5 @@
 //! Images from any hand under earliest deadline first.
 
-ghost use Rattle.std.specs.Prelude.{IfOk};
-ghost use Rattle.image_loaded.specs.Shape.{AreOf};
-
 use edf_admission::{AdmittedRun, EdfFault, EdfImage, images_of_files_can_be_run};
 use image_loaded::Shape;
 use outside::MemorySink;
@@ -29,35 +26,15 @@ const TWO: &[u8] = &[
 const LOG: &str =
     "0 p release\n0 q release\n10 p put a 1\n14 p end\n25 q put a 2\n30 p release\n36 q put a 3\n40 q end\n51 p put a 1\n52 q release\n55 p end\n";
 
-fn shape_of(alloc: Global, bytes: &[u8]) -> Result<Shape, Fail>
-    ensures { IfOk result (λ shape. AreOf bytes.now shape) }
-{
-    Ok(Shape::load(alloc, Vec::from_slice(alloc, bytes)?)?)
-}
-
-fn admitted(alloc: Global, bytes: &[u8]) -> Result<EdfImage, Fail>
-    ensures { IfOk result (λ image. AreOf bytes.now image) }
-{
-    let shape = shape_of(alloc, bytes)?;
-    Ok(EdfImage::admit(alloc, shape)?)
-}
-
-/// Puts the log of the image that the bytes are over the script.
-fn put_log(
-    alloc: Global,
-    bytes: &[u8],
-    image: &EdfImage,
-    text: &[u8],
-    out: &mut MemorySink,
-) -> Result<(), Fail>
-    requires { AreOf bytes.now image.now }
-{
-    images_of_files_can_be_run(image);
+/// Puts the log of the image that the bytes are, over the script.
+fn put_log(alloc: Global, bytes: &[u8], text: &[u8], out: &mut MemorySink) -> Result<(), Fail> {
+    let shape = Shape::load(alloc, Vec::from_slice(alloc, bytes)?)?;
+    let image = EdfImage::admit(alloc, shape)?;
     let script = read_script(alloc, text, image.shape().names())?;
-    let mut run = AdmittedRun::new(alloc, image, &script)?;
-    let put = run.run(image, &script, out);
-    drop(run);
-    Ok(put?)
+    images_of_files_can_be_run(&image);
+    let mut run = AdmittedRun::new(alloc, &image, &script)?;
+    run.run(&image, &script, out)?;
+    Ok(())
 }
 
 fn holds(out: &MemorySink, log: &str) -> Result<(), Fail> {
@@ -67,21 +44,11 @@ fn holds(out: &MemorySink, log: &str) -> Result<(), Fail> {
     Err(Fail::new("the log is another"))
 }
 
-/// The image that the bytes are over the script puts the log.
-fn puts(alloc: Global, bytes: &[u8], image: &EdfImage, text: &[u8], log: &str) -> Result<(), Fail>
-    requires { AreOf bytes.now image.now }
-{
-    let mut out = MemorySink::new(alloc, 1000, Vec::new(alloc))?;
-    put_log(alloc, bytes, image, text, &mut out)?;
-    holds(&out, log)
-}
-
 /// The bytes are an image that is admitted, and puts the log over the script.
 fn runs(alloc: Global, bytes: &[u8], text: &[u8], log: &str) -> Result<(), Fail> {
-    let image = admitted(alloc, bytes)?;
-    let put = puts(alloc, bytes, &image, text, log);
-    drop(image);
-    put
+    let mut out = MemorySink::new(alloc, 1000, Vec::new(alloc))?;
+    put_log(alloc, bytes, text, &mut out)?;
+    holds(&out, log)
 }
 
 #[test]
