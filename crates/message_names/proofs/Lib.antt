@@ -1,0 +1,3 @@
+pub mod Examples
+pub mod Loops
+pub mod Steps
