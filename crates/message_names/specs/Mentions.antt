@@ -1,5 +1,5 @@
 -- Each name that stands in a program, with what it does there, in the order of the text.
-use Rattle.std.specs.Prelude.{List, [], ◌∷◌, ◌++◌, Option, flat_map}
+use Rattle.std.specs.Prelude.{Bool, true, false, List, [], ◌∷◌, ◌++◌, Option, flat_map}
 use Rattle.std.specs.Option.{option_map_or}
 use Rattle.syntax_tree.specs.Plain.{Name}
 use Rattle.syntax_tree.specs.Placed.{Constant, literal_constant, named_constant, Scalar, int, boolean, subrange, Kind, scalar, array, Var, Param, Expr, literal, truth, variable, element, call, minus, negation, paren, row, Exprs, no_exprs, exprs, Operands, no_operands, operand, Ref, whole, part, Stmt, assign, assign_entry, assign_empty, perform, perform_entry, when, when_else, loop, exit_when, get, put, wait, signal, broadcast, except, assert, Stmts, no_stmts, stmts, RoutineKind, procedure, function, Routine, Member, variable_member, condition_member, Monitor, Activation, periodic, at_event, Handler, Process, Decl, constant, device, event, routine, monitor, process, Prog}
@@ -144,21 +144,19 @@ routine_inner r = let scope = scope_from r.place r.close_place in
     ++ (option_map_or expr_mentions r.value []
     ++ closes r.close r.close_place r.place ∷ []))))
 
-abbrev pub kind_of : RoutineKind → What
-kind_of procedure = what_is.Procedure
-kind_of function = what_is.Function
+abbrev pub routine_what : (is_entry : Bool) → RoutineKind → What
+routine_what true kind = what_is.Entry
+routine_what false procedure = what_is.Procedure
+routine_what false function = what_is.Function
 
-abbrev pub routine_mentions : Scope → Routine Place → List Mention
-routine_mentions scope r = declares (kind_of r.kind) scope r.name r.place ∷ routine_inner r
-
-abbrev pub entry_routine_mentions : Scope → Routine Place → List Mention
-entry_routine_mentions scope r = declares what_is.Entry scope r.name r.place ∷ routine_inner r
+abbrev pub routine_mentions : (is_entry : Bool) → Scope → Routine Place → List Mention
+routine_mentions is_entry scope r = declares (routine_what is_entry r.kind) scope r.name r.place ∷ routine_inner r
 
 abbrev pub monitor_mentions : Scope → Monitor Place → List Mention
 monitor_mentions outer m = let scope = scope_from m.place m.close_place in
     declares what_is.Monitor outer m.name m.place
     ∷ (flat_map (member_mentions scope) m.members
-    ++ (flat_map (entry_routine_mentions scope) m.entries
+    ++ (flat_map (routine_mentions true scope) m.entries
     ++ closes m.close m.close_place m.place ∷ []))
 
 abbrev pub activation_mentions : Activation Place → List Mention
@@ -175,7 +173,7 @@ process_mentions outer p = let scope = scope_from p.place p.close_place in
     declares what_is.Process outer p.name p.place
     ∷ (activation_mentions p.activation
     ++ (flat_map (var_mentions scope) p.vars
-    ++ (flat_map (routine_mentions scope) p.routines
+    ++ (flat_map (routine_mentions false scope) p.routines
     ++ (stmts_mentions p.body
     ++ (option_map_or handler_mentions p.handler []
     ++ closes p.close p.close_place p.place ∷ [])))))
@@ -190,7 +188,7 @@ abbrev pub decl_mentions : Scope → Decl Place → List Mention
 decl_mentions scope (constant name place c) = constant_declares scope name place (value_place c) ∷ constant_mentions c
 decl_mentions scope (device name place is_out) = declares what_is.Device scope name place ∷ []
 decl_mentions scope (event name place) = declares what_is.Event scope name place ∷ []
-decl_mentions scope (routine r) = routine_mentions scope r
+decl_mentions scope (routine r) = routine_mentions false scope r
 decl_mentions scope (monitor m) = monitor_mentions scope m
 decl_mentions scope (process p) = process_mentions scope p
 

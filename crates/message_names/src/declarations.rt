@@ -139,10 +139,13 @@ fn routine_inner<'a>(mentions: &mut Mentions<'a>, routine: &'a Routine) -> Resul
     closes(mentions, &routine.close, routine.close_place, routine.place)
 }
 
-/// What a routine is that is no entry.
-fn kind_of(kind: RoutineKind) -> What
-    ensures { result ≡ listed.kind_of (placed_routine_kind kind) }
+/// What a routine is declared as.
+fn routine_what(is_entry: bool, kind: RoutineKind) -> What
+    ensures { result ≡ listed.routine_what is_entry (placed_routine_kind kind) }
 {
+    if is_entry {
+        return What::Entry;
+    }
     match kind {
         RoutineKind::Procedure => What::Procedure,
         RoutineKind::Function => What::Function,
@@ -151,52 +154,29 @@ fn kind_of(kind: RoutineKind) -> What
 
 fn routine<'a>(
     mentions: &mut Mentions<'a>,
+    is_entry: bool,
     scope: Scope,
     routine: &'a Routine,
 ) -> Result<(), AllocError>
     ensures { OnOk result (mentions.new ≡ mentions.old ++
-        listed.routine_mentions scope (placed_routine routine.now)) }
+        listed.routine_mentions is_entry scope (placed_routine routine.now)) }
 {
-    tri!(mentions.declares(kind_of(routine.kind), scope, &routine.name, routine.place));
+    let what = routine_what(is_entry, routine.kind);
+    tri!(mentions.declares(what, scope, &routine.name, routine.place));
     routine_inner(mentions, routine)
 }
 
 fn routines<'a>(
     mentions: &mut Mentions<'a>,
+    is_entry: bool,
     scope: Scope,
     list: &'a [Routine],
 ) -> Result<(), AllocError>
     ensures { OnOk result (mentions.new ≡ mentions.old ++
-        flat_map (listed.routine_mentions scope) (map placed_routine list.now)) }
+        flat_map (listed.routine_mentions is_entry scope) (map placed_routine list.now)) }
 {
     for one in list {
-        tri!(routine(mentions, scope, one));
-    }
-    Ok(())
-}
-
-fn entry<'a>(
-    mentions: &mut Mentions<'a>,
-    scope: Scope,
-    entry: &'a Routine,
-) -> Result<(), AllocError>
-    ensures { OnOk result (mentions.new ≡ mentions.old ++
-        listed.entry_routine_mentions scope (placed_routine entry.now)) }
-{
-    tri!(mentions.declares(What::Entry, scope, &entry.name, entry.place));
-    routine_inner(mentions, entry)
-}
-
-fn entries<'a>(
-    mentions: &mut Mentions<'a>,
-    scope: Scope,
-    list: &'a [Routine],
-) -> Result<(), AllocError>
-    ensures { OnOk result (mentions.new ≡ mentions.old ++
-        flat_map (listed.entry_routine_mentions scope) (map placed_routine list.now)) }
-{
-    for one in list {
-        tri!(entry(mentions, scope, one));
+        tri!(routine(mentions, is_entry, scope, one));
     }
     Ok(())
 }
@@ -212,7 +192,7 @@ fn monitor<'a>(
     let scope = scope_from(monitor.place, monitor.close_place);
     tri!(mentions.declares(What::Monitor, outer, &monitor.name, monitor.place));
     tri!(members(mentions, scope, monitor.members.as_slice()));
-    tri!(entries(mentions, scope, monitor.entries.as_slice()));
+    tri!(routines(mentions, true, scope, monitor.entries.as_slice()));
     closes(mentions, &monitor.close, monitor.close_place, monitor.place)
 }
 
@@ -300,7 +280,7 @@ fn process<'a>(
     tri!(mentions.declares(What::Process, outer, &process.name, process.place));
     tri!(activation(mentions, &process.activation));
     tri!(vars(mentions, scope, process.vars.as_slice()));
-    tri!(routines(mentions, scope, process.routines.as_slice()));
+    tri!(routines(mentions, false, scope, process.routines.as_slice()));
     tri!(stmts(mentions, process.body.as_slice()));
     tri!(handler(mentions, &process.handler));
     closes(mentions, &process.close, process.close_place, process.place)
@@ -343,7 +323,7 @@ fn decl<'a>(
             mentions.declares(What::Device, scope, name, *place)
         }
         Declaration::Event { name, place } => mentions.declares(What::Event, scope, name, *place),
-        Declaration::Routine(one) => routine(mentions, scope, one),
+        Declaration::Routine(one) => routine(mentions, false, scope, one),
         Declaration::Monitor(one) => monitor(mentions, scope, one),
         Declaration::Process(one) => process(mentions, scope, one),
     }

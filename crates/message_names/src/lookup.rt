@@ -6,7 +6,7 @@ ghost use Rattle.message_names.specs.Seen.{found, mention_of};
 ghost use Rattle.message_names.specs.Told.{closed, name_of};
 
 use crate::mentions::{Mention, Mentions};
-use crate::role::{Role, declared, is_program, monitor_before, scope_begin};
+use crate::role::{Role, What, declared, monitor_before, scope_begin};
 use crate::sight::{Sight, before, is_seen};
 use message_text::nearest;
 use std::alloc::{AllocError, Global};
@@ -163,7 +163,7 @@ fn names_program(role: Role) -> bool
     ensures { result ≡ names_program role }
 {
     match declared(role) {
-        Some(reach) => is_program(reach.what),
+        Some(reach) => matches!(reach.what, What::Program),
         None => false,
     }
 }

@@ -2,7 +2,7 @@
 
 ghost use Rattle.std.specs.Prelude.{◌≡◌, ◌++◌, OnOk, map};
 ghost use Rattle.message_names.specs.Seen.{found, mention_of};
-ghost use Rattle.message_names.specs.Told.{constant_note, elsewhere, is_bare_entry, misclosed_notes, misused_notes, nearest_note, notes_of, pointed, pointed_if, taken_notes, undeclared_notes};
+ghost use Rattle.message_names.specs.Told.{constant_note, elsewhere, is_bare_entry, misused_notes, nearest_note, notes_of, pointed, pointed_if, taken_notes, undeclared_notes};
 
 use crate::lookup::{closed, first_declared, meaning, name_at, nearest_of, offered};
 use crate::mentions::{Mention, Mentions};
@@ -169,17 +169,6 @@ fn add_misused(
     add_constant_note(text, role)
 }
 
-/// Puts which name is closed.
-fn add_misclosed(
-    text: &mut Text,
-    source: &[u8],
-    opening: Option<Mention<'_>>,
-) -> Result<(), AllocError>
-    ensures { OnOk result (text.new ≡ text.old ++ misclosed_notes source.now (found opening.entry)) }
-{
-    add_pointed_if(text, source, &[b"the name behind `end` is that of:"], opening)
-}
-
 /// Puts the notes on a name that is wrong by the rule of this number.
 pub(crate) fn add_notes(
     alloc: Global,
@@ -199,6 +188,11 @@ pub(crate) fn add_notes(
         }
         21 => add_taken(text, source, meaning(mentions, mention)),
         22 => add_misused(text, source, mention.role, meaning(mentions, mention)),
-        _ => add_misclosed(text, source, closed(mentions, mention.role)),
+        _ => add_pointed_if(
+            text,
+            source,
+            &[b"the name behind `end` is that of:"],
+            closed(mentions, mention.role),
+        ),
     }
 }

@@ -2,7 +2,7 @@
 
 ghost use Rattle.std.specs.Prelude.{◌≡◌};
 ghost use Rattle.message_names.specs.Mentions.{before_all, scope_from};
-ghost use Rattle.message_names.specs.Reach.{declared, is_entry, is_program, monitor_before, scope_begin};
+ghost use Rattle.message_names.specs.Reach.{declared, is_entry, monitor_before, scope_begin};
 
 use syntax_tree::Place;
 
@@ -81,13 +81,6 @@ pub(crate) fn is_entry(what: What) -> bool
     ensures { result ≡ is_entry what }
 {
     matches!(what, What::Entry)
-}
-
-/// Whether it is the program.
-pub(crate) fn is_program(what: What) -> bool
-    ensures { result ≡ is_program what }
-{
-    matches!(what, What::Program)
 }
 
 /// What the name declares, if it does.

@@ -2,7 +2,7 @@
 
 ghost use Rattle.std.specs.Prelude.{◌≡◌, ◌++◌, OnOk};
 ghost use Rattle.message_names.specs.Seen.{mention_of};
-ghost use Rattle.message_names.specs.Told.{misclosed, misused, sentence_of, taken, undeclared, undeclared_behind};
+ghost use Rattle.message_names.specs.Told.{misclosed, misused, sentence_of, taken, undeclared_behind};
 
 use crate::lookup::{closed, meaning, name_at, name_of};
 use crate::mentions::{Mention, Mentions};

@@ -1,10 +1,9 @@
 //! The names in statements.
 
-ghost use Rattle.std.specs.Prelude.{◌≡◌, [], ◌∷◌, ◌++◌, OnOk};
-ghost use Rattle.syntax_tree.specs.Placed.{placed_constant, placed_expr, placed_exprs, placed_ref, placed_stmt, placed_stmts};
-ghost use Rattle.message_names.specs.declared.role.Wanted.TheVariants.{Condition, Device, Routine};
+ghost use Rattle.std.specs.Prelude.{◌≡◌, ◌++◌, OnOk};
+ghost use Rattle.syntax_tree.specs.Placed.{placed_constant, placed_exprs, placed_stmt, placed_stmts};
 ghost use Rattle.message_names.specs.declared.role.What.TheVariants.{LoopVariable};
-ghost use Rattle.message_names.specs.Mentions.{bounds_mentions, declares, entry_mentions, expr_mentions, exprs_mentions, loop_mentions, ref_mentions, stmt_mentions, stmts_mentions, uses};
+ghost use Rattle.message_names.specs.Mentions.{bounds_mentions, declares, entry_mentions, loop_mentions, stmt_mentions, stmts_mentions};
 ghost use Rattle.message_names.specs.Seen.{is_change, is_simple, mention_of, mentions_if};
 
 use crate::errors::tri;
@@ -12,7 +11,7 @@ use crate::expressions::{bounds, constant, expr, exprs, target};
 use crate::mentions::{Mention, Mentions};
 use crate::role::{Reach, Role, Scope, Wanted, What};
 use std::alloc::AllocError;
-use syntax_tree::{Constant, Expr, Name, Place, Ref, Stmt};
+use syntax_tree::{Constant, Expr, Name, Place, Stmt};
 
 /// The variable of a loop, which reaches behind one place, up to another.
 fn loop_variable<'a>(variable: (&'a Name, Place), begin: Place, end: Place) -> Mention<'a>
@@ -32,19 +31,6 @@ fn loop_variable<'a>(variable: (&'a Name, Place), begin: Place, end: Place) -> M
     }
 }
 
-/// An assignment.
-fn assignment<'a>(
-    mentions: &mut Mentions<'a>,
-    to: &'a Ref,
-    value: &'a Expr,
-) -> Result<(), AllocError>
-    ensures { OnOk result (mentions.new ≡ mentions.old ++
-        (ref_mentions (placed_ref to.now) ++ expr_mentions (placed_expr value.now))) }
-{
-    tri!(target(mentions, to));
-    expr(mentions, value)
-}
-
 /// A call of an entry.
 fn entry_call<'a>(
     mentions: &mut Mentions<'a>,
@@ -62,100 +48,16 @@ fn entry_call<'a>(
     exprs(mentions, args)
 }
 
-/// A call of a procedure.
-fn routine_call<'a>(
-    mentions: &mut Mentions<'a>,
-    name: &'a Name,
-    place: Place,
-    args: &'a [Expr],
-) -> Result<(), AllocError>
-    ensures { OnOk result (mentions.new ≡ mentions.old ++
-        uses Routine name.now place ∷ exprs_mentions (placed_exprs args.now)) }
-{
-    tri!(mentions.uses(Wanted::Routine, name, place));
-    exprs(mentions, args)
-}
-
-/// An assignment of whether nobody waits for a condition.
-fn emptiness<'a>(
-    mentions: &mut Mentions<'a>,
-    to: &'a Ref,
-    cond: &'a Name,
-    place: Place,
-) -> Result<(), AllocError>
-    ensures { OnOk result (mentions.new ≡ mentions.old ++
-        (ref_mentions (placed_ref to.now) ++ uses Condition cond.now place ∷ [])) }
-{
-    tri!(target(mentions, to));
-    mentions.uses(Wanted::Condition, cond, place)
-}
-
-/// An assignment of what an entry answers.
-fn answered<'a>(
-    mentions: &mut Mentions<'a>,
-    to: &'a Ref,
-    monitor: (&'a Name, Place),
-    entry: (&'a Name, Place),
-    args: &'a [Expr],
-) -> Result<(), AllocError>
-    ensures { OnOk result (mentions.new ≡ mentions.old ++ (ref_mentions (placed_ref to.now) ++
-        entry_mentions monitor.entry.0.now monitor.entry.1 entry.entry.0.now entry.entry.1
-        (placed_exprs args.now))) }
-{
-    tri!(target(mentions, to));
-    entry_call(mentions, monitor.0, monitor.1, entry.0, entry.1, args)
-}
-
-/// A `get`.
-fn get<'a>(
-    mentions: &mut Mentions<'a>,
-    device: &'a Name,
-    place: Place,
-    to: &'a Ref,
-) -> Result<(), AllocError>
-    ensures { OnOk result (mentions.new ≡ mentions.old ++
-        uses Device device.now place ∷ ref_mentions (placed_ref to.now)) }
-{
-    tri!(mentions.uses(Wanted::Device, device, place));
-    target(mentions, to)
-}
-
-/// A `put`.
-fn put<'a>(
-    mentions: &mut Mentions<'a>,
-    device: &'a Name,
-    place: Place,
-    value: &'a Expr,
-) -> Result<(), AllocError>
-    ensures { OnOk result (mentions.new ≡ mentions.old ++
-        uses Device device.now place ∷ expr_mentions (placed_expr value.now)) }
-{
-    tri!(mentions.uses(Wanted::Device, device, place));
-    expr(mentions, value)
-}
-
-/// A `wait`.
-fn wait<'a>(
-    mentions: &mut Mentions<'a>,
-    cond: &'a Name,
-    place: Place,
-    limit: &'a Constant,
-    number: &'a Constant,
-) -> Result<(), AllocError>
-    ensures { OnOk result (mentions.new ≡ mentions.old ++ uses Condition cond.now place ∷
-        bounds_mentions (placed_constant limit.now) (placed_constant number.now)) }
-{
-    tri!(mentions.uses(Wanted::Condition, cond, place));
-    bounds(mentions, limit, number)
-}
-
 /// A statement that is an assignment or a call.
 fn change<'a>(mentions: &mut Mentions<'a>, s: &'a Stmt) -> Result<(), AllocError>
     ensures { OnOk result (mentions.new ≡ mentions.old ++
         mentions_if is_change (placed_stmt s.now)) }
 {
     match s {
-        Stmt::Assign { target: to, value } => assignment(mentions, to, value),
+        Stmt::Assign { target: to, value } => {
+            tri!(target(mentions, to));
+            expr(mentions, value)
+        }
         Stmt::AssignEntry {
             target: to,
             mon,
@@ -163,19 +65,29 @@ fn change<'a>(mentions: &mut Mentions<'a>, s: &'a Stmt) -> Result<(), AllocError
             entry,
             entry_place,
             args,
-        } => answered(
-            mentions,
-            to,
-            (mon, *mon_place),
-            (entry, *entry_place),
-            args.as_slice(),
-        ),
+        } => {
+            tri!(target(mentions, to));
+            entry_call(
+                mentions,
+                mon,
+                *mon_place,
+                entry,
+                *entry_place,
+                args.as_slice(),
+            )
+        }
         Stmt::AssignEmpty {
             target: to,
             cond,
             cond_place,
-        } => emptiness(mentions, to, cond, *cond_place),
-        Stmt::Call { place, name, args } => routine_call(mentions, name, *place, args.as_slice()),
+        } => {
+            tri!(target(mentions, to));
+            mentions.uses(Wanted::Condition, cond, *cond_place)
+        }
+        Stmt::Call { place, name, args } => {
+            tri!(mentions.uses(Wanted::Routine, name, *place));
+            exprs(mentions, args.as_slice())
+        }
         Stmt::CallEntry {
             place,
             mon,
@@ -206,20 +118,29 @@ fn simple<'a>(mentions: &mut Mentions<'a>, s: &'a Stmt) -> Result<(), AllocError
             device_place,
             target: to,
             ..
-        } => get(mentions, device, *device_place, to),
+        } => {
+            tri!(mentions.uses(Wanted::Device, device, *device_place));
+            target(mentions, to)
+        }
         Stmt::Put {
             device,
             device_place,
             value,
             ..
-        } => put(mentions, device, *device_place, value),
+        } => {
+            tri!(mentions.uses(Wanted::Device, device, *device_place));
+            expr(mentions, value)
+        }
         Stmt::Wait {
             cond,
             cond_place,
             limit,
             number,
             ..
-        } => wait(mentions, cond, *cond_place, limit, number),
+        } => {
+            tri!(mentions.uses(Wanted::Condition, cond, *cond_place));
+            bounds(mentions, limit, number)
+        }
         Stmt::Signal {
             cond, cond_place, ..
         }
