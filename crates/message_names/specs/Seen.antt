@@ -1,6 +1,6 @@
 -- What contracts see of the code's lists of names.
 use Rattle.std.specs.Prelude.{Bool, true, false, List, [], map, Option, option_map, if◌then◌else◌}
-use Rattle.syntax_tree.specs.Placed.{Stmt, assign, assign_entry, assign_empty, perform, perform_entry, exit_when, get, put, wait, signal, broadcast, except, assert}
+use Rattle.syntax_tree.specs.Placed.{Stmt, assign, assign_entry, assign_empty, perform, perform_entry, when, when_else, loop}
 use Rattle.syntax_tree.specs.declared.place.Place.{Place}
 use Rattle.message_names.specs.declared.mentions.Mention as code_mention
 use Rattle.message_names.specs.Mentions.{Mention, stmt_mentions}
@@ -25,17 +25,12 @@ is_change (perform p name es) = true
 is_change (perform_entry p mon entry q es) = true
 is_change s = false
 
--- neither one of these, nor one in which others stand
-abbrev pub is_simple : Stmt Place → Bool
-is_simple (exit_when p e) = true
-is_simple (get p dev q r) = true
-is_simple (put p dev q e) = true
-is_simple (wait p cond q limit number) = true
-is_simple (signal p cond q) = true
-is_simple (broadcast p cond q) = true
-is_simple (except p number) = true
-is_simple (assert p e) = true
-is_simple s = false
+-- in the statement no others stand
+abbrev pub is_plain : Stmt Place → Bool
+is_plain (when p e a) = false
+is_plain (when_else p e a b) = false
+is_plain (loop p name q low high a) = false
+is_plain s = true
 
 -- the names of a statement, if it is so
 abbrev pub mentions_if : (Stmt Place → Bool) → Stmt Place → List Mention

@@ -1,7 +1,7 @@
 //! What a name does where it stands.
 
 ghost use Rattle.std.specs.Prelude.{◌≡◌};
-ghost use Rattle.message_names.specs.Mentions.{before_all, scope_from};
+ghost use Rattle.message_names.specs.Mentions.{scope_from};
 ghost use Rattle.message_names.specs.Reach.{declared, is_entry, monitor_before, scope_begin};
 
 use syntax_tree::Place;

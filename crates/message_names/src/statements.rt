@@ -4,7 +4,7 @@ ghost use Rattle.std.specs.Prelude.{◌≡◌, ◌++◌, OnOk};
 ghost use Rattle.syntax_tree.specs.Placed.{placed_constant, placed_exprs, placed_stmt, placed_stmts};
 ghost use Rattle.message_names.specs.declared.role.What.TheVariants.{LoopVariable};
 ghost use Rattle.message_names.specs.Mentions.{bounds_mentions, declares, entry_mentions, loop_mentions, stmt_mentions, stmts_mentions};
-ghost use Rattle.message_names.specs.Seen.{is_change, is_simple, mention_of, mentions_if};
+ghost use Rattle.message_names.specs.Seen.{is_change, is_plain, mention_of, mentions_if};
 
 use crate::errors::tri;
 use crate::expressions::{bounds, constant, expr, exprs, target};
@@ -106,10 +106,10 @@ fn change<'a>(mentions: &mut Mentions<'a>, s: &'a Stmt) -> Result<(), AllocError
     }
 }
 
-/// A statement that is neither an assignment nor a call, and in which no others stand.
-fn simple<'a>(mentions: &mut Mentions<'a>, s: &'a Stmt) -> Result<(), AllocError>
+/// A statement in which no others stand.
+fn plain<'a>(mentions: &mut Mentions<'a>, s: &'a Stmt) -> Result<(), AllocError>
     ensures { OnOk result (mentions.new ≡ mentions.old ++
-        mentions_if is_simple (placed_stmt s.now)) }
+        mentions_if is_plain (placed_stmt s.now)) }
 {
     match s {
         Stmt::ExitWhen { test, .. } | Stmt::Assert { test, .. } => expr(mentions, test),
@@ -148,7 +148,12 @@ fn simple<'a>(mentions: &mut Mentions<'a>, s: &'a Stmt) -> Result<(), AllocError
             cond, cond_place, ..
         } => mentions.uses(Wanted::Condition, cond, *cond_place),
         Stmt::Except { number, .. } => constant(mentions, number),
-        _ => Ok(()),
+        Stmt::Assign { .. }
+        | Stmt::AssignEntry { .. }
+        | Stmt::AssignEmpty { .. }
+        | Stmt::Call { .. }
+        | Stmt::CallEntry { .. } => change(mentions, s),
+        Stmt::If { .. } | Stmt::For { .. } => Ok(()),
     }
 }
 
@@ -213,11 +218,6 @@ fn stmt<'a>(mentions: &mut Mentions<'a>, s: &'a Stmt) -> Result<(), AllocError>
             body,
             ..
         } => for_loop(mentions, (name, *name_place), low, high, body.as_slice()),
-        Stmt::Assign { .. }
-        | Stmt::AssignEntry { .. }
-        | Stmt::AssignEmpty { .. }
-        | Stmt::Call { .. }
-        | Stmt::CallEntry { .. } => change(mentions, s),
-        _ => simple(mentions, s),
+        _ => plain(mentions, s),
     }
 }

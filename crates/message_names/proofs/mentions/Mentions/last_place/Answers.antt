@@ -5,5 +5,5 @@ use Rattle.message_names.proofs.mentions.Mentions.last_place.Goals as goal
 
 pub returns : goal.returns
 returns c =
-    last-at c.args.place c.self.inside.items c.index.result.now (c.len-count.result - 1) (omega arith) (omega arith) c.index.ensures
+    last-at c.args.place c.self.inside.items.items c.index.result.now (c.len-count.result - 1) (omega arith) c.index.ensures
     ∙ ap (last_place c.args.place) c.self.view_is
