@@ -2,7 +2,7 @@
 
 ghost use Rattle.std.specs.Prelude.{◌≡◌, ◌++◌, OnOk};
 ghost use Rattle.message_names.specs.Seen.{mention_of};
-ghost use Rattle.message_names.specs.Told.{misclosed, misused, sentence_of, taken, undeclared_behind};
+ghost use Rattle.message_names.specs.Told.{closed, misclosed, misused, name_of, sentence_of, taken, undeclared_behind};
 
 use crate::lookup::{closed, meaning, name_at, name_of};
 use crate::mentions::{Mention, Mentions};
@@ -69,6 +69,19 @@ fn add_misclosed(text: &mut Text, name: &[u8], wanted: &[u8]) -> Result<(), Allo
     add_quoted(text, wanted)
 }
 
+/// Puts that a closing name closes nothing, and which it has to repeat.
+fn add_closing(
+    text: &mut Text,
+    mentions: &Mentions<'_>,
+    mention: &Mention<'_>,
+) -> Result<(), AllocError>
+    ensures { let m = mention_of mention.now in OnOk result (text.new ≡ text.old ++
+        misclosed m.name (name_of (closed mentions.now m.role))) }
+{
+    let wanted = name_of(closed(mentions, mention.role));
+    add_misclosed(text, mention.name, wanted)
+}
+
 /// Puts what is wrong with a name by the rule of this number.
 pub(crate) fn add_sentence(
     text: &mut Text,
@@ -93,6 +106,6 @@ pub(crate) fn add_sentence(
             words_of(meaning(mentions, mention)),
             wanted_at(mention.role),
         ),
-        _ => add_misclosed(text, mention.name, name_of(closed(mentions, mention.role))),
+        _ => add_closing(text, mentions, mention),
     }
 }
