@@ -86,7 +86,7 @@ of-fails g place part (inr (inr (inr (inr (inr (inr (inr (inr h)))))))) = absurd
 failure : (g : Prog Place) (place : Place) (ps : List Part) → IsSome (first_mismatch g place ps) → FailsAmong (statement_rules g) ps 30 place
 failure g place [] h = cc
 failure g place (p ∷ ps) h = elim (either (mismatch_at g place p) (first_mismatch g place ps) h) [
-  inl here ↦ inl (fails-of g place p (is-there place (mistyped (named_at g) p) (sym (at-part g place p) ∙ here)))
+  | inl here ↦ inl (fails-of g place p (is-there place (mistyped (named_at g) p) (sym (at-part g place p) ∙ here)))
   | inr later ↦ inr (failure g place ps later)
 ]
 

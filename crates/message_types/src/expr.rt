@@ -31,13 +31,11 @@ fn miscounted<'p>(routine: &'p [u8], params: &[Param], args: &[Expr]) -> Option<
     if args.len() == params.len() {
         return None;
     }
-    Some(
-        Mismatch::CountsDiffer {
-            routine,
-            wanted: params.len(),
-            found: args.len(),
-        },
-    )
+    Some(Mismatch::CountsDiffer {
+        routine,
+        wanted: params.len(),
+        found: args.len(),
+    })
 }
 
 /// The first mismatch in an expression; what stands inside comes before what is around it.

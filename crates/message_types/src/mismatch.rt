@@ -13,10 +13,7 @@ pub(crate) enum Spot<'p> {
     GotInto(&'p [u8]),
     PutTo(&'p [u8]),
     /// An argument of a routine, by its number from 1.
-    Argument {
-        number: usize,
-        routine: &'p [u8],
-    },
+    Argument { number: usize, routine: &'p [u8] },
     IndexOf(&'p [u8]),
     LeftOf(Op),
     RightOf(Op),
@@ -41,7 +38,11 @@ pub(crate) enum Mismatch<'p> {
         found: usize,
     },
     /// An array stands without an index.
-    LacksIndex { array: &'p [u8] },
+    LacksIndex {
+        array: &'p [u8],
+    },
     /// What is no array stands with an index.
-    HasIndex { name: &'p [u8] },
+    HasIndex {
+        name: &'p [u8],
+    },
 }

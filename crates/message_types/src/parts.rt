@@ -39,6 +39,7 @@ fn stmt_place(s: &Stmt) -> Place
 }
 
 /// What does not agree in a statement at the place, those in it aside.
+#[tactic(auto, using(crate::proofs::Looking::stmt_by_place))]
 fn at_stmt<'p>(declarations: &Declarations<'_>, place: Place, s: &'p Stmt) -> Option<Mismatch<'p>>
     ensures { (here : Where) → option_map mismatch_of result ≡
         mismatch_at (placed declarations.now) place (statement here (placed_stmt s.now)) }
@@ -51,6 +52,7 @@ fn at_stmt<'p>(declarations: &Declarations<'_>, place: Place, s: &'p Stmt) -> Op
 }
 
 /// What does not agree in the result of a function whose name stands at the place.
+#[tactic(auto, using(crate::proofs::Looking::answer_by_place))]
 fn at_answer<'p>(
     declarations: &Declarations<'p>,
     place: Place,

@@ -130,11 +130,19 @@ pub(crate) fn add_sentence(
     ensures { OnOk result (text.new ≡ text.old ++ sentence (mismatch_of mismatch)) }
 {
     match mismatch {
-        Mismatch::SortsDiffer { spot, wanted, found } => {
+        Mismatch::SortsDiffer {
+            spot,
+            wanted,
+            found,
+        } => {
             add_spot(text, spot)?;
             add_sorts(text, wanted, found)
         }
-        Mismatch::CountsDiffer { routine, wanted, found } => {
+        Mismatch::CountsDiffer {
+            routine,
+            wanted,
+            found,
+        } => {
             add_named(text, b"arguments of ", routine)?;
             add_counts(text, wanted, found)
         }

@@ -54,12 +54,10 @@ fn is_array(declarations: &Declarations<'_>, place: Place) -> bool
 {
     matches!(
         declarations.named(place),
-        Some(
-            Entity::Variable {
-                shape: VarType::Many(_),
-                ..
-            },
-        )
+        Some(Entity::Variable {
+            shape: VarType::Many(_),
+            ..
+        },)
     )
 }
 
@@ -137,13 +135,11 @@ pub(crate) fn differ(
     if wanted == found {
         return None;
     }
-    Some(
-        Mismatch::SortsDiffer {
-            spot,
-            wanted,
-            found,
-        },
-    )
+    Some(Mismatch::SortsDiffer {
+        spot,
+        wanted,
+        found,
+    })
 }
 
 /// An array that is used without an index.

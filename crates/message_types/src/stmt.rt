@@ -33,10 +33,7 @@ fn target_sort(declarations: &Declarations<'_>, target: &Ref) -> Option<Sort>
 }
 
 /// The first mismatch in what is assigned to.
-fn target_mismatch<'p>(
-    declarations: &Declarations<'_>,
-    target: &'p Ref,
-) -> Option<Mismatch<'p>>
+fn target_mismatch<'p>(declarations: &Declarations<'_>, target: &'p Ref) -> Option<Mismatch<'p>>
     ensures { option_map mismatch_of result ≡
         mismatch_in_target (named_at (placed declarations.now)) (placed_ref target.now) }
 {
@@ -104,10 +101,7 @@ fn answer_mismatch<'p>(
 }
 
 /// The first mismatch in an assignment of whether nobody waits.
-fn empty_mismatch<'p>(
-    declarations: &Declarations<'_>,
-    target: &'p Ref,
-) -> Option<Mismatch<'p>>
+fn empty_mismatch<'p>(declarations: &Declarations<'_>, target: &'p Ref) -> Option<Mismatch<'p>>
     ensures { let named = named_at (placed declarations.now) in
         let target = placed_ref target.now in
         option_map mismatch_of result ≡ option_or (mismatch_in_target named target)
@@ -120,10 +114,7 @@ fn empty_mismatch<'p>(
 }
 
 /// The first mismatch in what is got from a device.
-fn get_mismatch<'p>(
-    declarations: &Declarations<'_>,
-    target: &'p Ref,
-) -> Option<Mismatch<'p>>
+fn get_mismatch<'p>(declarations: &Declarations<'_>, target: &'p Ref) -> Option<Mismatch<'p>>
     ensures { let named = named_at (placed declarations.now) in
         let target = placed_ref target.now in
         option_map mismatch_of result ≡ option_or (mismatch_in_target named target)
@@ -183,7 +174,12 @@ pub(crate) fn stmt_mismatch<'p>(
         Stmt::Assert { test, .. } => unfit(declarations, Spot::Assert, Sort::Truth, test),
         Stmt::Get { target, .. } => get_mismatch(declarations, target),
         Stmt::Put { device, value, .. } => {
-            unfit(declarations, Spot::PutTo(device.as_bytes()), Sort::Number, value)
+            unfit(
+                declarations,
+                Spot::PutTo(device.as_bytes()),
+                Sort::Number,
+                value,
+            )
         }
         Stmt::For { .. }
         | Stmt::Wait { .. }
