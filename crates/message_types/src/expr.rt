@@ -74,7 +74,7 @@ pub(crate) fn unfit<'p>(
     e: &'p Expr,
 ) -> Option<Mismatch<'p>>
     ensures { option_map mismatch_of result ≡ is_unfit (named_at (placed declarations.now))
-        (spot_of spot) wanted (placed_expr e.now) }
+        (spot_of spot.entry) wanted (placed_expr e.now) }
 {
     match mismatch(declarations, e) {
         Some(found) => Some(found),

@@ -74,7 +74,7 @@ fn at_answer<'p>(
 /// Keeps what does not agree, where nothing is known yet.
 fn keep<'p>(known: &mut Option<Mismatch<'p>>, found: Option<Mismatch<'p>>)
     ensures { option_map mismatch_of known.new ≡
-        option_or (option_map mismatch_of known.old) (option_map mismatch_of found) }
+        option_or (option_map mismatch_of known.old) (option_map mismatch_of found.entry) }
 {
     if known.is_none() {
         *known = found;

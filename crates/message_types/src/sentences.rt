@@ -64,7 +64,7 @@ fn add_argument(text: &mut Text, number: usize, routine: &[u8]) -> Result<(), Al
 
 /// Puts where a value of a sort is wanted.
 fn add_spot(text: &mut Text, spot: Spot<'_>) -> Result<(), AllocError>
-    ensures { OnOk result (text.new ≡ text.old ++ spot_words (spot_of spot)) }
+    ensures { OnOk result (text.new ≡ text.old ++ spot_words (spot_of spot.entry)) }
 {
     match spot {
         Spot::If => text.extend(b"`if`"),
@@ -127,7 +127,7 @@ pub(crate) fn add_sentence(
     text: &mut Text,
     mismatch: Mismatch<'_>,
 ) -> Result<(), AllocError>
-    ensures { OnOk result (text.new ≡ text.old ++ sentence (mismatch_of mismatch)) }
+    ensures { OnOk result (text.new ≡ text.old ++ sentence (mismatch_of mismatch.entry)) }
 {
     match mismatch {
         Mismatch::SortsDiffer {

@@ -129,7 +129,7 @@ pub(crate) fn differ(
     wanted: Option<Sort>,
     found: Option<Sort>,
 ) -> Option<Mismatch<'_>>
-    ensures { option_map mismatch_of result ≡ differ_at (spot_of spot) wanted found }
+    ensures { option_map mismatch_of result ≡ differ_at (spot_of spot.entry) wanted found }
 {
     let (wanted, found) = (wanted?, found?);
     if wanted == found {
@@ -184,13 +184,11 @@ pub(crate) fn misjoined(
     ensures { option_map mismatch_of result ≡ is_misjoined (op_of op) left right }
 {
     let wanted = wants(op);
-    let at_left = differ(Spot::LeftOf(op), wanted, left);
-    if at_left.is_some() {
-        return at_left;
+    match differ(Spot::LeftOf(op), wanted, left) {
+        Some(found) => Some(found),
+        None => match differ(Spot::RightOf(op), wanted, right) {
+            Some(found) => Some(found),
+            None => differ(Spot::RightOf(op), left, right),
+        },
     }
-    let at_right = differ(Spot::RightOf(op), wanted, right);
-    if at_right.is_some() {
-        return at_right;
-    }
-    differ(Spot::RightOf(op), left, right)
 }
