@@ -1,1 +1,4 @@
 pub mod Walks
+pub mod Found
+pub mod Told
+pub mod Examples

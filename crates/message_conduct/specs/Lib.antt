@@ -2,3 +2,4 @@ pub mod Faults
 pub mod Sentences
 pub mod Conduct
 pub mod Seen
+pub mod Laws

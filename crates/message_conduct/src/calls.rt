@@ -146,7 +146,10 @@ pub(crate) fn term<'a>(
 ) -> Option<Stray<'a>>
     ensures { seen result ≡ term_fault name.now (named_at (placed declarations.now) place) }
 {
-    first(no_value(declarations, None, name, place), bare_entry(declarations, place))
+    first(
+        no_value(declarations, None, name, place),
+        bare_entry(declarations, place),
+    )
 }
 
 /// The call of an entry by its bare name, as a statement.
@@ -174,7 +177,10 @@ pub(crate) fn call<'a>(
 ) -> Option<Stray<'a>>
     ensures { seen result ≡ call_fault home name.now (named_at (placed declarations.now) place) }
 {
-    let around = first(procedure_inside(home), by_function(home, Deed::CallsProcedure));
+    let around = first(
+        procedure_inside(home),
+        by_function(home, Deed::CallsProcedure),
+    );
     let kind = as_statement(declarations, None, name, place);
     first(called_entry(declarations, home, place), first(kind, around))
 }
@@ -191,7 +197,10 @@ pub(crate) fn entry_call<'a>(
         (named_at (placed declarations.now) place) }
 {
     let kind = as_statement(declarations, Some(monitor), name, place);
-    first(entry_inside(home), first(kind, by_function(home, Deed::CallsEntry)))
+    first(
+        entry_inside(home),
+        first(kind, by_function(home, Deed::CallsEntry)),
+    )
 }
 
 /// An assignment of what an entry of a monitor answers.
@@ -206,5 +215,8 @@ pub(crate) fn entry_value<'a>(
         (named_at (placed declarations.now) place) }
 {
     let kind = no_value(declarations, Some(monitor), name, place);
-    first(entry_inside(home), first(kind, by_function(home, Deed::CallsEntry)))
+    first(
+        entry_inside(home),
+        first(kind, by_function(home, Deed::CallsEntry)),
+    )
 }

@@ -54,10 +54,7 @@ pub(crate) fn exprs_stray<'a>(
 
 /// The same of the right operands of a row.
 #[cycle(strays)]
-fn operands_stray<'a>(
-    declarations: &Declarations<'_>,
-    rest: &'a [(Op, Expr)],
-) -> Option<Stray<'a>>
+fn operands_stray<'a>(declarations: &Declarations<'_>, rest: &'a [(Op, Expr)]) -> Option<Stray<'a>>
     ensures { seen result ≡ operands_fault (named_at (placed declarations.now))
         (placed_operands rest.now) }
 {

@@ -146,10 +146,24 @@ pub(crate) fn add_sentence(
         Stray::ProcedureInside => text.extend(b"inside an entry no procedure is called"),
         Stray::ByFunction { own, deed } => add_by_function(text, routine_name(own, list), deed),
         Stray::AsStatement { monitor, name } => {
-            add_call(text, alloc, b"the function ", monitor, name, b" stands as a statement")
+            add_call(
+                text,
+                alloc,
+                b"the function ",
+                monitor,
+                name,
+                b" stands as a statement",
+            )
         }
         Stray::NoValue { monitor, name } => {
-            add_call(text, alloc, b"", monitor, name, b" is a procedure and gives no value")
+            add_call(
+                text,
+                alloc,
+                b"",
+                monitor,
+                name,
+                b" is a procedure and gives no value",
+            )
         }
         Stray::OutsideLoop => text.extend(b"`exit` stands outside a loop"),
         Stray::OutDevice(name) => add_among(

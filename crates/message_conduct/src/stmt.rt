@@ -152,11 +152,7 @@ fn is_device(declarations: &Declarations<'_>, wants_out: bool, place: Place) -> 
 }
 
 /// The device of a `get` or a `put` that has the other direction.
-fn misdirected<'a>(
-    declarations: &Declarations<'_>,
-    here: Where,
-    s: &'a Stmt,
-) -> Option<Stray<'a>>
+fn misdirected<'a>(declarations: &Declarations<'_>, here: Where, s: &'a Stmt) -> Option<Stray<'a>>
     ensures { seen result ≡ direction_fault (named_at (placed declarations.now))
         (statement here (placed_stmt s.now)) }
 {

@@ -36,7 +36,10 @@ pub(crate) enum Stray<'a> {
     /// A procedure is called inside an entry.
     ProcedureInside,
     /// A function that is no entry, by the place of its name, does that.
-    ByFunction { own: Place, deed: Deed<'a> },
+    ByFunction {
+        own: Place,
+        deed: Deed<'a>,
+    },
     /// A function is called as a statement.
     AsStatement {
         monitor: Option<&'a Name>,

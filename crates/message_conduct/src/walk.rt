@@ -227,10 +227,22 @@ fn decl<'a>(
         Declaration::Const { .. } | Declaration::Device { .. } | Declaration::Event { .. } => {}
         Declaration::Routine(one) => routine(known, declarations, broken, false, one),
         Declaration::Monitor(monitor) => {
-            routines(known, declarations, broken, true, monitor.entries.as_slice());
+            routines(
+                known,
+                declarations,
+                broken,
+                true,
+                monitor.entries.as_slice(),
+            );
         }
         Declaration::Process(process) => {
-            routines(known, declarations, broken, false, process.routines.as_slice());
+            routines(
+                known,
+                declarations,
+                broken,
+                false,
+                process.routines.as_slice(),
+            );
             stmts(
                 known,
                 declarations,
