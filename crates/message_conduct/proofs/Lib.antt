@@ -1,4 +1,4 @@
 pub mod Walks
 pub mod Found
-pub mod Told
+pub mod Telling
 pub mod Examples

@@ -128,6 +128,48 @@ fn add_by_function(text: &mut Text, own: &[u8], deed: Deed<'_>) -> Result<(), Al
     add_denied(text, deed)
 }
 
+/// Puts that a function is called as a statement.
+fn add_as_statement(
+    text: &mut Text,
+    alloc: Global,
+    monitor: Option<&Name>,
+    name: &Name,
+) -> Result<(), AllocError>
+    ensures { OnOk result (text.new ≡ text.old ++
+        among (codes "the function ") (called (monitor_name monitor.entry) name.now)
+        (codes " stands as a statement")) }
+{
+    add_call(
+        text,
+        alloc,
+        b"the function ",
+        monitor,
+        name,
+        b" stands as a statement",
+    )
+}
+
+/// Puts that a value is asked of a procedure.
+fn add_no_value(
+    text: &mut Text,
+    alloc: Global,
+    monitor: Option<&Name>,
+    name: &Name,
+) -> Result<(), AllocError>
+    ensures { OnOk result (text.new ≡ text.old ++
+        among [] (called (monitor_name monitor.entry) name.now)
+        (codes " is a procedure and gives no value")) }
+{
+    add_call(
+        text,
+        alloc,
+        b"",
+        monitor,
+        name,
+        b" is a procedure and gives no value",
+    )
+}
+
 /// Puts what is said of what is wrong in a program of these declarations.
 pub(crate) fn add_sentence(
     text: &mut Text,
@@ -145,26 +187,8 @@ pub(crate) fn add_sentence(
         Stray::EntryInside => text.extend(b"inside an entry no entry is called"),
         Stray::ProcedureInside => text.extend(b"inside an entry no procedure is called"),
         Stray::ByFunction { own, deed } => add_by_function(text, routine_name(own, list), deed),
-        Stray::AsStatement { monitor, name } => {
-            add_call(
-                text,
-                alloc,
-                b"the function ",
-                monitor,
-                name,
-                b" stands as a statement",
-            )
-        }
-        Stray::NoValue { monitor, name } => {
-            add_call(
-                text,
-                alloc,
-                b"",
-                monitor,
-                name,
-                b" is a procedure and gives no value",
-            )
-        }
+        Stray::AsStatement { monitor, name } => add_as_statement(text, alloc, monitor, name),
+        Stray::NoValue { monitor, name } => add_no_value(text, alloc, monitor, name),
         Stray::OutsideLoop => text.extend(b"`exit` stands outside a loop"),
         Stray::OutDevice(name) => add_among(
             text,

@@ -1,4 +1,4 @@
-use Rattle.message_conduct.proofs.Told.{tells-each}
+use Rattle.message_conduct.proofs.Telling.{tells-each}
 use Rattle.message_conduct.proofs.laws.tells_each.Goals as goal
 
 pub returns : goal.returns

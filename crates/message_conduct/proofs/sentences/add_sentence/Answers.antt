@@ -1,10 +1,10 @@
 use Rattle.message_conduct.proofs.sentences.add_sentence.Goals as goal
 
 pub returns-in-AsStatement : goal.returns-in-AsStatement
-returns-in-AsStatement c = rw c.in-AsStatement.is c.add_call.ensures
+returns-in-AsStatement c = rw c.in-AsStatement.is c.add_as_statement.ensures
 
 pub returns-in-NoValue : goal.returns-in-NoValue
-returns-in-NoValue c = rw c.in-NoValue.is c.add_call-in-NoValue.ensures
+returns-in-NoValue c = rw c.in-NoValue.is c.add_no_value.ensures
 
 pub returns-in-OutsideLoop : goal.returns-in-OutsideLoop
 returns-in-OutsideLoop c = rw c.in-OutsideLoop.is c.extend-in-OutsideLoop.ensures.ok
