@@ -1,5 +1,5 @@
 -- There is a sentence exactly where one of the two rules fails.
-use Rattle.std.proofs.Common.{◌≡◌, ◌⊎◌, inl, inr, ℕ, Bool, true, false, ◌&&◌, cond, List, [], ◌∷◌, Option, Some, None, option_map, nat_eq, refl, sym, ap, ◌∙◌, subst, if◌then◌else◌, arith, absurd}
+use Rattle.std.proofs.Common.{◌≡◌, ◌⊎◌, inl, inr, ℕ, Bool, true, false, ◌&&◌, cond, List, [], ◌∷◌, Option, Some, None, option_map, nat_eq, refl, sym, ap, ◌∙◌, subst, if◌then◌else◌, arith}
 use Rattle.std.specs.Prelude.{◌↔◌}
 use Rattle.std.specs.Option.{is_some, option_or}
 use Rattle.std.proofs.lemmas.Bool.Decides.{nat_tests}
@@ -81,6 +81,7 @@ module _ (g : Prog Place) (p : Place) (x : Part) where
   misplaced-of (inr (inr (inr (inr (inr (inl h)))))) = absurd (let e = h.0 in omega arith)
   misplaced-of (inr (inr (inr (inr (inr (inr (inl h))))))) = absurd (let e = h.0 in omega arith)
   misplaced-of (inr (inr (inr (inr (inr (inr (inr (inl h)))))))) = absurd (let e = h.0 in omega arith)
+  misplaced-of (inr (inr (inr (inr (inr (inr (inr (inr none)))))))) = elim none [ ]
 
   of-misplaced : misplaced (named_at g) x ≡ Some p → FailsOf (statement_rules g) x 34 p
   unfolding statement_rules
@@ -96,6 +97,7 @@ module _ (g : Prog Place) (p : Place) (x : Part) where
   misdirected-of (inr (inr (inr (inr (inr (inl h)))))) = h.1
   misdirected-of (inr (inr (inr (inr (inr (inr (inl h))))))) = absurd (let e = h.0 in omega arith)
   misdirected-of (inr (inr (inr (inr (inr (inr (inr (inl h)))))))) = absurd (let e = h.0 in omega arith)
+  misdirected-of (inr (inr (inr (inr (inr (inr (inr (inr none)))))))) = elim none [ ]
 
   of-misdirected : misdirected (named_at g) x ≡ Some p → FailsOf (statement_rules g) x 38 p
   unfolding statement_rules
@@ -105,17 +107,18 @@ module _ (g : Prog Place) (p : Place) (x : Part) where
 
 module _ (g : Prog Place) (n : ℕ) (p : Place) (to : (x : Part) → FailsOf (statement_rules g) x n p → is_some (fault_at (named_at g) (record { number = n; place = p }) x) ≡ true) where
   some-found : (xs : List Part) → FailsAmong (statement_rules g) xs n p → is_some (first_fault (named_at g) (record { number = n; place = p }) xs) ≡ true
+  some-found [] none = elim none [ ]
   some-found (x ∷ xs) (inl one) = or-one (fault_at (named_at g) (record { number = n; place = p }) x) _ (to x one)
   some-found (x ∷ xs) (inr more) = or-other (fault_at (named_at g) (record { number = n; place = p }) x) _ (some-found xs more)
 
 module _ (g : Prog Place) (n : ℕ) (p : Place) (back : (x : Part) → is_some (fault_at (named_at g) (record { number = n; place = p }) x) ≡ true → FailsOf (statement_rules g) x n p) where
   some-fails : (xs : List Part) → is_some (first_fault (named_at g) (record { number = n; place = p }) xs) ≡ true → FailsAmong (statement_rules g) xs n p
   some-fails [] is = cc
-  some-fails (x ∷ xs) is = by (one-or (fault_at (named_at g) (record { number = n; place = p }) x) _ is)
+  some-fails (x ∷ xs) is = by (one-or (fault_at (named_at g) (record { number = n; place = p }) x) _ is) (some-fails xs)
     where
-      by : (is_some (fault_at (named_at g) (record { number = n; place = p }) x) ≡ true) ⊎ (is_some (first_fault (named_at g) (record { number = n; place = p }) xs) ≡ true) → FailsAmong (statement_rules g) (x ∷ xs) n p
-      by (inl one) = inl (back x one)
-      by (inr more) = inr (some-fails xs more)
+      by : (is_some (fault_at (named_at g) (record { number = n; place = p }) x) ≡ true) ⊎ (is_some (first_fault (named_at g) (record { number = n; place = p }) xs) ≡ true) → (is_some (first_fault (named_at g) (record { number = n; place = p }) xs) ≡ true → FailsAmong (statement_rules g) xs n p) → FailsAmong (statement_rules g) (x ∷ xs) n p
+      by (inl one) others = inl (back x one)
+      by (inr more) others = inr (others more)
 
 -- ---- whole programs
 
