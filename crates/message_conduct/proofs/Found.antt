@@ -3,7 +3,7 @@ use Rattle.std.proofs.Common.{◌≡◌, Bool, true, false, not, ◌&&◌, ◌||
 use Rattle.std.specs.Option.{is_some, option_or}
 use Rattle.std.proofs.Math.Bool.{or_comm, or-true}
 use Rattle.syntax_tree.specs.Plain.{Name}
-use Rattle.syntax_tree.specs.Placed.{Expr, literal, truth, variable, element, call, minus, negation, paren, row, Exprs, no_exprs, exprs, Operands, no_operands, operand, Ref, whole, part, Stmt, assign, assign_entry, assign_empty, perform, perform_entry, when, when_else, loop, exit_when, get, put, wait, signal, broadcast, except, assert, RoutineKind, procedure, function}
+use Rattle.syntax_tree.specs.Placed.{Expr, literal, truth, variable, element, call, minus, negation, paren, row, Exprs, no_exprs, exprs, Operands, no_operands, operand, Ref, whole, part, Stmt, assign, assign_entry, assign_empty, perform, perform_entry, when, when_else, loop, exit_when, get, put, wait, signal, broadcast, except, assert}
 use Rattle.syntax_tree.specs.declared.place.Place.{Place}
 use Rattle.static_declarations.specs.declared.home.StmtContext.{StmtContext}
 use Rattle.static_declarations.specs.declared.home.StmtContext.TheVariants as home_is
@@ -11,8 +11,8 @@ use Rattle.static_declarations.specs.declared.home.Where.{Where}
 use Rattle.static_declarations.specs.Things.{Thing, constant_thing, device_thing, routine_thing, variable_thing, loop_thing, other_thing}
 use Rattle.static_declarations.specs.Parts.{Part, statement, answer, stmt_place}
 use Rattle.static_types.specs.Sorts.{Named}
-use Rattle.static_types.specs.Conduct.{is_function_kind, is_function, is_procedure, is_barred, strays, exprs_stray, operands_stray, is_foreign, target_strays, in_entry, in_function, calls_nothing, stmt_strays, misplaced, is_device, misdirected}
-use Rattle.message_conduct.specs.Faults.{Deed, Fault, word_fault, function_fault, entry_fault, procedure_fault, statement_fault, value_fault, is_entry, term_fault, call_fault, entry_call_fault, entry_value_fault, exit_fault, expr_fault, exprs_fault, operands_fault, change_fault, target_fault, stmt_fault, conduct_fault, direction_fault}
+use Rattle.static_types.specs.Conduct.{is_function_kind, is_function, is_procedure, is_barred, strays, exprs_stray, operands_stray, is_foreign, target_strays, in_entry, in_function, stmt_strays, misplaced, is_device, misdirected}
+use Rattle.message_conduct.specs.Faults.{Deed, Fault, function_fault, entry_fault, is_entry, term_fault, call_fault, entry_call_fault, entry_value_fault, expr_fault, exprs_fault, operands_fault, change_fault, target_fault, stmt_fault, conduct_fault, direction_fault}
 use Rattle.message_conduct.specs.Conduct.{part_place}
 
 -- ---- choices

@@ -1,4 +1,3 @@
 pub mod Walks
 pub mod Found
 pub mod Telling
-pub mod Examples

@@ -1,5 +1,5 @@
 -- There is a sentence exactly where one of the two rules fails.
-use Rattle.std.proofs.Common.{◌≡◌, ◌⊎◌, inl, inr, ℕ, Bool, true, false, ◌&&◌, cond, List, [], ◌∷◌, Option, Some, None, option_map, nat_eq, refl, sym, ap, ◌∙◌, subst, if◌then◌else◌, arith}
+use Rattle.std.proofs.Common.{◌≡◌, ◌⊎◌, inl, inr, ℕ, Bool, true, false, cond, List, [], ◌∷◌, Option, Some, None, option_map, refl, sym, ap, ◌∙◌, subst, if◌then◌else◌, arith}
 use Rattle.std.specs.Prelude.{◌↔◌}
 use Rattle.std.specs.Option.{is_some, option_or}
 use Rattle.std.proofs.lemmas.Bool.Decides.{nat_tests}
@@ -8,7 +8,6 @@ use Rattle.syntax_tree.specs.Placed.{Prog}
 use Rattle.syntax_tree.specs.Parts.{routines, same_place}
 use Rattle.syntax_tree.specs.declared.place.Place.{Place}
 use Rattle.static_rule.specs.Parts.{FailsOf, FailsAmong}
-use Rattle.static_rule.specs.declared.violation.Violation.{Violation}
 use Rattle.static_declarations.specs.Things.{named_at}
 use Rattle.static_declarations.specs.Parts.{Part, parts}
 use Rattle.static_types.specs.Conduct.{misplaced, misdirected}
