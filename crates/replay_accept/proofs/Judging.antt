@@ -1,19 +1,20 @@
 -- Events, judged: what is refused leads nowhere.
-use Rattle.std.specs.Prelude.{IfOk, Result, Ok, Err, ◌≡◌, ◌↔◌, ◌≤◌, ◌<◌, ◌+◌, ℕ, Bool, false, ◌&&◌, IsTrue, List, [], ◌∷◌, Some, None, length, nat_eq, slice_get}
+use Rattle.std.specs.Prelude.{IfOk, Result, Ok, Err, ◌≡◌, ◌↔◌, ◌≤◌, ◌<◌, ◌+◌, ℕ, Bool, false, ◌&&◌, IsTrue, true, List, [], ◌∷◌, Some, None, length, nat_eq, slice_get}
 use Rattle.std.proofs.Common.{refl, sym, ◌∙◌, ap, inl, inr, subst, arith}
 use Rattle.std.proofs.lemmas.Bool.{cases_lt}
-use Rattle.std.proofs.lemmas.Option.{slice_get_within}
+use Rattle.std.proofs.lemmas.Option.{none-some, same_Some, slice_get_within}
 use Rattle.std.proofs.lemmas.Bool.Decides.{Decides-and, Decides-at, Decides-eqb, Decides-like}
 use Rattle.base.specs.declared.event.Event.{Event}
 use Rattle.base.specs.declared.event.Act.{Act}
-use Rattle.syntax_tree.specs.Plain.{Program}
-use Rattle.source_semantics.specs.Config.{Config}
-use Rattle.source_semantics.specs.Source.{MayStart, Starts, Step, after_start, before, is_empty, ready_from}
+use Rattle.syntax_tree.specs.Plain.{Process, Program}
+use Rattle.source_semantics.specs.Config.{Config, Job, is_ready}
+use Rattle.source_semantics.specs.Next.{Next}
+use Rattle.source_semantics.specs.Source.{Acts, MayStart, Starts, Step, acts, after_start, before, is_empty, job_next, may_act, ready_from}
 use Rattle.source_semantics.specs.Starts.{NoneMissing, Script, due}
 use Rattle.replay_due_events.specs.Timings.{first_in}
 use Rattle.replay_accept.specs.declared.begin.Begun.{Begun}
 use Rattle.replay_accept.specs.declared.begin.Begun.TheVariants as begun_is
-use Rattle.replay_accept.specs.Judged.{Begins, ComesAs, IsInTime, IsOpen, IsReady, IsToAct}
+use Rattle.replay_accept.specs.Judged.{Begins, ComesAs, IsInTime, IsNextOf, IsOpen, IsReady, IsToAct}
 
 made : (e : Event) (k : ℕ) (a : Act) → e.act ≡ a → e.proc ≡ k → e ≡ record { tick = e.tick; proc = k; act = a }
 made e k a acts by =
@@ -90,6 +91,65 @@ module _ (g : Program) (s : Script) (c : Config) (e : Event) where
     w.1,
   )
   begun_of x first same time begun_is.Open new w = absurd w
+
+  -- where no start event is due, the event can be an act alone
+  acts_alone : IsOpen g s c e → (d : Config) → Step g s c e d → Acts g s c e d
+  acts_alone o d step = elim step.comes [
+    | inl st ↦ let none : e ∷ st.later ≡ [] = sym st.first ∙ o.none_due in absurd cc
+    | inr ac ↦ ac
+  ]
+
+  pub none_acts : IsOpen g s c e → (r : Bool) → IsTrue r ↔ IsToAct g c e → r ≡ false → (d : Config) → Step g s c e d → ⊥
+  none_acts o r is no d step =
+      let ac : Acts g s c e d = acts_alone o d step in
+      let yes : r ≡ true = is.1 (record { nobody_acted = ac.nobody_acted; ready = record { job = ac.job; state = ac.state; ready = ac.ready }; first = ac.first }) in
+      absurd cc
+
+  pub nobody_next : IsOpen g s c e → IsNextOf g c e.proc None → (d : Config) → Step g s c e d → ⊥
+  nobody_next o none d step =
+      let ac : Acts g s c e d = acts_alone o d step in
+      elim none [
+        | inl p ↦ none-some ac.process (sym p ∙ ac.text)
+        | inr j ↦ none-some ac.job (sym j ∙ ac.state)
+      ]
+
+  next_is : (n : Next) → IsNextOf g c e.proc (Some n) → (d : Config) → (ac : Acts g s c e d) → n ≡ job_next c e.proc ac.process ac.job g
+  next_is n next d ac =
+      let p : next.0 ≡ ac.process = same_Some next.0 ac.process (sym next.2 ∙ ac.text) in
+      let j : next.1 ≡ ac.job = same_Some next.1 ac.job (sym next.3 ∙ ac.state) in
+      next.4 ∙ (ap (λ (x : Process). job_next c e.proc x next.1 g) p ∙ ap (λ (x : Job). job_next c e.proc ac.process x g) j)
+
+  pub not_allowed : IsOpen g s c e → (n : Next) → IsNextOf g c e.proc (Some n) → (r : Bool) → IsTrue r ↔ ((may_act c n.action ≡ true) × (e.act ≡ (acts g s c e.tick e.proc n).act)) → r ≡ false
+      → (d : Config) → Step g s c e d → ⊥
+  not_allowed o n next r is no d step =
+      let ac : Acts g s c e d = acts_alone o d step in
+      let same : n ≡ job_next c e.proc ac.process ac.job g = next_is n next d ac in
+      let yes : r ≡ true = is.1 (ap (λ (x : Next). may_act c x.action) same ∙ ac.free, ac.told ∙ sym (ap (λ (x : Next). (acts g s c e.tick e.proc x).act) same)) in
+      absurd cc
+
+  pub acted_step : IsOpen g s c e → IsToAct g c e → (n : Next) → IsNextOf g c e.proc (Some n) → (may_act c n.action ≡ true) × (e.act ≡ (acts g s c e.tick e.proc n).act)
+      → (new : Config) → new ≡ (acts g s c e.tick e.proc n).config → Step g s c e new
+  acted_step o t n next allowed new after =
+      let made : n ≡ job_next c e.proc next.0 next.1 g = next.4 in
+      let j : t.ready.job ≡ next.1 = same_Some t.ready.job next.1 (sym t.ready.state ∙ next.3) in
+      record {
+        before_end = o.in_time.before_end;
+        reached = o.in_time.reached;
+        none_missing = o.in_time.none_missing;
+        comes = inr (record {
+          none_due = o.none_due;
+          nobody_acted = t.nobody_acted;
+          process = next.0;
+          text = next.2;
+          job = next.1;
+          state = next.3;
+          ready = sym (ap (λ (x : Job). is_ready x.doing) j) ∙ t.ready.ready;
+          first = t.first;
+          free = sym (ap (λ (x : Next). may_act c x.action) made) ∙ allowed.0;
+          told = allowed.1 ∙ ap (λ (x : Next). (acts g s c e.tick e.proc x).act) made;
+          after = after ∙ ap (λ (x : Next). (acts g s c e.tick e.proc x).config) made;
+        });
+      }
 
 pub if_ok : {A E : Type 0} (P Q : A → Type 0) (r : Result A E) → ((x : A) → P x → Q x) → IfOk r P → IfOk r Q
 if_ok P Q (Ok x) f p = f x p

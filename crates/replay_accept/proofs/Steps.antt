@@ -1,5 +1,5 @@
 -- What actions make of a configuration, from what was changed in turn.
-use Rattle.std.specs.Prelude.{◌≡◌, ℕ, ℤ, zero, suc, Bool, true, false, OnErr, Result, Ok, Err, List, [], ◌∷◌, Option, Some, None, length, option_map, slice_get, unwrap_or}
+use Rattle.std.specs.Prelude.{◌≡◌, ℕ, ℤ, zero, suc, Bool, true, false, List, [], ◌∷◌, Option, Some, None, length, option_map, slice_get, unwrap_or}
 use Rattle.std.proofs.Common.{refl, sym, ◌∙◌, ap}
 use Rattle.base.specs.declared.event.Act.TheVariants as act
 use Rattle.syntax_tree.specs.Plain.{Program}
@@ -98,7 +98,3 @@ acted g s c d t k n a is after = after ∙ sym (ap (λ b. (effect g s t k b (sav
 
 pub given_to : (k : ℕ) (v w : ℤ) (c d : Config) (js : List Job) → js ≡ changed (λ j. job_calls (given (Some v) j.calls) j) k d.jobs → v ≡ w → d ≡ c → with_jobs d js ≡ give_to k w c
 given_to k v w c d js gives same saves = ap (with_jobs d) gives ∙ (ap (λ u. give_to k u d) same ∙ ap (give_to k w) saves)
-
-pub on_err : {A E P : Type 0} (r : Result A E) → P → OnErr r P
-on_err (Ok x) p = tt
-on_err (Err e) p = p

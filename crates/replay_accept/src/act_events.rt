@@ -1,14 +1,17 @@
 //! Events, judged as acts.
 
-ghost use Rattle.std.specs.Prelude.{IfOk, IsTrue, OnErr, Some, option_map, true, ◌↔◌, ◌≡◌};
+ghost use Rattle.std.specs.Prelude.{IfOk, IsTrue, OnErr, Some, option_map, true, ℕ, ◌↔◌, ◌≡◌};
+ghost use Rattle.syntax_tree.specs.Plain.{Program};
 ghost use Rattle.source_semantics.specs.Config.{is_ready as is_at_work};
+ghost use Rattle.source_semantics.specs.Source.{acts, may_act as may_act_now};
 ghost use Rattle.replay_state.specs.Tables.{Fits};
 ghost use Rattle.replay_state.specs.View.{config_of, doing_of, next_of};
 ghost use Rattle.replay_due_events.specs.Accepts.{Accepts};
-ghost use Rattle.replay_script.specs.Cursors.{IsAt, script_in};
+ghost use Rattle.replay_script.specs.Cursors.{IsAt, IsWithin, script_in};
 ghost use Rattle.replay_accept.specs.Judged.{IsNextOf, IsOpen, IsReady, IsToAct};
 ghost use Rattle.replay_accept.specs.Running.{AreRules, IsFirstOf, program_of};
 
+use crate::errors::tri;
 use crate::rules::Rules;
 use crate::{act, is_told, may_act};
 use base::Event;
@@ -87,11 +90,27 @@ fn next_of_process<'a>(
                     process: its,
                     alloc: text.alloc,
                 };
-                let next = next_action(&scope, rules.routines, config, process, job)?;
-                Ok(Some(next))
+                let next = next_action(&scope, rules.routines, config, process, job);
+                Ok(Some(tri!(next)))
             }
         },
     }
+}
+
+/// Whether the next action of a process can be done now, and is what the event tells.
+fn is_allowed(
+    config: &Config<'_>,
+    script: &ScriptCursor<'_>,
+    event: &Event,
+    next: &NextAction<'_>,
+) -> bool
+    requires { IsWithin event.now.tick script.now }
+    ensures { (g : Program) (k : ℕ) → IsTrue result ↔
+        ((may_act_now (config_of config.now) (next_of next.now).action ≡ true) ×
+        (event.now.act ≡ (acts g (script_in script.now) (config_of config.now) event.now.tick k
+        (next_of next.now)).act)) }
+{
+    may_act(config, next.action) && is_told(config, script, event.tick, next, event.act)
 }
 
 /// Whether the event is what the next action of its process tells, where no start event is due up
@@ -116,7 +135,7 @@ pub fn act_by<'a>(
 {
     if is_to_act(rules, config, first, event) {
         let process = usize::from(event.proc);
-        match next_of_process(rules, config, process)? {
+        match tri!(next_of_process(rules, config, process)) {
             None => Ok(false),
             Some(next) => act_next(rules, config, script, event, next),
         }
@@ -145,15 +164,10 @@ fn act_next<'a>(
         (config_of config.new)) }
     ensures err { OnErr result (config_of config.new ≡ config_of config.old) }
 {
-    if may_act(config, next.action) {
-        if is_told(config, script, event.tick, &next, event.act) {
-            let process = usize::from(event.proc);
-            act(config, &rules.text, script, event.tick, process, next)?;
-            Ok(true)
-        } else {
-            Ok(false)
-        }
-    } else {
-        Ok(false)
+    if is_allowed(config, script, event, &next) {
+        let process = usize::from(event.proc);
+        tri!(act(config, &rules.text, script, event.tick, process, next));
+        return Ok(true);
     }
+    Ok(false)
 }

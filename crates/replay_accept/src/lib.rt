@@ -15,6 +15,7 @@ mod act_events;
 mod as_defined;
 mod begin;
 mod effects;
+mod errors;
 mod giving;
 mod perform;
 mod queue;

@@ -61,12 +61,12 @@ pub fn act<'a>(
                 limit,
                 number,
             };
-            wait(config, tick, process, next, on)?
+            return wait(config, tick, process, next, on);
         }
         Action::Signals { condition } => signal_on(config, tick, process, next, condition),
         Action::Broadcasts { condition } => broadcast_on(config, tick, process, next, condition),
         Action::AsksEmpty { condition } => ask_empty(config, tick, process, next, condition),
-        Action::Raises { number } => raise_in(config, text, tick, process, next, number)?,
+        Action::Raises { number } => return raise_in(config, text, tick, process, next, number),
         Action::Ends => end(config, tick, process, next),
     }
     Ok(())

@@ -14,6 +14,7 @@ ghost use Rattle.replay_script.specs.Cursors.{IsWithin, script_in};
 ghost use Rattle.replay_state.specs.Texts.{IsText};
 
 use crate::effects::{Wanted, begin_wait, broadcast, signal};
+use crate::errors::tri;
 use crate::giving::{give, word_of};
 use crate::queue::{is_nobody_in, queue};
 use crate::saving::save;
@@ -81,7 +82,7 @@ pub fn wait<'a>(
         (next_of next.entry))).config) }
     ensures err { OnErr result (config_of config.new ≡ config_of config.old) }
 {
-    join(&mut config.queues, on.condition, process)?;
+    tri!(join(&mut config.queues, on.condition, process));
     save(config, tick, process, next);
     config.leave(process);
     begin_wait(&mut config.jobs, process, tick, on);
@@ -156,7 +157,7 @@ pub fn raise_in<'a>(
         (next_of next.entry))) }
     ensures err { OnErr result (config_of config.new ≡ config_of config.old) }
 {
-    let after = prepare(config, text, process, number)?;
+    let after = tri!(prepare(config, text, process, number));
     save(config, tick, process, next);
     raise(config, process, after);
     Ok(())

@@ -9,6 +9,7 @@ ghost use Rattle.replay_due_events.specs.Timings.{event_of};
 ghost use Rattle.replay_accept.specs.Judged.{Comes};
 ghost use Rattle.replay_accept.specs.Running.{AreRules, program_of};
 
+use crate::errors::tri;
 use crate::rules::Rules;
 use base::{Act, Event};
 use replay_due_events::Start;
@@ -94,7 +95,7 @@ pub fn come<'a>(
     match start {
         Start::Release { process } => {
             if may_release(config.jobs.as_slice(), process) {
-                release(config, &rules.text, tick, process)?;
+                tri!(release(config, &rules.text, tick, process));
                 Ok(true)
             } else {
                 Ok(false)
@@ -105,7 +106,7 @@ pub fn come<'a>(
             condition,
             number,
         } => {
-            time_out(config, &rules.text, tick, process, condition, number)?;
+            tri!(time_out(config, &rules.text, tick, process, condition, number));
             Ok(true)
         }
     }

@@ -1,4 +1,5 @@
 use Rattle.std.proofs.Common.{ap}
+use Rattle.std.proofs.lemmas.Result.{on_ok_weaker}
 use Rattle.syntax_tree.specs.Placed.{placed, plain}
 use Rattle.source_semantics.specs.Run.{gets, waits, signals, broadcasts, asks_empty, ends}
 use Rattle.replay_state.specs.View.{action_of, config_of, next_of}
@@ -11,12 +12,13 @@ returns-in-Gets-clause-ok c =
     acted (plain (placed c.args.text.now.declarations.now)) (script_in c.args.script.now) (config_of c.args.config.now) (config_of c.get.new.config) c.args.tick c.args.process (next_of c.args.next)
     (gets c.in-Gets.dev) (ap action_of c.in-Gets.is) c.get.ensures
 
-pub returns-in_ok-wait-in-Waits-clause-ok : goal.returns-in_ok-wait-in-Waits-clause-ok
-returns-in_ok-wait-in-Waits-clause-ok c =
+pub returns-in-Waits-clause-ok : goal.returns-in-Waits-clause-ok
+returns-in-Waits-clause-ok c =
     let g = plain (placed c.args.text.now.declarations.now) in
     let s = script_in c.args.script.now in
-    acted g s (config_of c.args.config.now) (config_of c.wait.new.config) c.args.tick c.args.process (next_of c.args.next)
-    (waits c.in-Waits.condition c.in-Waits.limit c.in-Waits.number) (ap action_of c.in-Waits.is) (c.in_ok-wait-in-Waits.ensures.ok g s)
+    on_ok_weaker c.wait.result
+    (λ is. acted g s (config_of c.args.config.now) (config_of c.wait.new.config) c.args.tick c.args.process (next_of c.args.next)
+    (waits c.in-Waits.condition c.in-Waits.limit c.in-Waits.number) (ap action_of c.in-Waits.is) (is g s)) c.wait.ensures.ok
 
 pub returns-in-Signals-clause-ok : goal.returns-in-Signals-clause-ok
 returns-in-Signals-clause-ok c =

@@ -7,10 +7,10 @@ use Rattle.replay_state.specs.Texts.{after_of, after_put}
 use Rattle.replay_accept.proofs.Steps.{raised}
 use Rattle.replay_accept.proofs.source_actions.raise_in.Goals as goal
 
-pub returns-clause-ok : goal.returns-clause-ok
-returns-clause-ok c =
+pub returns-in-Ok-clause-ok : goal.returns-in-Ok-clause-ok
+returns-in-Ok-clause-ok c =
     let k = c.args.process in
-    let after = option_map after_of c.in_ok-after.after in
+    let after = option_map after_of c.in-Ok.it in
     raised (plain (placed c.args.text.now.declarations.now)) (config_of c.args.config.now) (config_of c.raise.new.config) c.args.tick k c.args.number (next_of c.args.next) after
-    c.in_ok-after.ensures
+    c.in-Ok.ensures
     (c.raise.ensures ∙ ap (λ (d : Config). after_put after k (leave d k)) c.save.ensures)
