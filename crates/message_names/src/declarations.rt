@@ -47,11 +47,7 @@ fn vars<'a>(mentions: &mut Mentions<'a>, scope: Scope, list: &'a [Var]) -> Resul
     Ok(())
 }
 
-fn param<'a>(
-    mentions: &mut Mentions<'a>,
-    scope: Scope,
-    param: &'a Param,
-) -> Result<(), AllocError>
+fn param<'a>(mentions: &mut Mentions<'a>, scope: Scope, param: &'a Param) -> Result<(), AllocError>
     ensures { OnOk result (mentions.new ≡ mentions.old ++
         listed.param_mentions scope (placed_param param.now)) }
 {
@@ -211,10 +207,7 @@ fn optional_constant<'a>(
 }
 
 /// When a process is released.
-fn activation<'a>(
-    mentions: &mut Mentions<'a>,
-    activation: &'a Trigger,
-) -> Result<(), AllocError>
+fn activation<'a>(mentions: &mut Mentions<'a>, activation: &'a Trigger) -> Result<(), AllocError>
     ensures { OnOk result (mentions.new ≡ mentions.old ++
         listed.activation_mentions (placed_activation activation.now)) }
 {
@@ -252,10 +245,7 @@ fn constants<'a>(mentions: &mut Mentions<'a>, list: &'a [Constant]) -> Result<()
     Ok(())
 }
 
-fn handler<'a>(
-    mentions: &mut Mentions<'a>,
-    handler: &'a Option<Handler>,
-) -> Result<(), AllocError>
+fn handler<'a>(mentions: &mut Mentions<'a>, handler: &'a Option<Handler>) -> Result<(), AllocError>
     ensures { OnOk result (mentions.new ≡ mentions.old ++
         option_map_or listed.handler_mentions (optional placed_handler handler.now) []) }
 {

@@ -97,12 +97,7 @@ pub(crate) fn name_at<'a>(mentions: &Mentions<'a>, place: Place) -> &'a [u8]
 fn members_behind(mentions: &Mentions<'_>, place: Place) -> Place
     ensures { result ≡ members_behind place mentions.now }
 {
-    match innermost(
-        mentions,
-        Sight::Around,
-        name_at(mentions, place),
-        place,
-    ) {
+    match innermost(mentions, Sight::Around, name_at(mentions, place), place) {
         Some(monitor) => monitor.place,
         None => place,
     }

@@ -74,12 +74,7 @@ impl<'a> Mentions<'a> {
     }
 
     /// Puts a name that is used.
-    pub fn uses(
-        &mut self,
-        wanted: Wanted,
-        name: &'a Name,
-        place: Place,
-    ) -> Result<(), AllocError>
+    pub fn uses(&mut self, wanted: Wanted, name: &'a Name, place: Place) -> Result<(), AllocError>
         ensures { OnOk result (self.new ≡ self.old ++ uses wanted name.now place ∷ []) }
     {
         self.add(name, place, Role::Uses(wanted))

@@ -88,11 +88,7 @@ fn add_elsewhere(
 }
 
 /// Puts which name is the nearest, or what can be done.
-fn add_nearest(
-    text: &mut Text,
-    source: &[u8],
-    near: Option<Mention<'_>>,
-) -> Result<(), AllocError>
+fn add_nearest(text: &mut Text, source: &[u8], near: Option<Mention<'_>>) -> Result<(), AllocError>
     ensures { OnOk result (text.new ≡ text.old ++ nearest_note source.now (found near.entry)) }
 {
     match near {
@@ -127,11 +123,7 @@ fn add_undeclared(
 }
 
 /// Puts which other declaration a name has.
-fn add_taken(
-    text: &mut Text,
-    source: &[u8],
-    other: Option<Mention<'_>>,
-) -> Result<(), AllocError>
+fn add_taken(text: &mut Text, source: &[u8], other: Option<Mention<'_>>) -> Result<(), AllocError>
     ensures { OnOk result (text.new ≡ text.old ++ taken_notes source.now (found other.entry)) }
 {
     let parts: [&[u8]; 3] = [

@@ -45,12 +45,7 @@ fn add_taken(text: &mut Text, name: &[u8]) -> Result<(), AllocError>
 }
 
 /// Puts what a name is, and what is wanted.
-fn add_misused(
-    text: &mut Text,
-    name: &[u8],
-    what: &[u8],
-    wanted: &[u8],
-) -> Result<(), AllocError>
+fn add_misused(text: &mut Text, name: &[u8], what: &[u8], wanted: &[u8]) -> Result<(), AllocError>
     ensures { OnOk result (text.new ≡ text.old ++ misused name.now what.now wanted.now) }
 {
     add_quoted(text, name)?;
@@ -93,12 +88,7 @@ pub(crate) fn add_sentence(
         sentence_of number mentions.now (mention_of mention.now)) }
 {
     match number {
-        20 => add_undeclared_behind(
-            text,
-            mentions,
-            mention.name,
-            monitor_before(mention.role),
-        ),
+        20 => add_undeclared_behind(text, mentions, mention.name, monitor_before(mention.role)),
         21 => add_taken(text, mention.name),
         22 => add_misused(
             text,

@@ -94,14 +94,7 @@ fn change<'a>(mentions: &mut Mentions<'a>, s: &'a Stmt) -> Result<(), AllocError
             entry,
             entry_place,
             args,
-        } => entry_call(
-            mentions,
-            mon,
-            *place,
-            entry,
-            *entry_place,
-            args.as_slice(),
-        ),
+        } => entry_call(mentions, mon, *place, entry, *entry_place, args.as_slice()),
         _ => Ok(()),
     }
 }
@@ -142,10 +135,14 @@ fn plain<'a>(mentions: &mut Mentions<'a>, s: &'a Stmt) -> Result<(), AllocError>
             bounds(mentions, limit, number)
         }
         Stmt::Signal {
-            cond, cond_place, ..
+            cond,
+            cond_place,
+            ..
         }
         | Stmt::Broadcast {
-            cond, cond_place, ..
+            cond,
+            cond_place,
+            ..
         } => mentions.uses(Wanted::Condition, cond, *cond_place),
         Stmt::Except { number, .. } => constant(mentions, number),
         Stmt::Assign { .. }
