@@ -16,7 +16,7 @@ use Rattle.message_types.proofs.Agreeing.{of-stmt, of-unfit}
 
 -- ---- a part at the place, and one that stands elsewhere
 
-neither : (b : Bool) → (if b then None else None) ≡ None {A = Mismatch}
+neither : (b : Bool) → ◌≡◌ {A = Option Mismatch} (if b then None else None) None
 neither true = refl
 neither false = refl
 
