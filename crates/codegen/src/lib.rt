@@ -17,7 +17,6 @@ mod store;
 mod texts;
 
 pub use code_builder::CodeBuilder;
-pub use codegen_branches::fit;
 pub use codegen_program::generate;
 pub use expr::range_of;
 pub use texts::ProgramTexts;

@@ -5,7 +5,8 @@ ghost use Rattle.syntax_tree.specs.Placed.{optional, placed_handler, placed_rout
 ghost use Rattle.codegen_spec.specs.Parts.{answer_out, entered, handler_part, inner_out, left, process_out, return_of, routine_out};
 
 use crate::errors::tri;
-use crate::{CodeBuilder, fit, range_of};
+use crate::{CodeBuilder, range_of};
+use codegen_branches::fit;
 use codegen_spec::{Lookup, Owner, Part};
 use image_format::{Seg, Segs};
 use machine_isa::Instr;

@@ -1,10 +1,13 @@
 -- The ranks and ceilings of the image of a program are those of the meaning.
 use Rattle.std.specs.Prelude.{◌≡◌, ◌≤◌, ◌<◌, ℕ, zero, suc, Bool, true, false, cond, List, [], ◌∷◌, Option, Some, None, IfSome, length, map, nat_eq, slice_get, slice_index, slice_index_or, unwrap_or}
-use Rattle.std.proofs.Common.{inl, inr, refl, sym, ap, ◌∙◌, arith}
+use Rattle.std.proofs.Common.{inl, inr, refl, sym, subst, ap, ◌∙◌, arith}
 use Rattle.std.proofs.lemmas.Bool.Decides.{eqb_tells}
 use Rattle.std.proofs.lemmas.List.{length-map}
 use Rattle.base.proofs.Lists.{some_at}
+use Rattle.static_rule.specs.First.{IsFirst}
+use Rattle.syntax_tree.specs.Placed.{Prog}
 use Rattle.syntax_tree.specs.Plain.{Process, Program}
+use Rattle.syntax_tree.specs.declared.place.Place.{Place}
 use Rattle.source_semantics.specs.Names.{monitors, processes}
 use Rattle.source_semantics.specs.Ranks.{rank, ceiling, includes, least_rank, min_with, monitors_of}
 use Rattle.image.specs.Raw.{image_of, monitor_of, process_of}
@@ -20,9 +23,20 @@ use Rattle.codegen_ranks.specs.Ranks.{CeilingsAreOfTheMeaning, RanksAreOfTheMean
 use Rattle.replay_state.specs.declared.ranks.Ranks.{Ranks}
 use Rattle.replay_state.specs.Tables.{AreRanksOf}
 use Rattle.code_measures.specs.Whole.{HasRanks}
+use Rattle.code_size.specs.Rules.{SizeFails}
+use Rattle.compile.specs.Steps.{IsSizeFault}
+use Rattle.compile.specs.declared.built.BuildFault.{BuildFault}
+use Rattle.compile.specs.declared.built.BuildFault.TheVariants as fault
 use Rattle.wellformed.specs.WellFormed.{IsWellFormed}
 use Rattle.code_names_law.specs.Ruled.{NamesApart}
 use Rattle.replay.specs.Told.{ceiling_told}
+
+-- ---- a program that is not too large
+
+pub no_size_fault : (g : Prog Place) (why : BuildFault) (number : ℕ) (place : Place) → why ≡ fault.TooLarge number place → IsSizeFault g why → ((n : ℕ) (p : Place) → ¬ SizeFails g n p) → ⊥
+no_size_fault g why number place is fails fits =
+    let first : IsFirst (SizeFails g) (record { number = number; place = place }) = subst (IsSizeFault g) is fails in
+    fits number place first.broken
 
 -- ---- lists
 

@@ -16,7 +16,7 @@ ghost use Rattle.syntax_tree.specs.Placed.{placed, plain};
 use checked_law::generated_within_limits::generated_code_is_code;
 use checked_law::premises_of_laws::checked_programs_are_ready;
 use codegen_ranks::ranks_and_ceilings::{ceilings_are_of_the_meaning, ranks_are_of_the_meaning};
-use compile::ranked;
+use compile::{BuildFault, ranked};
 use image::{RawMonitor, RawProcess};
 use replay_state::Ranks;
 use static_semantics::Checked;
@@ -57,8 +57,7 @@ fn ceiling_numbers(alloc: Global, monitors: &[RawMonitor]) -> Result<Vec<Option<
 }
 
 /// The ranks and ceilings of the program of a text, which keeps to all rules and is not too large.
-/// It takes the time of generating its code. Want of memory is the only error; a program that is
-/// refused here, which the condition is to rule out, is answered so too.
+/// It takes the time of generating its code. Want of memory is the only error.
 pub fn ranks_of(alloc: Global, program: &Checked) -> Result<Ranks, AllocError>
     ghost text: { List ℕ }
     requires written { IsWritten text (placed program.now) }
@@ -74,6 +73,8 @@ pub fn ranks_of(alloc: Global, program: &Checked) -> Result<Ranks, AllocError>
             let ceilings = ceiling_numbers(alloc, image.monitors.as_slice())?;
             Ok(Ranks { ranks, ceilings })
         }
-        Err(_) => Err(AllocError),
+        Err(BuildFault::Memory) => Err(AllocError),
+        Err(BuildFault::TooLarge { .. }) => unreachable!(),
+        Err(BuildFault::Untimely(_)) => unreachable!(),
     }
 }
