@@ -8,3 +8,4 @@ pub mod CallEdges
 pub mod Linking
 pub mod Failing
 pub mod Walks
+pub mod Comings

@@ -21,7 +21,7 @@ module _ (g : Prog Place) (calls : Graph) (made : HasEdges calls (edges_of (decl
   caller-number : (p q : Place) → Calls g p q → HasNumber keys p
   caller-number p q c = subst (HasNumber keys) c.is (routine-number (routines g.decls) c.caller c.listed)
 
-  reacher-number : (p q : Place) → Reaches g p q → HasNumber keys p
+  pub reacher-number : (p q : Place) → Reaches g p q → HasNumber keys p
   reacher-number p q (by_call c) = caller-number p q c
   reacher-number p r (by_calls {q = q} c rest) = caller-number p q c
 

@@ -1,5 +1,5 @@
 -- What is reached by calls: no routine reaches itself, and no handler reaches a wait.
-use Rattle.std.specs.Prelude.{◌≡◌, ℕ, true, ◌⊎◌, [], Some, Contains}
+use Rattle.std.specs.Prelude.{◌≡◌, ℕ, true, ◌⊎◌, List, [], ◌∷◌, ◌++◌, Option, Some, None, All, Contains}
 use Rattle.syntax_tree.specs.Placed.{Routine, Handler, Process, Prog}
 use Rattle.syntax_tree.specs.Parts.{routines, processes}
 use Rattle.syntax_tree.specs.declared.place.Place.{Place}
@@ -56,3 +56,27 @@ pub record HandlerWaits (g : Prog Place) (place : Place) : Type 0 where
 -- a rule for what is reached fails at a place of the program
 abbrev pub ReachFails : Prog Place → ℕ → Place → Type 0
 ReachFails g number place = ((number ≡ 31) × ReachesItself g place) ⊎ ((number ≡ 35) × HandlerWaits g place)
+
+-- the routine stands at the place, or reaches it by calls
+abbrev pub ComesTo : Prog Place → (place callee : Place) → Type 0
+ComesTo g place callee = (callee ≡ place) ⊎ Reaches g callee place
+
+-- it is the first of the callees that comes to the place
+pub record IsFirstTo (g : Prog Place) (place : Place) (callees : List Place) (callee : Place) : Type 0 where
+  pub before : List Place
+  pub behind : List Place
+  pub order : callees ≡ before ++ callee ∷ behind
+  pub comes : ComesTo g place callee
+  pub none_before : All (λ other. ¬ ComesTo g place other) before
+
+-- a routine whose name stands at the place reaches itself, and first by its call of the callee
+pub record ComesBackBy (g : Prog Place) (place callee : Place) : Type 0 where
+  pub caller : Routine Place
+  pub listed : Contains (routines g.decls) caller
+  pub is : caller.place ≡ place
+  pub first : IsFirstTo g place (routine_calls (declared_at (names g)) caller) callee
+
+-- by the call of which routine one at the place reaches itself; by none, where none does
+abbrev pub IsWayBack : Prog Place → Place → Option Place → Type 0
+IsWayBack g place None = ¬ ReachesItself g place
+IsWayBack g place (Some callee) = ComesBackBy g place callee

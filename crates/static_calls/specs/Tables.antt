@@ -1,9 +1,11 @@
 -- What the code's tables say: numbers for the routines, and the graph of their calls.
-use Rattle.std.specs.Prelude.{◌≡◌, ℕ, Bool, false, ◌||◌, List, [], ◌∷◌, ◌++◌, map, Option, Some, None, if◌then◌else◌, option_to_list, position, Contains}
+use Rattle.std.specs.Prelude.{◌≡◌, ℕ, Bool, false, ◌||◌, List, [], ◌∷◌, ◌++◌, map, Option, Some, None, if◌then◌else◌, option_to_list, position, find, Contains}
 use Rattle.std.specs.List.{list_any}
+use Rattle.std.specs.Option.{option_or}
 use Rattle.std.specs.Borrow.{Bor}
 use Rattle.indexmap.specs.IndexSet.{insert_all}
 use Rattle.syntax_tree.specs.Placed.{Stmts, Routine, placed_routine, Handler, Process, placed_process, Prog}
+use Rattle.syntax_tree.specs.Parts.{same_place}
 use Rattle.syntax_tree.specs.declared.place.Place.{Place}
 use Rattle.syntax_tree.specs.declared.decl.Routine as code_routine
 use Rattle.syntax_tree.specs.declared.decl.Process as code_process
@@ -97,3 +99,13 @@ pub record OneComesBack (keys : List Key) (g : Graph) (rs : List (Routine Place)
   pub listed : Contains rs one
   pub is : one.place ≡ place
   pub round : ComesBack keys g one
+
+-- the first of the routines that a routine calls which is marked
+abbrev pub marked_call : Declared → List Key → List Bool → Routine Place → Option Place
+marked_call declared keys marks r = find (is_marked_place keys marks) (routine_calls declared r)
+
+-- the same of the first of the routines at the place that calls one
+abbrev pub marked_call_at : Declared → List Key → List Bool → Place → List (Routine Place) → Option Place
+marked_call_at declared keys marks place [] = None
+marked_call_at declared keys marks place (r ∷ rs) =
+    option_or (if same_place r.place place then marked_call declared keys marks r else None) (marked_call_at declared keys marks place rs)

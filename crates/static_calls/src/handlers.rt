@@ -16,7 +16,7 @@ use std::alloc::{AllocError, Global};
 use syntax_tree::{Handler, Place, Process, Stmt};
 
 /// Whether the routines whose names stand at a place are marked.
-fn is_marked_at(numbers: &RoutineIndex, marks: &[bool], place: Place) -> bool
+pub fn is_marked_at(numbers: &RoutineIndex, marks: &[bool], place: Place) -> bool
     ensures { result ≡ is_marked_place numbers.now.keys marks.now place }
 {
     match number(numbers, place) {

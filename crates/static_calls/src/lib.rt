@@ -2,13 +2,15 @@
 //!
 //! `specs/Reaching.antt` says which routine reaches which by one call or more, which reaches itself
 //! (E31), and which handler reaches a wait (E35). `first_broken` gives the failure that comes
-//! first, and none exactly where neither rule fails.
+//! first, and none exactly where neither rule fails. `way_back` tells by which of its calls a
+//! routine reaches itself.
 //!
 //! It asks a graph whose nodes are the numbers below a size (`specs/Graph.antt`): `Graph` and
 //! `Cycles` answer exactly which nodes reach which, and which reach themselves.
 #![tactic(auto)]
 
 mod calls;
+mod coming_back;
 mod cycles;
 mod graph;
 mod handlers;
@@ -21,6 +23,7 @@ mod rules_calls_graph;
 mod waits;
 mod walk;
 
+pub use coming_back::way_back;
 pub use cycles::Cycles;
 pub use graph::Graph;
 pub use reach::is_marked;

@@ -1,0 +1,4 @@
+pub mod Walks
+pub mod Found
+pub mod Telling
+pub mod Examples

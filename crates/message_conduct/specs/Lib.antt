@@ -1,0 +1,5 @@
+pub mod Faults
+pub mod Sentences
+pub mod Conduct
+pub mod Seen
+pub mod Laws
