@@ -13,8 +13,8 @@ use Rattle.sched_response.specs.declared.tasks.Task.{Task}
 use Rattle.sched_response.specs.Demand.{task_at}
 use Rattle.sched_timing.proofs.Ranks.{tasks_at}
 use Rattle.sched_program.specs.Tasks.{IsBlock}
-use Rattle.sched_program_law.proofs.Levels.{rank_low, had}
-use Rattle.codegen_ranks.specs.Ranks.{RanksAreOfTheMeaning}
+use Rattle.sched_program.proofs.Levels.{rank_low, had}
+use Rattle.built_tasks_law.specs.Ranks.{RanksAreOfTheMeaning}
 use Rattle.analysis_command.specs.declared.graph.CallGraph.{CallGraph}
 use Rattle.analysis_command.proofs.Pieces as pieces
 use Rattle.analysis_command.specs.Analysed.{IsAnalysed}

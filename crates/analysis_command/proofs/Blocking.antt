@@ -14,18 +14,18 @@ use Rattle.machine_semantics.specs.Image as image
 use Rattle.code_spec.specs.Layout.{Owner, by_program, by_process, by_monitor}
 use Rattle.code_spec.specs.Numbering.{Text, same_text, is_among, numbered, number_of}
 use Rattle.code_cost_spec.specs.Levels.{stay_of_entry}
-use Rattle.code_names_law.specs.Kept.{NamesDiffer}
-use Rattle.code_names_law.specs.Numbered.{AreNumbered, texts}
-use Rattle.code_names_law.proofs.Numbers.{IsText, text_is, or_true}
-use Rattle.code_names_law.proofs.Rows.{placed, program_texts, text_at, text_same}
-use Rattle.code_names_law.proofs.NumberedLemmas.{text_listed, listed_text}
-use Rattle.code_names_law.proofs.SoundLemmas.{are_numbered}
+use Rattle.codegen_law.specs.Kept.{NamesDiffer}
+use Rattle.codegen_law.specs.Numbered.{AreNumbered, texts}
+use Rattle.codegen_law.proofs.NameNumbers.{IsText, text_is, or_true}
+use Rattle.codegen_law.proofs.Rows.{placed, program_texts, text_at, text_same}
+use Rattle.codegen_law.proofs.NumberedLemmas.{text_listed, listed_text}
+use Rattle.codegen_law.proofs.SoundLemmas.{are_numbered}
 use Rattle.sched_program.specs.Tasks.{process_comes_to, IsLowerStay, IsBlock}
 use Rattle.sched_why.specs.Blockers.{entry_of, place_in}
-use Rattle.codegen_ranks.specs.Calls.{RoutinesCallTheirTexts, ProcessesCallTheirTexts}
-use Rattle.codegen_ranks.specs.Ranks.{RanksAreOfTheMeaning, CeilingsAreOfTheMeaning}
-use Rattle.codegen_ranks.specs.Touches.{process_comes_to_one}
-use Rattle.codegen_ranks.proofs.Whole.{as_many_routines}
+use Rattle.built_tasks_law.specs.Calls.{RoutinesCallTheirTexts, ProcessesCallTheirTexts}
+use Rattle.built_tasks_law.specs.Ranks.{RanksAreOfTheMeaning, CeilingsAreOfTheMeaning}
+use Rattle.built_tasks_law.specs.Touches.{process_comes_to_one}
+use Rattle.built_tasks_law.proofs.Whole.{as_many_routines}
 use Rattle.built_tasks_law.proofs.Comes.{Goal, process_goal, process_comes}
 use Rattle.code_goals.specs.declared.nearest.Reached.{Reached}
 use Rattle.code_goals.specs.Goals.{calls_at, earliest_of, IsFirst, IsFirstReached}

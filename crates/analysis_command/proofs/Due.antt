@@ -4,7 +4,7 @@ use Rattle.std.specs.Prelude.{IfOk, Result}
 use Rattle.static_rule.specs.First.{IsFirst}
 use Rattle.front_end.specs.Source.{start, too_long}
 use Rattle.front_end.specs.Program.{of_text}
-use Rattle.code_size.specs.Rules.{SizeFails}
+use Rattle.code_cost.specs.Rules.{SizeFails}
 use Rattle.syntax.specs.Tokens.{longest_text}
 use Rattle.syntax_tree.specs.declared.place.Place.{Place}
 use Rattle.syntax_tree.specs.Placed.{Prog, plain}

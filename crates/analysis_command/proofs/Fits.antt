@@ -12,10 +12,10 @@ use Rattle.image.specs.Raw.{image_of, process_of}
 use Rattle.valid_image.specs.Tasks.{tasks_of}
 use Rattle.static_semantics.specs.Static.{IsChecked}
 use Rattle.sched_fit.specs.Overhead.{with_overhead}
-use Rattle.sched_fits.specs.declared.rows.ProcessFit.{ProcessFit}
-use Rattle.sched_fits.specs.Rows.{IsFitOf}
+use Rattle.sched_fit.specs.declared.rows.ProcessFit.{ProcessFit}
+use Rattle.sched_fit.specs.Rows.{IsFitOf}
 use Rattle.sched_program.specs.Tasks.{AreTasksOf}
-use Rattle.sched_program_law.specs.Once.{TasksAreOne}
+use Rattle.sched_program.specs.Once.{TasksAreOne}
 use Rattle.sched_why.specs.Fits.{IsFitText}
 use Rattle.sched_why.specs.WhyLaw.{OverheadsAreAdded, OverheadsThatFitAreOfTheText}
 use Rattle.built_tasks_law.specs.Tasks.{RanksAreOfTheText, TasksAreOfTheText}

@@ -9,9 +9,9 @@ use Rattle.source_semantics.specs.Ranks.{rank}
 use Rattle.machine_semantics.specs.Image as image
 use Rattle.valid_image.specs.Tasks.{process_at}
 use Rattle.valid_image_law.proofs.Timing.{search}
-use Rattle.sched_program_law.proofs.Levels.{rank_low, rank_high, rank_one, had}
-use Rattle.codegen_ranks.specs.Ranks.{RanksAreOfTheMeaning}
-use Rattle.codegen_ranks.proofs.Whole.{as_many_processes}
+use Rattle.sched_program.proofs.Levels.{rank_low, rank_high, rank_one, had}
+use Rattle.built_tasks_law.specs.Ranks.{RanksAreOfTheMeaning}
+use Rattle.built_tasks_law.proofs.Whole.{as_many_processes}
 use Rattle.analysis_command.specs.Graphs.{AreRanked, IsImageOfText}
 
 module _ (g : Program) (m : image.Image) (of : IsImageOfText g m) (ranks : RanksAreOfTheMeaning) where

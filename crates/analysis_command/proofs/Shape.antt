@@ -19,7 +19,7 @@ use Rattle.checked_law.specs.Ready.{CheckedProgramsAreReady}
 use Rattle.checked_law.specs.Small.{GeneratedCodeIsCode}
 use Rattle.static_semantics.specs.Static.{IsChecked}
 use Rattle.sched_response.specs.Demand.{AreTasks}
-use Rattle.sched_program_law.proofs.Levels.{rank_low, rank_high}
+use Rattle.sched_program.proofs.Levels.{rank_low, rank_high}
 use Rattle.sched_why.specs.Levels.{order}
 use Rattle.loader.proofs.InOrder.{are_tasks, tasks_long}
 use Rattle.built_tasks_law.specs.Tasks.{RanksAreOfTheText}

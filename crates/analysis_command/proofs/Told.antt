@@ -9,7 +9,7 @@ use Rattle.image.specs.Raw.{image_of, process_of}
 use Rattle.valid_image.specs.Tasks.{tasks_of}
 use Rattle.checked_law.specs.Ready.{CheckedProgramsAreReady}
 use Rattle.checked_law.specs.Small.{GeneratedCodeIsCode}
-use Rattle.codegen_ranks.specs.Ranks.{RanksAreOfTheMeaning}
+use Rattle.built_tasks_law.specs.Ranks.{RanksAreOfTheMeaning}
 use Rattle.static_semantics.specs.Static.{IsChecked}
 use Rattle.sched_program.specs.Tasks.{AreTasksOf}
 use Rattle.sched_sections.specs.declared.levels.Level.{Level}

@@ -3,7 +3,7 @@ use Rattle.std.proofs.Common.{◌≡◌, ℕ, List, Err, subst}
 use Rattle.syntax_tree.specs.declared.place.Place.{Place}
 use Rattle.syntax_tree.specs.Placed.{Prog, plain}
 use Rattle.static_rule.specs.First.{IsFirst}
-use Rattle.code_size.specs.Rules.{SizeFails}
+use Rattle.code_cost.specs.Rules.{SizeFails}
 use Rattle.image.specs.Raw.{named_of}
 use Rattle.sched_program.specs.Tasks.{IsNotInTime}
 use Rattle.built_tasks_law.specs.Judged.{BuiltIsInTime}

@@ -9,7 +9,7 @@ use Rattle.code_spec.specs.Compiled.{IsCodeOf}
 use Rattle.code_measures.specs.Declared.{Declares}
 use Rattle.code_measures.specs.Whole.{HasRanks}
 use Rattle.wellformed.specs.WellFormed.{IsWellFormed}
-use Rattle.code_names_law.specs.Ruled.{NamesApart}
+use Rattle.codegen_law.specs.Ruled.{NamesApart}
 use Rattle.sched_why.specs.Blockers.{place_in}
 use Rattle.analysis_command.specs.declared.graph.CallGraph.{CallGraph}
 

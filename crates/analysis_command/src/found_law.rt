@@ -6,8 +6,8 @@
 
 ghost use Rattle.analysis_command.specs.Found.{FoundIsTheBlocker};
 
-use codegen_ranks::calls_in_code::{processes_call_their_texts, routines_call_their_texts};
-use codegen_ranks::ranks_and_ceilings::{ceilings_are_of_the_meaning, ranks_are_of_the_meaning};
+use built_tasks_law::calls_in_code::{processes_call_their_texts, routines_call_their_texts};
+use built_tasks_law::ranks_and_ceilings::{ceilings_are_of_the_meaning, ranks_are_of_the_meaning};
 
 /// What is reached first from the processes below a rank makes its block, and where nothing is
 /// reached the block is 0.

@@ -9,8 +9,8 @@ use Rattle.image_reader_law.specs.ImageSound.{ImagesWrittenAreRead}
 use Rattle.asm_format.specs.Text.{text_of}
 use Rattle.text_fields.specs.Front.{fault}
 use Rattle.assembler.specs.Sections.{text_read}
-use Rattle.asm_sound_law.specs.AsmSound.{TextsReadAreWritten}
-use Rattle.asm_reads_law.specs.AsmReads.{TextsWrittenAreRead}
+use Rattle.asm_law.specs.AsmSound.{TextsReadAreWritten}
+use Rattle.asm_law.specs.AsmReads.{TextsWrittenAreRead}
 use Rattle.asm_law.specs.AsmSize.{TextsHoldTheirBytes}
 use Rattle.command_due.specs.Texts.{IsTextOf}
 use Rattle.asm_law.specs.AsmLaws.{TextsReadAreOfImages, TextsAreOfOneImage, ImagesToldAreHeld, TextsOfImagesHaveNoFault}

@@ -21,7 +21,7 @@ use Rattle.asm_law.specs.AsmSize.{TextsHoldTheirBytes}
 use Rattle.asm_law.proofs.Words.{all_pay}
 use Rattle.asm_law.proofs.Lines.{device_pays, event_pays, monitor_pays, condition_pays, routine_pays, process_pays, instr_pays}
 use Rattle.asm_law.proofs.Ranges.{u16_most, u32_most, name_short, device_short, monitor_short, condition_short, process_short}
-use Rattle.asm_reads_law.proofs.Whole.{monitors_are_rows, processes_are_rows}
+use Rattle.asm_law.proofs.ReadsWhole.{monitors_are_rows, processes_are_rows}
 
 -- ---- things in their ranges, one after the other
 

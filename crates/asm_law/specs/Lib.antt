@@ -1,2 +1,9 @@
+pub mod AsmSound
+pub mod AsmReads
 pub mod AsmSize
 pub mod AsmLaws
+pub mod Notes
+pub mod Layout
+pub mod Places
+pub mod LinesLaw
+pub mod ImagesLaw

@@ -2,15 +2,13 @@
 //!
 //! `specs/AsmLaws.antt` has them: what is read of a text is the image whose text it is; that image is
 //! one, and bytes hold it; a text that is that of an image has no fault, and another has one. They
-//! join `asm_sound_law::read_is_written`, `asm_reads_law::written_is_read` and `asm_law::text_length`. Nothing here can run.
+//! join `read_is_written`, `written_is_read` and `text_length`. Nothing here can run.
 //!
 //! The laws.
 
 ghost use Rattle.asm_law.specs.AsmLaws.{ImagesToldAreHeld, TextsAreOfOneImage, TextsHaveOneFault, TextsOfImagesHaveNoFault, TextsReadAreOfImages};
 
-use crate::texts_hold_their_bytes;
-use asm_reads_law::texts_written_are_read;
-use asm_sound_law::texts_read_are_written;
+use crate::{texts_hold_their_bytes, texts_read_are_written, texts_written_are_read};
 use image_reader_law::images_written_are_read;
 
 /// An image that is read of a text is the one whose text it is.

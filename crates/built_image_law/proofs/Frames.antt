@@ -10,7 +10,7 @@ use Rattle.source_semantics.specs.Names.{event_in, place_of, processes, frame_of
 use Rattle.machine_semantics.specs.Image as image
 use Rattle.image.specs.declared.names.EventName.{EventName}
 use Rattle.code_spec.specs.Compiled.{IsReleased}
-use Rattle.code_names_law.proofs.Numbers.{name_same, name_is}
+use Rattle.codegen_law.proofs.NameNumbers.{name_same, name_is}
 use Rattle.wellformed.specs.WellFormed.{ActivationFits, ProcessFits, IsWellFormed, is_event_of}
 use Rattle.codegen_law.proofs.Counts.{one_low}
 use Rattle.script.specs.Scripts as script

@@ -11,7 +11,7 @@ use Rattle.syntax_tree.specs.declared.place.Place.{Place}
 use Rattle.source_semantics.specs.Names.{processes}
 use Rattle.code_cost_spec.specs.Levels.{stack_of_process}
 use Rattle.wellformed_law.proofs.Standing.{plain_processes}
-use Rattle.code_size.specs.Rules.{ProcessTooLarge}
+use Rattle.code_cost.specs.Rules.{ProcessTooLarge}
 use Rattle.built_image_law.specs.Limits.{StacksAreInLimits}
 
 -- a process of the plain program, where it stands in the text

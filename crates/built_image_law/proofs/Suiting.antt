@@ -10,7 +10,7 @@ use Rattle.sched_timing.specs.Timed.{RespectsFrames}
 use Rattle.script.specs.declared.script.ScriptLine.{ScriptLine}
 use Rattle.script.specs.declared.script.ScriptLine.TheVariants.{Set, Occur}
 use Rattle.script.specs.Scripts.{IsApart, IsLater, frame_of, tick_of}
-use Rattle.script_meaning.specs.Script.{line_said}
+use Rattle.script.specs.Meaning.{line_said}
 use Rattle.command_due.specs.Script.{run_of}
 use Rattle.built_image.specs.Named.{names_of}
 use Rattle.vm_law.specs.Suits.{HasFrames}

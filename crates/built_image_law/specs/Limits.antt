@@ -14,7 +14,7 @@ use Rattle.wellformed.specs.WellFormed.{IsWellFormed}
 use Rattle.code_cost_spec.specs.Levels.{stack_of_process}
 use Rattle.code_measures.specs.Declared.{Declares}
 use Rattle.front_end.specs.Source.{IsTreeOf}
-use Rattle.code_size.specs.Rules.{SizeFails}
+use Rattle.code_cost.specs.Rules.{SizeFails}
 use Rattle.built_image.specs.Built.{IsShaped, IsBuilt}
 use Rattle.command_due.specs.Source.{IsWritten}
 

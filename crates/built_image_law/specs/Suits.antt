@@ -10,7 +10,7 @@ use Rattle.script.specs.declared.script.ScriptLine.{ScriptLine}
 use Rattle.script.specs.Scripts.{IsScript}
 use Rattle.vm_law.specs.Suits.{HasFrames}
 use Rattle.built_image.specs.Named.{names_of}
-use Rattle.script_meaning.specs.Script.{said}
+use Rattle.script.specs.Meaning.{said}
 use Rattle.command_due.specs.Script.{run_of}
 
 -- The law: in the names of a well-formed program, the frame that stands at an event is that of each

@@ -20,17 +20,17 @@ use Rattle.code_measures.specs.Declared.{Declares}
 use Rattle.code_measures.specs.Whole.{HasRanks}
 use Rattle.code_lifting.proofs.Words.{same_length}
 use Rattle.wellformed.specs.WellFormed.{IsWellFormed}
-use Rattle.code_names_law.specs.Ruled.{NamesApart}
-use Rattle.code_names_law.specs.Numbered.{AreNumbered}
-use Rattle.code_names_law.proofs.Numbers.{text_named, IsText}
-use Rattle.code_names_law.proofs.NumberedLemmas.{text_listed, listed_text}
-use Rattle.code_names_law.proofs.SoundLemmas.{are_numbered}
+use Rattle.codegen_law.specs.Ruled.{NamesApart}
+use Rattle.codegen_law.specs.Numbered.{AreNumbered}
+use Rattle.codegen_law.proofs.NameNumbers.{text_named, IsText}
+use Rattle.codegen_law.proofs.NumberedLemmas.{text_listed, listed_text}
+use Rattle.codegen_law.proofs.SoundLemmas.{are_numbered}
 use Rattle.sched_program.specs.Tasks.{process_comes_to, IsLowerStay, IsBlock}
-use Rattle.codegen_ranks.specs.Calls.{RoutinesCallTheirTexts, ProcessesCallTheirTexts}
-use Rattle.codegen_ranks.specs.Ranks.{RanksAreOfTheMeaning, CeilingsAreOfTheMeaning}
-use Rattle.codegen_ranks.specs.Touches.{is_entry_of, process_comes_to_one}
-use Rattle.codegen_ranks.proofs.Rows.{AreAlike, own_is, stay_comes}
-use Rattle.codegen_ranks.proofs.Whole.{as_many_processes}
+use Rattle.built_tasks_law.specs.Calls.{RoutinesCallTheirTexts, ProcessesCallTheirTexts}
+use Rattle.built_tasks_law.specs.Ranks.{RanksAreOfTheMeaning, CeilingsAreOfTheMeaning}
+use Rattle.built_tasks_law.specs.Touches.{is_entry_of, process_comes_to_one}
+use Rattle.built_tasks_law.proofs.Rows.{AreAlike, own_is, stay_comes}
+use Rattle.built_tasks_law.proofs.Whole.{as_many_processes}
 use Rattle.built_tasks_law.specs.Tasks.{BlocksAreOfTheText}
 use Rattle.built_tasks_law.proofs.Comes.{Goal, process_goal, process_comes}
 use Rattle.built_tasks_law.proofs.Origins.{at_least, longer_at_least, Origin, origin}

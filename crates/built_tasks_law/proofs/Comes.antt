@@ -7,12 +7,12 @@ use Rattle.syntax_tree.specs.Plain.{Process, Program}
 use Rattle.source_semantics.specs.Names.{routine_count}
 use Rattle.code_spec.specs.Layout.{by_process}
 use Rattle.code_spec.specs.Numbering.{Text, Called, called_text, routine_calls, same_text}
-use Rattle.code_names_law.specs.Ruled.{NamesApart}
-use Rattle.code_names_law.proofs.Numbers.{IsText, called_is_text, or_true, text_is}
-use Rattle.code_names_law.proofs.Rows.{text_same}
+use Rattle.codegen_law.specs.Ruled.{NamesApart}
+use Rattle.codegen_law.proofs.NameNumbers.{IsText, called_is_text, or_true, text_is}
+use Rattle.codegen_law.proofs.Rows.{text_same}
 use Rattle.sched_program.specs.Tasks.{passes_some, some_called, process_calls, comes_to, process_comes_to}
-use Rattle.codegen_ranks.specs.Touches.{comes_to_one, process_comes_to_one}
-use Rattle.codegen_ranks.proofs.Lists.{called_alike}
+use Rattle.built_tasks_law.specs.Touches.{comes_to_one, process_comes_to_one}
+use Rattle.built_tasks_law.proofs.Lists.{called_alike}
 
 -- ---- one of the called texts passes
 

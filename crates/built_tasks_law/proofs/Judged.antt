@@ -16,8 +16,8 @@ use Rattle.checked_law.specs.Small.{KeepsSizes}
 use Rattle.static_semantics.specs.Static.{IsChecked}
 use Rattle.built_image.specs.Built.{IsShaped, IsTimely, IsLate}
 use Rattle.sched_program.specs.Tasks.{AreTasksOf, IsInTime, IsNotInTime, IsBoundOf}
-use Rattle.sched_program_law.specs.Once.{TasksAreOne, NeverInTimeAndNot}
-use Rattle.sched_program_law.proofs.Levels.{rank_low, rank_high, had}
+use Rattle.sched_program.specs.Once.{TasksAreOne, NeverInTimeAndNot}
+use Rattle.sched_program.proofs.Levels.{rank_low, rank_high, had}
 use Rattle.built_tasks_law.specs.Tasks.{RanksAreOfTheText, TasksAreOfTheText}
 use Rattle.built_tasks_law.specs.Judged.{TimelyIsInTime, LateIsNotInTime, ShapesAreJudgedAlike, BoundsAreOfTheText, BuiltIsInTime}
 use Rattle.built_tasks_law.proofs.Tasks.{tasks_long}

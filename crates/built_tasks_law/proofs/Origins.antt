@@ -6,7 +6,7 @@ use Rattle.std.proofs.lemmas.Bool.Decides.{nat_tests}
 use Rattle.machine_semantics.specs.Image.{Image, Monitor, Process}
 use Rattle.valid_image.specs.Tables.{longer_stay, stay_of_process}
 use Rattle.valid_image.specs.Times.{ticks_of, blocking_stay, longest_blocking, blocking_by, longest_block}
-use Rattle.codegen_ranks.proofs.Tests.{or_false}
+use Rattle.built_tasks_law.proofs.Tests.{or_false}
 
 -- ---- a stay of so many ticks at least
 

@@ -21,14 +21,14 @@ use Rattle.code_cost_spec.specs.Levels.{cost_of_process}
 use Rattle.code_measures.specs.Declared.{Declares}
 use Rattle.code_measures.specs.Whole.{HasRanks}
 use Rattle.code_measures.proofs.Valid.{no_rank_fault}
-use Rattle.code_names_law.proofs.Rows.{process_of}
+use Rattle.codegen_law.proofs.Rows.{process_of}
 use Rattle.wellformed.specs.WellFormed.{IsWellFormed}
 use Rattle.checked_law.specs.Ready.{CheckedProgramsAreReady}
 use Rattle.checked_law.specs.Small.{GeneratedCodeIsCode}
 use Rattle.sched_program.specs.Tasks.{with_dispatches, IsBlock, IsTaskOf}
-use Rattle.sched_program_law.proofs.Levels.{rank_high}
-use Rattle.codegen_ranks.specs.Ranks.{RanksAreOfTheMeaning}
-use Rattle.codegen_ranks.proofs.Whole.{as_many_processes}
+use Rattle.sched_program.proofs.Levels.{rank_high}
+use Rattle.built_tasks_law.specs.Ranks.{RanksAreOfTheMeaning}
+use Rattle.built_tasks_law.proofs.Whole.{as_many_processes}
 use Rattle.built_tasks_law.specs.Tasks.{BlocksAreOfTheText, RanksAreOfTheText, TasksAreOfTheText}
 
 pub tasks_long : (m : image.Image) (j n : ℕ) → length (tasks_from m j n) ≡ n

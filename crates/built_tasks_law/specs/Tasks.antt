@@ -9,7 +9,7 @@ use Rattle.valid_image.specs.Tasks.{tasks_of}
 use Rattle.valid_image.specs.Times.{needed_block}
 use Rattle.code_spec.specs.Compiled.{IsCodeOf}
 use Rattle.wellformed.specs.WellFormed.{IsWellFormed}
-use Rattle.code_names_law.specs.Ruled.{NamesApart}
+use Rattle.codegen_law.specs.Ruled.{NamesApart}
 use Rattle.code_measures.specs.Declared.{Declares}
 use Rattle.code_measures.specs.Whole.{HasRanks}
 use Rattle.static_semantics.specs.Static.{IsChecked}

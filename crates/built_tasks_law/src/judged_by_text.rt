@@ -8,7 +8,7 @@
 ghost use Rattle.built_tasks_law.specs.Judged.{BoundsAreOfTheText, BuiltIsInTime, LateIsNotInTime, ShapesAreJudgedAlike, TimelyIsInTime};
 
 use crate::tasks_of_text::{ranks_are_of_the_text, tasks_are_of_the_text};
-use sched_program_law::one_judgement::{never_in_time_and_not, tasks_are_one};
+use sched_program::one_judgement::{never_in_time_and_not, tasks_are_one};
 
 /// A timely program is in time.
 pub fn timely_is_in_time()

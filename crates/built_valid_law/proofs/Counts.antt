@@ -13,7 +13,7 @@ use Rattle.code_lifting.proofs.Words.{same_length, conditions_are as places_of_c
 use Rattle.wellformed.specs.WellFormed.{CountsFit}
 use Rattle.built_image.specs.Named.{named_conditions, named_device, named_event}
 use Rattle.built_image_law.proofs.Joined.{as_many}
-use Rattle.codegen_operands.proofs.Owning.{routines_counted}
+use Rattle.built_valid_law.proofs.Owning.{routines_counted}
 
 -- ---- conditions and devices
 

@@ -1,3 +1,15 @@
+pub mod Keeping
+pub mod Owning
+pub mod EmittedLemmas
+pub mod Spans
+pub mod AreasLemmas
+pub mod Tables
+pub mod Lines
+pub mod Texts
+pub mod Standing
+pub mod Calls
+pub mod Unbound
+pub mod Whole
 pub mod Devices
 pub mod Bounds
 pub mod Words

@@ -6,7 +6,7 @@ use Rattle.machine_semantics.specs.Image.{Image}
 use Rattle.valid_image.specs.Valid.{Operands, fault_of_part, IsValid}
 use Rattle.code_spec.specs.Compiled.{IsCodeOf}
 use Rattle.static_semantics.specs.Static.{IsChecked}
-use Rattle.codegen_operands.specs.Areas.{DevicesGoOneWay}
+use Rattle.built_valid_law.specs.Areas.{DevicesGoOneWay}
 use Rattle.checked_law.specs.Ready.{IsImageMade}
 
 -- The law: devices of one name go one way.

@@ -1,3 +1,10 @@
+pub mod Has
+pub mod Kept
+pub mod Lies
+pub mod Areas
+pub mod Fine
+pub mod Texts
+pub mod InRange
 pub mod Checked
 pub mod Made
 pub mod Ready

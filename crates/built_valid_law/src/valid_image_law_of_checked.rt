@@ -7,10 +7,10 @@
 
 ghost use Rattle.built_valid_law.specs.Checked.{CheckedDevicesGoOneWay, CheckedOperandsAreInRange, CheckedImagesAreValid};
 
+use crate::operands_of_image::operands_are_in_range;
 use checked_law::premises_of_laws::{checked_images_are_made, checked_programs_are_ready};
 use code_measures::declared_images_valid::made_images_are_valid;
-use codegen_operands::operands_of_image::operands_are_in_range;
-use wellformed_names_law::names_are_found;
+use wellformed_law::names_are_found;
 
 /// In a checked program devices of one name go one way.
 pub fn checked_devices_go_one_way()

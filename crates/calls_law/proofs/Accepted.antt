@@ -8,7 +8,7 @@ use Rattle.script.specs.Scripts.{IsScript}
 use Rattle.syntax_tree.specs.Placed.{plain}
 use Rattle.event_log.specs.Logs.{IsLog, longest_text}
 use Rattle.built_image.specs.Named.{names_of}
-use Rattle.built_stored_law.specs.Stored.{BuiltImagesAreHeld}
+use Rattle.replay_law.specs.Stored.{BuiltImagesAreHeld}
 use Rattle.built_tasks_law.specs.Judged.{BoundsAreOfTheText, BuiltIsInTime}
 use Rattle.command.specs.Due.{lines_in}
 use Rattle.command_due.specs.Source.{IsTimelyText, Style, report_of}

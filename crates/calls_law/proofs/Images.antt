@@ -8,9 +8,9 @@ use Rattle.image_format.specs.FormatLaw.{AreBytes}
 use Rattle.image_reader.specs.Answer.{Holds, parts_of}
 use Rattle.image_reader.specs.File.{image_with}
 use Rattle.image_reader_law.specs.ImageSound.{ImagesReadAreWritten}
-use Rattle.image_stored_law.proofs.Fitting.{fit, fits}
-use Rattle.image_stored_law.proofs.Held.{ranged}
-use Rattle.image_stored_law.proofs.Versions.{fits_again}
+use Rattle.image_reader_law.proofs.Fitting.{fit, fits}
+use Rattle.image_reader_law.proofs.Held.{ranged}
+use Rattle.image_reader_law.proofs.Versions.{fits_again}
 use Rattle.asm_format.specs.Text.{text_of}
 use Rattle.assembler.specs.Faults.{longest_text}
 use Rattle.valid_image.specs.Valid.{IsValid, fault_of}

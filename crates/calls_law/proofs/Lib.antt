@@ -1,3 +1,5 @@
+pub mod Orders
+pub mod Running
 pub mod Fitting
 pub mod Outcomes
 pub mod Images
@@ -5,3 +7,4 @@ pub mod Counted
 pub mod Accepted
 pub mod Loads
 pub mod Printed
+mod Spared

@@ -7,7 +7,6 @@
 
 ghost use Rattle.calls_law.specs.Accepted.{CompileIsGo, CompileThenMigrateKeeps, CompileThenRunPutsTheFault, CompileThenRunPutsTheLog, GoIsCheckAndLog, GoThenMigrateKeeps, GoThenReplayCounts, GoThenRunPutsTheLog};
 
-use built_stored_law::stored_programs::built_images_are_held;
 use built_tasks_law::judged_by_text::{bounds_are_of_the_text, built_is_in_time};
 use command_due_law::one_answer::{
     compile_is_one, migrate_is_one, run_is_one, timely_texts_have_one_image,
@@ -15,6 +14,7 @@ use command_due_law::one_answer::{
 use compiler_correct::faithful_images::built_images_are_faithful;
 use replay_law::accepted_logs::{logs_of_accepted_programs_are_runs, logs_of_runs_are_logs};
 use replay_law::one_judgement::replay_is_one;
+use replay_law::stored_programs::built_images_are_held;
 
 /// Where what is due of `go` is status 0, it puts the report that `check` puts, and a log behind it.
 pub fn go_is_check_and_log()

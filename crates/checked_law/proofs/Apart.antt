@@ -14,18 +14,18 @@ use Rattle.source_semantics.specs.Run.{of_program, of_monitor}
 use Rattle.wellformed.specs.WellFormed.{RoutineFits}
 use Rattle.static_semantics.specs.Mirrors.{program_site, process_site, monitor_site, monitors_in}
 use Rattle.static_semantics.specs.Static.{IsChecked}
-use Rattle.wellformed_names_law.proofs.Members.{In, in-contains}
-use Rattle.wellformed_names_law.proofs.Lookups.{named-map}
-use Rattle.wellformed_names_law.proofs.ProgramScope.{routine_called, none-hidden, split-in, routines-plain}
-use Rattle.wellformed_names_law.proofs.EntryNames.{monitors-apart}
-use Rattle.wellformed_names_law.proofs.Mirrored.{program_routine_mirrors, entry_mirrors}
+use Rattle.wellformed_law.proofs.Members.{In, in-contains}
+use Rattle.wellformed_law.proofs.Lookups.{named-map}
+use Rattle.wellformed_law.proofs.ProgramScope.{routine_called, none-hidden, split-in, routines-plain}
+use Rattle.wellformed_law.proofs.EntryNames.{monitors-apart}
+use Rattle.wellformed_law.proofs.Mirrored.{program_routine_mirrors, entry_mirrors}
 use Rattle.wellformed_law.proofs.WellformedLaw.{Laws}
 use Rattle.wellformed_law.proofs.Standing.{monitor_at}
 use Rattle.wellformed_law.proofs.ProcessesFit.{shared_fit, entries_fit}
 use Rattle.wellformed_law.proofs.WellFormed.{RuleLaws, laws_of}
-use Rattle.code_names_law.specs.Kept.{AllFound, NamesDiffer}
-use Rattle.code_names_law.proofs.Numbers.{found_name, found_there}
-use Rattle.code_names_law.specs.Ruled.{NamesApart}
+use Rattle.codegen_law.specs.Kept.{AllFound, NamesDiffer}
+use Rattle.codegen_law.proofs.NameNumbers.{found_name, found_there}
+use Rattle.codegen_law.specs.Ruled.{NamesApart}
 use Rattle.checked_law.proofs.Differ.{Differ, differ_behind, scope_differs, DeclsDiffer, decls_differ, differ_found, program_found}
 use Rattle.checked_law.proofs.Standing.{mapped_at, routine_at, process_at, monitor_at as monitor_placed}
 use Rattle.checked_law.proofs.Shared.{nobody, nothing_hidden, calls_program}

@@ -3,8 +3,8 @@ use Rattle.syntax_tree.specs.Placed.{Prog, plain}
 use Rattle.syntax_tree.specs.declared.place.Place.{Place}
 use Rattle.static_semantics.specs.Static.{IsChecked}
 use Rattle.wellformed.specs.WellFormed.{IsWellFormed}
-use Rattle.code_names_law.specs.Ruled.{NamesApart}
-use Rattle.code_names_law.specs.Sound.{RoutinesHaveNumbers, WellFormedProgramsAreSound}
+use Rattle.codegen_law.specs.Ruled.{NamesApart}
+use Rattle.codegen_law.specs.Sound.{RoutinesHaveNumbers, WellFormedProgramsAreSound}
 use Rattle.code_measures.specs.Quiet.{AreQuiet}
 use Rattle.checked_law.specs.Quiet.{reaches_no_wait}
 use Rattle.checked_law.specs.Ready.{CheckedProgramsAreReady, CheckedImagesAreMade}

@@ -8,10 +8,10 @@ use Rattle.static_names.specs.declared.kind.Declared.{Declared}
 use Rattle.static_names.specs.Reach.{same, Names, Reach, first, Site}
 use Rattle.static_names.specs.Occurrences.{Occurrence, declares, declarations, decl_name, others, decls_names}
 use Rattle.source_semantics.specs.Names.{named}
-use Rattle.wellformed_names_law.proofs.Members.{In, ends-in, in-map}
-use Rattle.wellformed_names_law.proofs.Lookups.{some-none, named-step, named-here, or_else-first, or_else-second}
-use Rattle.wellformed_names_law.proofs.NamesAfter.{ends-inner}
-use Rattle.wellformed_names_law.proofs.ProgramScope.{routine_called}
+use Rattle.wellformed_law.proofs.Members.{In, ends-in, in-map}
+use Rattle.wellformed_law.proofs.Lookups.{some-none, named-step, named-here, or_else-first, or_else-second}
+use Rattle.wellformed_law.proofs.NamesAfter.{ends-inner}
+use Rattle.wellformed_law.proofs.ProgramScope.{routine_called}
 use Rattle.static_names.proofs.Programs.{first-append}
 use Rattle.static_names.proofs.Scopes.{none-of, same-refl}
 

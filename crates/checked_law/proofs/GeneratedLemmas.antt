@@ -1,5 +1,5 @@
 -- The laws joined.
-use Rattle.code_names_law.proofs.SoundLemmas.{well_formed_programs_are_sound}
+use Rattle.codegen_law.proofs.SoundLemmas.{well_formed_programs_are_sound}
 use Rattle.codegen_law.proofs.Program.{made_has_its_length, made_is_code}
 use Rattle.codegen_law.proofs.Whole.{well_formed_fits}
 use Rattle.checked_law.specs.Generated.{GeneratedIsCode, GeneratedHasItsLength}

@@ -17,16 +17,16 @@ use Rattle.static_calls.specs.Calls.{routine_calls, stmts_calls}
 use Rattle.static_calls.specs.Reaching.{Calls, Reaches, by_call, by_calls, ReachesWait, HandlerWaits}
 use Rattle.static_semantics.specs.Static.{IsChecked}
 use Rattle.wellformed.specs.WellFormed.{IsWellFormed}
-use Rattle.wellformed_names_law.proofs.Members.{in-contains}
+use Rattle.wellformed_law.proofs.Members.{in-contains}
 use Rattle.wellformed_law.proofs.WellformedLaw.{Laws}
 use Rattle.wellformed_law.proofs.Standing.{plain_processes}
 use Rattle.wellformed_law.proofs.WellFormed.{RuleLaws, laws_of, checked_is_well_formed}
-use Rattle.code_names_law.proofs.Numbers.{IsText, called_is_text}
-use Rattle.code_names_law.specs.Ruled.{NamesApart}
+use Rattle.codegen_law.proofs.NameNumbers.{IsText, called_is_text}
+use Rattle.codegen_law.specs.Ruled.{NamesApart}
 use Rattle.code_measures.specs.Quiet.{AreQuiet}
-use Rattle.code_names_law.proofs.NumberedLemmas.{text_listed}
-use Rattle.code_names_law.proofs.Finding.{called_one}
-use Rattle.code_names_law.proofs.Levels.{level, are_levels}
+use Rattle.codegen_law.proofs.NumberedLemmas.{text_listed}
+use Rattle.codegen_law.proofs.Finding.{called_one}
+use Rattle.codegen_law.proofs.Levels.{level, are_levels}
 use Rattle.checked_law.proofs.Apart.{names_apart}
 use Rattle.checked_law.specs.Quiet.{stmt_waits, all_quiet, quiet_within, reaches_no_wait, HandlerQuiet, stmts_wait as plain_wait}
 use Rattle.checked_law.proofs.QuietLemmas.{all_from, are_quiet}

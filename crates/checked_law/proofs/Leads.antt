@@ -18,23 +18,23 @@ use Rattle.code_spec.specs.Numbering.{Text, routine_of, process_routines, entry_
 use Rattle.code_spec.specs.Numbering as call_of
 use Rattle.static_calls.specs.Calls.{routine_calls, stmts_calls}
 use Rattle.static_semantics.specs.Mirrors.{program_site, process_site, monitor_site}
-use Rattle.wellformed_names_law.proofs.Members.{In, in-contains, contains-in, in-left, in-right, ends-in, Ends}
-use Rattle.wellformed_names_law.proofs.Lookups.{first-not, named-map, named-in, FoundBy, found-by, not-found-by, or_else-second, Either, in_first, in_second, either}
-use Rattle.wellformed_names_law.proofs.NamesAfter.{ends-constants, ends-members}
-use Rattle.wellformed_names_law.proofs.ProgramScope.{routines-plain, monitors-plain, routine_called, monitor_called, Listed, Looks, program-means, reach-in, declarations-free, split-in}
-use Rattle.wellformed_names_law.proofs.EntryNames.{monitors-apart, through-is}
-use Rattle.wellformed_names_law.proofs.Mirrored.{Reaches, HasEntries, reaches-inside, reaches-program, in-routine, in-process, in-monitor, entries-program, entries-monitor}
-use Rattle.wellformed_calls_law.proofs.Below.{AreNames, names-rest}
-use Rattle.wellformed_calls_law.proofs.WellformedCallsBehind.{at_routine, at_process_routine, behind_declarations}
+use Rattle.wellformed_law.proofs.Members.{In, in-contains, contains-in, in-left, in-right, ends-in, Ends}
+use Rattle.wellformed_law.proofs.Lookups.{first-not, named-map, named-in, FoundBy, found-by, not-found-by, or_else-second, Either, in_first, in_second, either}
+use Rattle.wellformed_law.proofs.NamesAfter.{ends-constants, ends-members}
+use Rattle.wellformed_law.proofs.ProgramScope.{routines-plain, monitors-plain, routine_called, monitor_called, Listed, Looks, program-means, reach-in, declarations-free, split-in}
+use Rattle.wellformed_law.proofs.EntryNames.{monitors-apart, through-is}
+use Rattle.wellformed_law.proofs.Mirrored.{Reaches, HasEntries, reaches-inside, reaches-program, in-routine, in-process, in-monitor, entries-program, entries-monitor}
+use Rattle.wellformed_law.proofs.Below.{AreNames, names-rest}
+use Rattle.wellformed_law.proofs.WellformedCallsBehind.{at_routine, at_process_routine, behind_declarations}
 use Rattle.wellformed_law.proofs.WellformedLaw.{Laws}
 use Rattle.wellformed_law.proofs.Standing.{plain_processes}
 use Rattle.wellformed_law.proofs.ProcessesFit.{in_process_names}
-use Rattle.code_names_law.proofs.Numbers.{found_there}
-use Rattle.code_names_law.specs.Called.{AllCalled}
+use Rattle.codegen_law.proofs.NameNumbers.{found_there}
+use Rattle.codegen_law.specs.Called.{AllCalled}
 use Rattle.checked_law.proofs.Shared.{nobody}
 use Rattle.checked_law.proofs.Standing.{routine_at}
 use Rattle.checked_law.proofs.Walk.{AllIn, routine_leads, body_leads}
-use Rattle.wellformed_calls_law.proofs.Calls.{entry_kind}
+use Rattle.wellformed_law.proofs.Calls.{entry_kind}
 use Rattle.static_names.proofs.Programs.{first-append}
 
 -- ---- the placed routine that a text stands for

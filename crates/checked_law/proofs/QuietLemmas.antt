@@ -8,12 +8,12 @@ use Rattle.source_semantics.specs.Names.{processes, routine_count}
 use Rattle.code_spec.specs.Layout.{by_process}
 use Rattle.code_spec.specs.Numbering.{Text, Called, called_text, routine_calls, numbered}
 use Rattle.wellformed.specs.WellFormed.{IsWellFormed, OptionalFits}
-use Rattle.code_names_law.specs.Ruled.{NamesApart}
+use Rattle.codegen_law.specs.Ruled.{NamesApart}
 use Rattle.code_measures.specs.Quiet.{NoWait, NoWaits, IsQuietBelow, QuietHandler, AreQuiet}
-use Rattle.code_names_law.specs.Numbered.{CallsText}
-use Rattle.code_names_law.proofs.NumberedLemmas.{listed_text}
-use Rattle.code_names_law.proofs.Owners.{process_fits}
-use Rattle.code_names_law.proofs.SoundLemmas.{are_numbered, text_sound, part_sound, below, below_all}
+use Rattle.codegen_law.specs.Numbered.{CallsText}
+use Rattle.codegen_law.proofs.NumberedLemmas.{listed_text}
+use Rattle.codegen_law.proofs.Owners.{process_fits}
+use Rattle.codegen_law.proofs.SoundLemmas.{are_numbered, text_sound, part_sound, below, below_all}
 use Rattle.checked_law.specs.Quiet.{stmt_waits, stmts_wait, quiet_some, all_quiet, quiet_within, reaches_no_wait, HandlersQuiet, QuietProgramsAreQuiet}
 
 neither : (a b : Bool) → (a || b) ≡ false → (a ≡ false) × (b ≡ false)

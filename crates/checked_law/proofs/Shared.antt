@@ -12,11 +12,11 @@ use Rattle.code_spec.specs.Numbering.{Called, calls_routine, calls_entry, stmts_
 use Rattle.wellformed.specs.Here.{in_routine}
 use Rattle.wellformed.specs.Statements.{may_call}
 use Rattle.wellformed.specs.WellFormed.{RoutineFits}
-use Rattle.wellformed_names_law.proofs.Members.{In}
-use Rattle.wellformed_names_law.proofs.ProgramScope.{routine_called}
-use Rattle.code_names_law.specs.Ruled.{OfProgram, AllOfProgram}
-use Rattle.code_names_law.specs.Called.{AllCalled, FindsRoutine, Finds}
-use Rattle.code_names_law.proofs.Finding.{called_both, text_finds}
+use Rattle.wellformed_law.proofs.Members.{In}
+use Rattle.wellformed_law.proofs.ProgramScope.{routine_called}
+use Rattle.codegen_law.specs.Ruled.{OfProgram, AllOfProgram}
+use Rattle.codegen_law.specs.Called.{AllCalled, FindsRoutine, Finds}
+use Rattle.codegen_law.proofs.Finding.{called_both, text_finds}
 
 -- a process without routines
 abbrev pub nobody : Process Place

@@ -7,10 +7,10 @@ use Rattle.code_spec.specs.Layout.{routine_words}
 use Rattle.code_spec.specs.Numbering as numbering
 use Rattle.code_cost_spec.specs.Heights.{routine_height}
 use Rattle.code_cost_spec.specs.Levels.{calls_of, code_length}
-use Rattle.code_names_law.specs.Numbered.{AreNumbered}
+use Rattle.codegen_law.specs.Numbered.{AreNumbered}
 use Rattle.checked_law.specs.Ready.{CheckedProgramsAreReady}
 use Rattle.codegen_law.specs.Fitting.{FramesFit}
-use Rattle.code_size.specs.Rules.{routine_stack, placed_texts_from}
+use Rattle.code_cost.specs.Rules.{routine_stack, placed_texts_from}
 use Rattle.checked_law.specs.Runs.{CheckedCodeIsCode}
 use Rattle.checked_law.specs.Small.{KeepsSizes, ProgramsThatKeepSizesAreSmall, GeneratedCodeIsCode}
 use Rattle.checked_law.proofs.Texts.{IsPlainOf, plain_of_placed}

@@ -6,7 +6,7 @@ use Rattle.syntax_tree.specs.Plain as plain_of
 use Rattle.syntax_tree.specs.Placed.{Routine, Monitor, Process, Decl, constant, device, event, routine, monitor, process, plain_routine, plain_monitor, plain_process, plain_decl}
 use Rattle.syntax_tree.specs.declared.place.Place.{Place}
 use Rattle.source_semantics.specs.Names.{routine_in, monitor_in, process_in}
-use Rattle.wellformed_names_law.proofs.Members.{In}
+use Rattle.wellformed_law.proofs.Members.{In}
 
 -- one that stands so in the plain tree
 pub record Placed {X Y : Type 0} (plain : X → Y) (Stands : X → Type 0) (y : Y) : Type 0 where

@@ -7,7 +7,7 @@ use Rattle.syntax_tree.specs.Placed.{Routine, Decl, constant, device, event, rou
 use Rattle.syntax_tree.specs.declared.place.Place.{Place}
 use Rattle.code_spec.specs.Layout.{Owner, by_program, by_process, by_monitor}
 use Rattle.code_spec.specs.Numbering as numbering
-use Rattle.code_size.specs.Rules.{PlacedText, placed_texts_of, placed_texts_from}
+use Rattle.code_cost.specs.Rules.{PlacedText, placed_texts_of, placed_texts_from}
 
 abbrev pub plain_text : PlacedText → numbering.Text
 plain_text t = record { owner = t.owner; routine = plain_routine t.routine }

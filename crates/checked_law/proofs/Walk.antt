@@ -15,10 +15,10 @@ use Rattle.code_spec.specs.Numbering.{Called, calls_routine, calls_entry}
 use Rattle.code_spec.specs.Numbering as call_of
 use Rattle.static_calls.specs.Calls.{called, expr_calls, exprs_calls, operands_calls, ref_calls, stmt_calls, stmts_calls, answer_calls, routine_calls}
 use Rattle.static_semantics.specs.Places.{IsFound, NamesFound}
-use Rattle.wellformed_calls_law.proofs.WellformedCallsBehind.{behind_constant, at_body}
-use Rattle.code_names_law.specs.Called.{AllCalled}
-use Rattle.code_names_law.proofs.Finding.{called_both}
-use Rattle.wellformed_calls_law.proofs.Below.{AreNames, names-rest}
+use Rattle.wellformed_law.proofs.WellformedCallsBehind.{behind_constant, at_body}
+use Rattle.codegen_law.specs.Called.{AllCalled}
+use Rattle.codegen_law.proofs.Finding.{called_both}
+use Rattle.wellformed_law.proofs.Below.{AreNames, names-rest}
 
 entry-rest : (g : Prog Place) (site : Site) (mon : Name) (q : Place) (entry : Name) (t : Place) (os : List Occurrence) → AreNames g (entry_names site mon q entry t os) → AreNames g os
 entry-rest g site mon q entry t os h =

@@ -6,7 +6,7 @@ use Rattle.machine_semantics.specs.Image as image
 use Rattle.code_spec.specs.Compiled.{IsCodeOf}
 use Rattle.code_cost_spec.specs.Levels.{code_length}
 use Rattle.wellformed.specs.WellFormed.{IsWellFormed}
-use Rattle.code_names_law.specs.Ruled.{NamesApart}
+use Rattle.codegen_law.specs.Ruled.{NamesApart}
 use Rattle.codegen_spec.specs.Parts.{program_made}
 use Rattle.codegen_spec.specs.Held.{Holds}
 use Rattle.codegen_law.specs.Fitting.{FramesFit}

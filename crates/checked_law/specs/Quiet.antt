@@ -5,7 +5,7 @@ use Rattle.source_semantics.specs.Names.{processes, routine_count}
 use Rattle.code_spec.specs.Layout.{by_process}
 use Rattle.code_spec.specs.Numbering.{Text, Called, called_text, stmts_calls, routine_calls}
 use Rattle.wellformed.specs.WellFormed.{IsWellFormed}
-use Rattle.code_names_law.specs.Ruled.{NamesApart}
+use Rattle.codegen_law.specs.Ruled.{NamesApart}
 use Rattle.code_measures.specs.Quiet.{AreQuiet}
 
 -- there is a wait among the statements

@@ -7,9 +7,9 @@ use Rattle.machine_semantics.specs.Image as image
 use Rattle.valid_image.specs.Sizes.{words_over_all}
 use Rattle.static_semantics.specs.Static.{IsChecked}
 use Rattle.wellformed.specs.WellFormed.{IsWellFormed}
-use Rattle.code_names_law.specs.Ruled.{NamesApart}
+use Rattle.codegen_law.specs.Ruled.{NamesApart}
 use Rattle.code_spec.specs.Compiled.{IsCodeOf}
-use Rattle.code_names_law.specs.Numbered.{AreNumbered}
+use Rattle.codegen_law.specs.Numbered.{AreNumbered}
 use Rattle.code_measures.specs.Declared.{IsSound, Declares}
 use Rattle.code_measures.specs.Quiet.{AreQuiet}
 use Rattle.code_measures.specs.Whole.{HasRanks, IsBound, IsMade}

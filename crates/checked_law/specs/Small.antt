@@ -5,7 +5,7 @@ use Rattle.syntax_tree.specs.declared.place.Place.{Place}
 use Rattle.machine_semantics.specs.Image as image
 use Rattle.static_semantics.specs.Static.{IsChecked}
 use Rattle.code_spec.specs.Compiled.{IsCodeOf}
-use Rattle.code_size.specs.Rules.{SizeFails}
+use Rattle.code_cost.specs.Rules.{SizeFails}
 use Rattle.checked_law.specs.Runs.{IsSmallEnough, HoldsMade}
 
 -- no rule of size fails anywhere in the program

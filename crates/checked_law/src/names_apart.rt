@@ -11,12 +11,12 @@
 ghost use Rattle.syntax_tree.specs.Placed.{Prog, plain};
 ghost use Rattle.syntax_tree.specs.declared.place.Place.{Place};
 ghost use Rattle.static_semantics.specs.Static.{IsChecked};
-ghost use Rattle.code_names_law.specs.Ruled.{NamesApart};
+ghost use Rattle.codegen_law.specs.Ruled.{NamesApart};
 
-use wellformed_calls_law::{answers_fit, bodies_fit, calls_have_levels, routines_have_levels};
-use wellformed_names_law::{
-    declarations_are_listed, names_are_found, names_stand_apart, texts_are_mirrored,
-    things_are_known, trees_are_written,
+use wellformed_law::{
+    answers_fit, bodies_fit, calls_have_levels, declarations_are_listed, names_are_found,
+    names_stand_apart, routines_have_levels, texts_are_mirrored, things_are_known,
+    trees_are_written,
 };
 
 /// The names of a program that keeps to the rules for names and to all static rules stand apart.

@@ -10,7 +10,7 @@
 ghost use Rattle.checked_law.specs.Ready.{CheckedProgramsAreReady, CheckedImagesAreMade};
 
 use crate::{handlers_are_quiet, names_are_apart};
-use code_names_law::sound_texts::{routines_have_numbers, well_formed_programs_are_sound};
+use codegen_law::sound_texts::{routines_have_numbers, well_formed_programs_are_sound};
 use wellformed_law::checked_programs_are_well_formed;
 
 /// The plain tree of a checked program has all that the laws ask of a program.

@@ -13,10 +13,10 @@ ghost use Rattle.static_semantics.specs.Static.{IsChecked};
 ghost use Rattle.code_measures.specs.Quiet.{AreQuiet};
 ghost use Rattle.checked_law.specs.Quiet.{reaches_no_wait};
 
-use wellformed_calls_law::{answers_fit, bodies_fit, calls_have_levels, routines_have_levels};
-use wellformed_names_law::{
-    declarations_are_listed, names_are_found, names_stand_apart, texts_are_mirrored,
-    things_are_known, trees_are_written,
+use wellformed_law::{
+    answers_fit, bodies_fit, calls_have_levels, declarations_are_listed, names_are_found,
+    names_stand_apart, routines_have_levels, texts_are_mirrored, things_are_known,
+    trees_are_written,
 };
 
 /// The routines of a checked program that reach no wait are quiet, and its handlers call only

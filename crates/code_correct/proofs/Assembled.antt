@@ -14,25 +14,25 @@ use Rattle.code_spec.specs.Numbering.{Text, routine_in, entry_of, routine_calls,
 use Rattle.code_spec.specs.Compiled.{routine_scope, process_scope, is_function, IsCodeOf}
 use Rattle.code_simulation_spec.specs.Memory.{Setting}
 use Rattle.code_simulation_spec.specs.Proper.{found_of, IsMine, Entry, Reaches, ProperAll}
-use Rattle.code_simulation.specs.Known.{IsProper}
+use Rattle.code_correct.specs.Known.{IsProper}
 use Rattle.code_spec.specs.Boundary.{Compiled}
-use Rattle.code_simulation.specs.Process.{setting_of, ProperHandler}
-use Rattle.code_simulation.proofs.FaithfulLemmas.{emitted_is_faithful}
-use Rattle.code_simulation.specs.Kept.{KeepsRules}
-use Rattle.code_names_law.proofs.Numbers.{found_there, monitor_there, of_list, or_true}
-use Rattle.code_simulation.proofs.Emitted.{code_is_emitted}
+use Rattle.code_correct.specs.Process.{setting_of, ProperHandler}
+use Rattle.code_correct.proofs.FaithfulLemmas.{emitted_is_faithful}
+use Rattle.code_correct.specs.Kept.{KeepsRules}
+use Rattle.codegen_law.proofs.NameNumbers.{found_there, monitor_there, of_list, or_true}
+use Rattle.code_correct.proofs.Emitted.{code_is_emitted}
 use Rattle.wellformed.specs.Here.{Here, own_of, is_function_at, in_routine, in_process}
 use Rattle.wellformed.specs.Statements.{AllFit}
 use Rattle.wellformed.specs.WellFormed.{IsWellFormed, RoutineFits, AnswersFit, ProcessFits, OptionalFits}
-use Rattle.code_names_law.specs.Ruled.{all_in, runs_of, NamesApart}
+use Rattle.codegen_law.specs.Ruled.{all_in, runs_of, NamesApart}
 use Rattle.code_correct.specs.Ruled.{ProgramIsFaithful}
-use Rattle.code_names_law.proofs.Mirror.{here_of, OwnerKnown, routine_at}
-use Rattle.code_names_law.proofs.RuledTexts.{AgreeAll, Whole, Place, UsesIn, stmts_proper}
-use Rattle.code_names_law.proofs.Rules.{stmts_below, stmts_quiet, process_agrees, all_agree, program_all_agree, not_monitor, program_no_monitor, monitor_same, answers_below, run_uses, function_runs}
+use Rattle.codegen_law.proofs.Mirror.{here_of, OwnerKnown, routine_at}
+use Rattle.codegen_law.proofs.RuledTexts.{AgreeAll, Whole, Place, UsesIn, stmts_proper}
+use Rattle.codegen_law.proofs.Rules.{stmts_below, stmts_quiet, process_agrees, all_agree, program_all_agree, not_monitor, program_no_monitor, monitor_same, answers_below, run_uses, function_runs}
 use Rattle.code_correct.proofs.Rules.{routine_proper}
-use Rattle.code_names_law.proofs.Tables.{monitor_row, condition_row}
-use Rattle.code_names_law.proofs.Turns.{turns_count}
-use Rattle.code_names_law.proofs.Rows.{not_process}
+use Rattle.codegen_law.proofs.Tables.{monitor_row, condition_row}
+use Rattle.codegen_law.proofs.Turns.{turns_count}
+use Rattle.codegen_law.proofs.Rows.{not_process}
 
 -- ---- numbers among numbers
 

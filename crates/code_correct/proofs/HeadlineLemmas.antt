@@ -7,10 +7,10 @@ use Rattle.code_lifting.proofs.Runs.{runs_are_source_runs}
 use Rattle.code_correct.specs.Headline.{WellFormedCodeIsRight, WellFormedProgramsRun, ProperCodeIsRight, ProgramsRunRightAndInTime, RunsAreRightAndInTime}
 use Rattle.code_lifting.specs.Image.{FreeHolds, RestHolds, compiled_of, whole}
 use Rattle.code_spec.proofs.Following.{faithful_is_right}
-use Rattle.code_simulation.specs.Process.{StandsFor}
-use Rattle.code_simulation.proofs.Emitted.{code_is_emitted}
+use Rattle.code_correct.specs.Process.{StandsFor}
+use Rattle.code_correct.proofs.Emitted.{code_is_emitted}
 use Rattle.code_correct.proofs.Assembled.{program_is_faithful}
-use Rattle.code_simulation.proofs.FaithfulLemmas.{emitted_is_faithful}
+use Rattle.code_correct.proofs.FaithfulLemmas.{emitted_is_faithful}
 
 pub runs_are_right_and_in_time : RunsAreRightAndInTime
 runs_are_right_and_in_time e ps g script fits timed is right ordered respects =

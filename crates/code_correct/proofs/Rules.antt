@@ -6,13 +6,13 @@ use Rattle.source_semantics.specs.Ranks.{uses_all, reached}
 use Rattle.code_spec.specs.Numbering.{Text, stmts_calls, answers_calls, routine_calls}
 use Rattle.code_spec.specs.Compiled.{routine_scope}
 use Rattle.code_simulation_spec.specs.Memory.{Setting}
-use Rattle.code_simulation.specs.Known.{IsProper}
+use Rattle.code_correct.specs.Known.{IsProper}
 use Rattle.wellformed.specs.Here.{own_of}
 use Rattle.wellformed.specs.Statements.{AllFit}
 use Rattle.wellformed.specs.WellFormed.{AnswersFit}
-use Rattle.code_names_law.proofs.Mirror.{here_of}
-use Rattle.code_names_law.proofs.RuledTexts.{AgreeAll, agree_front, agree_back, Whole, Place, UsesIn, stmts_proper}
-use Rattle.code_names_law.proofs.Rules.{answers_below, answers_proper}
+use Rattle.codegen_law.proofs.Mirror.{here_of}
+use Rattle.codegen_law.proofs.RuledTexts.{AgreeAll, agree_front, agree_back, Whole, Place, UsesIn, stmts_proper}
+use Rattle.codegen_law.proofs.Rules.{answers_below, answers_proper}
 
 -- a routine with its own text
 pub routine_proper : (e : Setting) (w : Whole e) (n : ℕ) (t : Text) → Place e (routine_scope e.program t) [] (own_of t.routine) → AllFit (here_of e (routine_scope e.program t) [] (own_of t.routine)) t.routine.body

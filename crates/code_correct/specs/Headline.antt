@@ -10,11 +10,11 @@ use Rattle.machine_safety_spec.specs.Walk.{Where}
 use Rattle.machine_safety_spec.specs.Safe.{Parts, ImageFits}
 use Rattle.machine_semantics.specs.Image.{Process}
 use Rattle.code_simulation_spec.specs.Memory.{Order}
-use Rattle.code_names_law.specs.Kept.{NamesDiffer}
-use Rattle.code_simulation.specs.Kept.{KeepsRules}
-use Rattle.code_simulation.specs.Process.{setting_of}
+use Rattle.codegen_law.specs.Kept.{NamesDiffer}
+use Rattle.code_correct.specs.Kept.{KeepsRules}
+use Rattle.code_correct.specs.Process.{setting_of}
 use Rattle.wellformed.specs.WellFormed.{IsWellFormed}
-use Rattle.code_names_law.specs.Ruled.{NamesApart}
+use Rattle.codegen_law.specs.Ruled.{NamesApart}
 use Rattle.code_lifting.specs.Related.{Whole}
 use Rattle.code_lifting.specs.Compiled.{IsFrom, script_of}
 use Rattle.code_lifting.specs.Image.{IsImageOf, AreRight, compiled_of, whole}

@@ -1,3 +1,6 @@
+pub mod Known
+pub mod Process
+pub mod Kept
 pub mod Ruled
 pub mod Headline
 pub mod Ready

@@ -5,8 +5,8 @@ use Rattle.source_semantics.specs.Names.{processes}
 use Rattle.code_spec.specs.Compiled.{IsCodeOf}
 use Rattle.wellformed.specs.WellFormed.{IsWellFormed}
 use Rattle.code_spec.specs.Boundary.{Compiled, IsFaithful}
-use Rattle.code_simulation.specs.Process.{FreeHolds, RestHolds, StandsFor}
-use Rattle.code_names_law.specs.Ruled.{NamesApart, runs_of}
+use Rattle.code_correct.specs.Process.{FreeHolds, RestHolds, StandsFor}
+use Rattle.codegen_law.specs.Ruled.{NamesApart, runs_of}
 
 -- The law: the code of each process of a well-formed program is faithful.
 abbrev pub ProgramIsFaithful : Type 0

@@ -5,8 +5,8 @@ use Rattle.syntax_tree.specs.Placed.{Prog}
 use Rattle.syntax_tree.specs.declared.place.Place.{Place}
 use Rattle.machine_semantics.specs.Image as image
 use Rattle.code_spec.specs.Boundary.{Compiled, IsFaithful}
-use Rattle.code_simulation.specs.Process.{FreeHolds, RestHolds, StandsFor}
-use Rattle.code_names_law.specs.Ruled.{runs_of}
+use Rattle.code_correct.specs.Process.{FreeHolds, RestHolds, StandsFor}
+use Rattle.codegen_law.specs.Ruled.{runs_of}
 use Rattle.checked_law.specs.Runs.{HoldsMade, IsProcessOf, IsSmallEnough}
 
 -- The law: the code of each process does, step by step, what the meaning of programs says.

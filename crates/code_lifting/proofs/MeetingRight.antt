@@ -15,7 +15,7 @@ use Rattle.machine_semantics.specs.Image.{Process}
 use Rattle.machine_semantics.specs.State.{Operand, Value, Caller, State, is_free}
 use Rattle.machine_semantics.specs.Effect.{Own, Outcome}
 use Rattle.machine_semantics.specs.Effect as effects
-use Rattle.machine_semantics_law.specs.Example.{alone}
+use Rattle.machine_safety.specs.SmallImages.{alone}
 use Rattle.code_spec.specs.Boundary.{Compiled, View, view, view_released, view_raised, next_of, Agrees}
 use Rattle.code_spec.specs.Follows.{Follows, IsRight}
 use Rattle.code_lifting.specs.Image.{FreeHolds, RestHolds, compiled_of}

@@ -5,7 +5,7 @@ use Rattle.source_semantics.specs.Starts.{Script}
 use Rattle.source_semantics.specs.Source.{IsSourceRun}
 use Rattle.machine_semantics.specs.Run.{events}
 use Rattle.machine_safety_spec.specs.Whole.{HasNoOverrun}
-use Rattle.machine_semantics_law.specs.Example.{waiter_and_signaller}
+use Rattle.machine_safety.specs.SmallImages.{waiter_and_signaller}
 use Rattle.code_lifting.specs.Related.{Whole}
 use Rattle.code_lifting.specs.Compiled.{IsFrom, script_of}
 use Rattle.code_lifting.specs.Image.{IsImageOf, AreRight, whole}

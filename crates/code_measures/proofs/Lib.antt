@@ -20,3 +20,11 @@ pub mod HandlerPart
 pub mod Valid
 pub mod WholeLength
 pub mod Meeting
+pub mod Sums
+pub mod CostExprs
+pub mod CostStmts
+pub mod Levels
+pub mod CostParts
+pub mod CostRows
+pub mod CostSizes
+pub mod Total

@@ -5,7 +5,7 @@ use Rattle.sched_response.specs.Demand as demand
 use Rattle.source_semantics.specs.Names.{processes}
 use Rattle.source_semantics_law.specs.Example.{signalled_wait}
 use Rattle.machine_semantics.specs.Image as image
-use Rattle.valid_image_examples.specs.Example.{meeting}
+use Rattle.machine_safety.specs.ValidImages.{meeting}
 use Rattle.valid_image.specs.Times.{rank_of, ceiling_of, needed_block}
 use Rattle.code_spec.specs.Numbering.{numbered, visit, number_of}
 use Rattle.code_spec.specs.Compiled.{IsCodeOf}

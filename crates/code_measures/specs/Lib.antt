@@ -4,3 +4,5 @@ pub mod Like
 pub mod Declared
 pub mod Quiet
 pub mod Whole
+pub mod MeasuredTexts
+pub mod Defined

@@ -5,7 +5,7 @@ use Rattle.sched_response.specs.Demand.{demand_at}
 use Rattle.machine_semantics.specs.Image as image
 use Rattle.valid_image.specs.Tasks.{tasks_of}
 use Rattle.source_semantics_law.specs.Example.{signalled_wait}
-use Rattle.valid_image_examples.specs.Example.{meeting}
+use Rattle.machine_safety.specs.ValidImages.{meeting}
 use Rattle.valid_image.specs.Sizes.{words_over_all}
 use Rattle.valid_image.specs.Times.{rank_of, ceiling_of, needed_block}
 use Rattle.valid_image.specs.Valid.{Shape, Costs, Sizes, Ranks, Bounds, Operands, Handlers, fault_of_part, IsValid}

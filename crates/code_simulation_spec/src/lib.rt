@@ -2,7 +2,7 @@
 //!
 //! The family Compiler correctness: laws, with nothing to run. What the generator makes is the code
 //! of the program (`codegen_law`); such code does what the meaning says, one process
-//! (`code_simulation`) and whole runs (`code_lifting`, `code_correct`); what is built is valid
+//! (`code_correct`) and whole runs (`code_lifting`, `code_correct`); what is built is valid
 //! (`built_valid_law`), with the measures, operands and ranks that are defined; all joined in
 //! `compiler_correct`.
 //!

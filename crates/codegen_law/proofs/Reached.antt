@@ -6,7 +6,7 @@ use Rattle.source_semantics.specs.Names.{named, routines, monitors, processes, r
 use Rattle.source_semantics.specs.Run.{or_else}
 use Rattle.code_spec.specs.Layout.{Owner, by_program, by_process, by_monitor}
 use Rattle.code_spec.specs.Numbering.{Text, routine_of, process_routines, routine_in, entry_of, entry_in, Called, calls_routine, calls_entry, called_text, is_among, visit_some, visit_all, visit, visit_texts, texts_of, texts_from, numbered, routine_calls}
-use Rattle.code_names_law.proofs.Numbers.{monitor_there}
+use Rattle.codegen_law.proofs.NameNumbers.{monitor_there}
 
 abbrev pub text_of : Owner → Routine → Text
 text_of o r = record { owner = o; routine = r }

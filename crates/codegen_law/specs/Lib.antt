@@ -1,3 +1,8 @@
+pub mod Numbered
+pub mod Called
+pub mod Sound
+pub mod Kept
+pub mod Ruled
 pub mod MadeRightFits
 pub mod Right
 pub mod Example

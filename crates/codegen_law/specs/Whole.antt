@@ -3,7 +3,7 @@ use Rattle.std.specs.Prelude.{◌≡◌, length}
 use Rattle.syntax_tree.specs.Plain.{Program}
 use Rattle.machine_semantics.specs.Image as image
 use Rattle.source_semantics_law.specs.Example.{signalled_wait}
-use Rattle.valid_image_examples.specs.Example.{meeting}
+use Rattle.machine_safety.specs.ValidImages.{meeting}
 use Rattle.code_spec.specs.Compiled.{IsCodeOf}
 use Rattle.code_cost_spec.specs.Levels.{code_length}
 use Rattle.code_measures.specs.Declared.{IsSound}

@@ -11,7 +11,7 @@ use Rattle.syntax.specs.Tokens.{tokens}
 use Rattle.syntax_printer.specs.Canonical.{canonical}
 use Rattle.syntax_printer.specs.ReadBack.{AreSpelled, HasTree, IsPrinted}
 use Rattle.printed_law.specs.Printed.{PrintedTreesAreWritten}
-use Rattle.table_written_law.specs.Written.{IsWrittenTable}
+use Rattle.table_law.specs.Written.{IsWrittenTable}
 use Rattle.image.specs.Named.{NamedImage}
 use Rattle.image.specs.Raw.{image_of, named_of}
 use Rattle.image.specs.declared.raw.RawImage.{RawImage}
@@ -30,8 +30,8 @@ use Rattle.command_due.specs.CommandsDue.{Outcome, stored, log, IsRefused, fault
 use Rattle.command_due.specs.SpareDue.{IsSlackDue, slack_refused, slack_told}
 use Rattle.command_due.specs.AsmDue.{IsAsmDue, asm_faulty, asm_invalid, assembled, IsDisDue, dis_misread, disassembled}
 use Rattle.asm_law.specs.AsmLaws.{ImagesToldAreHeld}
-use Rattle.image_stored_law.specs.Stored.{ImagesReadAreHeldAgain}
-use Rattle.built_stored_law.specs.Stored.{BuiltImagesAreHeld}
+use Rattle.image_reader_law.specs.Stored.{ImagesReadAreHeldAgain}
+use Rattle.replay_law.specs.Stored.{BuiltImagesAreHeld}
 use Rattle.asm_format.specs.Text.{text_of as lines_told}
 use Rattle.command_due.specs.StopDue.{IsWatchDue, watch_refused, watch_bad_script, watched}
 use Rattle.command_words.specs.declared.stop.Breakpoint.{Breakpoint}

@@ -21,7 +21,7 @@ use Rattle.sched_demand.specs.declared.judging.Judgement.{Judgement}
 use Rattle.sched_demand.specs.declared.judging.Judgement.TheVariants as judgement
 use Rattle.command_due.specs.EdfDue.{IsEdfDue, IsJudgedText, IsUnfit, edf_faulty, edf_waits, edf_unfit, edf_bad_script, edf_ran}
 use Rattle.sched_program.specs.Tasks.{IsInTime, IsNotInTime}
-use Rattle.sched_program_law.specs.Once.{NeverInTimeAndNot}
+use Rattle.sched_program.specs.Once.{NeverInTimeAndNot}
 use Rattle.command_due.specs.WhyDue.{IsWhyDue, why_faulty, why_late, why_in_time}
 use Rattle.command_due.specs.FitDue.{IsFitDue, fit_faulty, fitted}
 use Rattle.command_due.specs.ChartDue.{IsChartDue, chart_refused, chart_bad_script, charted}

@@ -14,8 +14,8 @@ use Rattle.table_format.specs.declared.table.TaskTable.{TaskTable}
 use Rattle.table_format.specs.Program.{program_of, table_text}
 use Rattle.table_format.specs.Rules.{IsBegun}
 use Rattle.table_law.specs.Costs.{HasCosts, HasProcesses, table_program}
-use Rattle.table_tasks_law.specs.Agree.{BlocksAreOfTheTable, BoundsAreOfTheTable, CeilingsAreOfTheTable, RanksAreOfTheTable, TablesAreInTime}
-use Rattle.table_written_law.specs.Written.{IsWrittenTable}
+use Rattle.table_law.specs.Agree.{BlocksAreOfTheTable, BoundsAreOfTheTable, CeilingsAreOfTheTable, RanksAreOfTheTable, TablesAreInTime}
+use Rattle.table_law.specs.Written.{IsWrittenTable}
 use Rattle.command.specs.Tabled.{HasNumbersOf, TellsTable}
 
 -- the laws of tables

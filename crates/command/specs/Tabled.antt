@@ -17,7 +17,7 @@ use Rattle.table_format.specs.declared.table.TaskTable.{TaskTable}
 use Rattle.table_format.specs.Rules.{IsTable}
 use Rattle.table_format.specs.Spelling.{Word}
 use Rattle.table_law.specs.Costs.{process_of}
-use Rattle.table_tasks_law.specs.Tasks.{IsBoundOfLine, IsTableBlock, IsTableCeiling, IsTableInTime, rank_of_line}
+use Rattle.table_law.specs.Tasks.{IsBoundOfLine, IsTableBlock, IsTableCeiling, IsTableInTime, rank_of_line}
 
 -- The program has a process for each line, with its cost, and neither wait nor suspension; its ranks,
 -- ceilings, blocks and bounds, and whether it is in time, are those of the table, told of the table

@@ -4,7 +4,7 @@ use Rattle.std.specs.Global.{Global}
 use Rattle.outside.specs.Outside.{Appends, AppendsFront, Rose, SinkState}
 use Rattle.command_answers.specs.declared.status.Status.{Status}
 use Rattle.command_answers.specs.declared.status.Status.TheVariants as status
-use Rattle.message_failure.specs.Failure.{cannot_put, cannot_read, cannot_write, out_of_memory}
+use Rattle.message_words.specs.Failure.{cannot_put, cannot_read, cannot_write, out_of_memory}
 use Rattle.message_words.specs.Usage.{usage}
 
 -- what a file holds was refused

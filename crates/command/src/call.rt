@@ -18,7 +18,6 @@ ghost use Rattle.command.specs.Tried.{HasEnded, HasRead, HasWritten};
 
 use crate::carry::carry_out;
 use asm_law::text_and_image::images_told_are_held;
-use built_stored_law::stored_programs::built_images_are_held;
 use built_tasks_law::judged_by_text::{
     bounds_are_of_the_text, built_is_in_time, late_is_not_in_time,
 };
@@ -33,14 +32,15 @@ use command_words::words::overheads_are_decimal;
 use compiler_correct::faithful_images::built_images_are_faithful;
 use edf_correct::feasible_texts::feasible_texts_keep_their_word;
 use image_reader_law::images_read_are_in_their_ranges;
-use image_stored_law::stored_images::images_read_are_held_again;
+use image_reader_law::stored_images::images_read_are_held_again;
 use outside::{Files, Sink};
 use printed_law::printed_programs::printed_trees_are_written;
-use sched_program_law::one_judgement::never_in_time_and_not;
+use replay_law::stored_programs::built_images_are_held;
+use sched_program::one_judgement::never_in_time_and_not;
 use std::alloc::Global;
 use syntax_printer::{reads_back, tokens_are_spelled};
 use syntax_tree::Text;
-use table_written_law::table_text_is_written;
+use table_law::table_text_is_written;
 use valid_image_law::validity_law::every_valid_image_is_safe_and_in_time;
 use vm_law::suitable_scripts::scripts_suit;
 

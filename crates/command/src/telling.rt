@@ -1,12 +1,11 @@
 //! The message for a person.
 
 ghost use Rattle.std.specs.Prelude.{◌≡◌, ◌≢◌, [], IfErr, IfOk};
-ghost use Rattle.message_failure.specs.Failure.{out_of_memory};
+ghost use Rattle.message_words.specs.Failure.{out_of_memory};
 ghost use Rattle.command.specs.Told.{HasMessage, HasPut, HasTold, IsOwnMessage, message_of};
 
 use command_answers::Status;
-use message_failure::{cannot_put, cannot_read, cannot_write, out_of_memory};
-use message_words::usage;
+use message_words::{cannot_put, cannot_read, cannot_write, out_of_memory, usage};
 use outside::Sink;
 use std::alloc::{AllocError, Global};
 use syntax_tree::Text;

@@ -24,11 +24,10 @@ use command_answers::Status;
 use outside::{Buffered, Files, Sink};
 use std::alloc::Global;
 use syntax_tree::Text;
-use table_law::table_costs;
-use table_tasks_law::agree_law::{
+use table_law::agree_law::{
     table_blocks, table_bounds, table_ceilings, table_in_time, table_ranks,
 };
-use table_written_law::table_text_is_written;
+use table_law::{table_costs, table_text_is_written};
 
 /// Whether the status says that nothing was put.
 fn puts_nothing(status: Status<'_>) -> bool

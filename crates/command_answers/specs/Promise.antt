@@ -29,7 +29,7 @@ use Rattle.command_words.specs.declared.stop.Breakpoint.{Breakpoint}
 use Rattle.base.specs.declared.event.Event.{Event}
 use Rattle.source_semantics.specs.Source.{IsSourceRun}
 use Rattle.built_image.specs.Named.{names_of}
-use Rattle.script_meaning.specs.Script.{said}
+use Rattle.script.specs.Meaning.{said}
 use Rattle.command_due.specs.Script.{run_of}
 use Rattle.event_log.specs.Logs.{IsLog}
 use Rattle.command_due.specs.ReplayDue.{IsRecorded, run_line}

@@ -8,7 +8,7 @@ use Rattle.machine_semantics.specs.State.{Thread}
 use Rattle.machine_safety_spec.specs.Whole.{StackFits, WordsFit, Apart, InsideIsReady}
 use Rattle.code_lifting.specs.Compiled.{script_of}
 use Rattle.edf_semantics.specs.Run.{tick, state_at, events}
-use Rattle.edf_timing.specs.InTime.{MeetsDeadlines}
+use Rattle.edf_semantics.specs.InTime.{MeetsDeadlines}
 
 -- No tick is stuck, each process is within its declared stack and has the words that it declares,
 -- and those inside monitors are apart and ready; each activation ends by its deadline, where that

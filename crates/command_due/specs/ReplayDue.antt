@@ -15,7 +15,7 @@ use Rattle.event_log.specs.declared.fault.LogFault.{LogFault}
 use Rattle.event_log.specs.declared.fault.LogFault.TheVariants as log_fault
 use Rattle.event_log.specs.Logs.{IsFault, IsLog}
 use Rattle.command_due.specs.Source.{IsWritten, IsTextFault, fault_line}
-use Rattle.script_meaning.specs.Script.{said}
+use Rattle.script.specs.Meaning.{said}
 use Rattle.command_due.specs.CommandsDue.{Outcome, told, bad_script}
 use Rattle.source_semantics.specs.Verdicts.{IsRefusedAt}
 

@@ -17,7 +17,7 @@ use Rattle.script.specs.Scripts.{IsScript}
 use Rattle.built_image.specs.Built.{IsBuilt}
 use Rattle.sched_program.specs.Tasks as of_text
 use Rattle.command_due.specs.Source.{IsWritten, report_of}
-use Rattle.script_meaning.specs.Script.{said}
+use Rattle.script.specs.Meaning.{said}
 use Rattle.command_due.specs.Script.{run_of}
 use Rattle.command_due.specs.CommandsDue.{stored, log}
 

@@ -3,7 +3,7 @@ use Rattle.std.specs.Prelude.{◌++◌, ℕ, List, [], codes, decimal, nat_eq, i
 use Rattle.machine_semantics.specs.Image.{Script}
 use Rattle.code_lifting.specs.Compiled.{script_of}
 use Rattle.script.specs.declared.script.ScriptLine.{ScriptLine}
-use Rattle.script_meaning.specs.Script.{said}
+use Rattle.script.specs.Meaning.{said}
 use Rattle.script.specs.declared.fault.ScriptFault.{ScriptFault}
 use Rattle.script.specs.declared.fault.ScriptFault.TheVariants.{Bad, Memory}
 

@@ -9,7 +9,7 @@ use Rattle.static_rule.specs.First.{IsFirst}
 use Rattle.image.specs.declared.names.ImageNames.{ImageNames}
 use Rattle.image.specs.Named.{NamedImage}
 use Rattle.front_end.specs.Program.{IsProgramOf, IsProgramFault}
-use Rattle.code_size.specs.Rules.{SizeFails}
+use Rattle.code_cost.specs.Rules.{SizeFails}
 use Rattle.sched_table.specs.declared.table.Table.{Table}
 use Rattle.built_image.specs.Built.{IsBuilt, IsLate}
 use Rattle.built_image.specs.Named.{names_of}

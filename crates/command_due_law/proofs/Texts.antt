@@ -5,7 +5,7 @@ use Rattle.syntax_tree.specs.Placed.{Prog, plain}
 use Rattle.static_rule.specs.First.{IsFirst}
 use Rattle.front_end.specs.ProgramLaws.{HasOneProgram, HasProgramOrFault}
 use Rattle.front_end.specs.OneFault.{HasOneFault}
-use Rattle.code_size.specs.Rules.{SizeFails}
+use Rattle.code_cost.specs.Rules.{SizeFails}
 use Rattle.sched_table.specs.declared.table.Table.{Table}
 use Rattle.built_image.specs.Built.{IsBuilt, IsLate}
 use Rattle.built_image.specs.Shown.{IsTableOf}

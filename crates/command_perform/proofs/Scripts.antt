@@ -1,6 +1,6 @@
 -- The script of what is due is the script of the machine.
 use Rattle.std.proofs.Common.{◌≡◌, List, [], ◌∷◌, map, refl, ap, ◌∙◌}
-use Rattle.script_meaning.specs.Script.{line_said}
+use Rattle.script.specs.Meaning.{line_said}
 use Rattle.command_due.specs.Script.{run_of}
 use Rattle.code_lifting.specs.Compiled as lifted
 use Rattle.machine_semantics.specs.Image.{Line, Script}

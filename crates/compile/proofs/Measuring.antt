@@ -4,7 +4,7 @@ use Rattle.syntax_tree.specs.Placed.{Prog, plain}
 use Rattle.static_semantics.specs.Static.{IsChecked}
 use Rattle.checked_law.specs.Ready.{CheckedProgramsAreReady}
 use Rattle.code_cost.specs.Parts.{measures_of}
-use Rattle.code_cost_law.specs.Defined.{MeasuresAreDefined}
+use Rattle.code_measures.specs.Defined.{MeasuresAreDefined}
 use Rattle.compile.specs.Loops.{CheckedLoopsFit}
 use Rattle.code_cost.specs.Sizes.{AreDefined}
 

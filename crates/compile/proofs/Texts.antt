@@ -4,7 +4,7 @@ use Rattle.source_semantics.specs.Names.{constant_value}
 use Rattle.wellformed.specs.Here.{Here, in_loop}
 use Rattle.wellformed.specs.Statements.{Fits, AllFit}
 use Rattle.codegen_law.proofs.Words.{word_fits}
-use Rattle.code_cost_law.specs.Measured.{BoundsFit, AllBoundsFit}
+use Rattle.code_measures.specs.MeasuredTexts.{BoundsFit, AllBoundsFit}
 
 mutual
   one_fits : (c : Here) (s : Stmt) → Fits c s → BoundsFit c.program s

@@ -13,8 +13,8 @@ use Rattle.code_spec.specs.Numbering.{Text, numbered}
 use Rattle.wellformed.specs.Here.{in_routine, in_process}
 use Rattle.wellformed.specs.WellFormed.{RoutineFits, ProcessFits, OptionalFits, IsWellFormed}
 use Rattle.codegen_law.proofs.Reached.{OfEach, text_at, of_numbered}
-use Rattle.code_cost_law.specs.Measured.{AllBoundsFit}
-use Rattle.code_cost_law.specs.Defined.{HandlerLoopsFit}
+use Rattle.code_measures.specs.MeasuredTexts.{AllBoundsFit}
+use Rattle.code_measures.specs.Defined.{HandlerLoopsFit}
 use Rattle.compile.specs.Loops.{WellFormedLoopsFit, CheckedLoopsFit}
 use Rattle.compile.proofs.Texts.{all_fit}
 

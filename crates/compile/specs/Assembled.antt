@@ -5,7 +5,7 @@ use Rattle.syntax_tree.specs.Placed.{Prog, plain}
 use Rattle.syntax_tree.specs.Plain as plain_of
 use Rattle.syntax_tree.specs.declared.place.Place.{Place}
 use Rattle.static_semantics.specs.Static.{IsChecked}
-use Rattle.code_size.specs.Rules.{SizeFails}
+use Rattle.code_cost.specs.Rules.{SizeFails}
 use Rattle.codegen_spec.specs.Parts.{program_made}
 use Rattle.compile_image.specs.Fields.{FitsFields, HasParts}
 

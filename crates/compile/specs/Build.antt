@@ -3,7 +3,7 @@ use Rattle.std.specs.Prelude.{◌≡◌, ℕ, Result, Ok, Err}
 use Rattle.syntax_tree.specs.declared.place.Place.{Place}
 use Rattle.syntax_tree.specs.Placed.{Prog, plain}
 use Rattle.static_rule.specs.First.{IsFirst}
-use Rattle.code_size.specs.Rules.{SizeFails}
+use Rattle.code_cost.specs.Rules.{SizeFails}
 use Rattle.image.specs.Raw.{image_of, named_of}
 use Rattle.sched_table.specs.Late.{IsNamed}
 use Rattle.built_image_law.specs.Filled.{declared_bounds}

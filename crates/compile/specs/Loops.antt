@@ -5,7 +5,7 @@ use Rattle.syntax_tree.specs.Placed.{Prog, plain}
 use Rattle.syntax_tree.specs.declared.place.Place.{Place}
 use Rattle.static_semantics.specs.Static.{IsChecked}
 use Rattle.wellformed.specs.WellFormed.{IsWellFormed}
-use Rattle.code_cost_law.specs.Defined.{LoopsFit}
+use Rattle.code_measures.specs.Defined.{LoopsFit}
 
 abbrev pub WellFormedLoopsFit : Type 0
 WellFormedLoopsFit = (g : plain_of.Program) → IsWellFormed g → LoopsFit g

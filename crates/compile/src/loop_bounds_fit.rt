@@ -1,7 +1,8 @@
 //! Law: the bounds of each loop of a checked program are numbers of 32 bits.
 //!
-//! `specs/Loops.antt` states it, over `LoopsFit` of `code_cost_law::cost_of_program`, which the law of measures
-//! asks for: of every well-formed program, and with the static rules of every checked one.
+//! `specs/Loops.antt` states it, over `LoopsFit` of `code_measures::cost_of_program`, which the law
+//! of measures asks for: of every well-formed program, and with the static rules of every checked
+//! one.
 //!
 //! Promised: no bound of a loop is cut off, in no routine, no body and no handler. Nothing here can
 //! run.

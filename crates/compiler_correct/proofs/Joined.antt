@@ -15,7 +15,7 @@ use Rattle.code_lifting.specs.Image.{IsImageOf, whole}
 use Rattle.checked_law.specs.Ready.{IsImageMade, CheckedProgramsAreReady}
 use Rattle.code_correct.specs.Ready.{CheckedProgramsRun}
 use Rattle.built_valid_law.specs.Checked.{CheckedImagesAreValid}
-use Rattle.codegen_ranks.specs.Images.{CheckedImagesAreImages}
+use Rattle.built_tasks_law.specs.Images.{CheckedImagesAreImages}
 use Rattle.checked_law.specs.Runs.{IsSmallEnough}
 use Rattle.checked_law.specs.Small.{ProgramsThatKeepSizesAreSmall}
 use Rattle.script.specs.declared.script.ScriptLine.{ScriptLine}
@@ -24,7 +24,7 @@ use Rattle.built_image.specs.Named.{names_of}
 use Rattle.built_valid_law.specs.Made.{BuiltImagesAreMade}
 use Rattle.built_image_law.specs.Limits.{BuiltImagesAreInLimits}
 use Rattle.built_image_law.specs.Suits.{Suits, ScriptsForTheNamesSuit}
-use Rattle.script_meaning.specs.Script.{said}
+use Rattle.script.specs.Meaning.{said}
 use Rattle.command_due.specs.Script.{run_of}
 use Rattle.command_due.specs.Runs.{IsKept, IsFaithful, BuiltImagesAreFaithful}
 use Rattle.compiler_correct.specs.Made.{MadeImagesAreFaithful}

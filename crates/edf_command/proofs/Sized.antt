@@ -3,7 +3,7 @@ use Rattle.std.proofs.Common.{◌≡◌, ℕ, subst}
 use Rattle.syntax_tree.specs.declared.place.Place.{Place}
 use Rattle.syntax_tree.specs.Placed.{Prog}
 use Rattle.static_rule.specs.First.{IsFirst}
-use Rattle.code_size.specs.Rules.{SizeFails}
+use Rattle.code_cost.specs.Rules.{SizeFails}
 use Rattle.edf_command.specs.declared.shaping.ShapeFault.{ShapeFault}
 use Rattle.edf_command.specs.declared.shaping.ShapeFault.TheVariants as fault
 use Rattle.edf_command.specs.Steps.{IsSizeFault}

@@ -18,7 +18,7 @@ use crate::judging::Subject;
 use crate::report;
 use command_answers::{Content, Dispatch, PreparedCall, PreparedRun, Status, judge_script, put};
 use command_refusals::refuse_script;
-use edf_feasible::edf_ready::edf_images_are_ready;
+use edf_correct::edf_ready::edf_images_are_ready;
 use message_late::demand_message;
 use script::Script;
 use std::alloc::{AllocError, Global};

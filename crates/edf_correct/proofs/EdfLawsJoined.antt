@@ -7,18 +7,18 @@ use Rattle.code_spec.specs.Compiled.{IsCodeOf}
 use Rattle.code_correct.specs.Headline.{WellFormedCodeIsRight}
 use Rattle.code_lifting.specs.Image.{IsImageOf, AreRight, whole}
 use Rattle.image.specs.declared.names.ImageNames.{ImageNames}
-use Rattle.codegen_ranks.specs.Images.{CheckedCodeIsAnImage}
+use Rattle.built_tasks_law.specs.Images.{CheckedCodeIsAnImage}
 use Rattle.checked_law.specs.Ready.{IsReady, CheckedProgramsAreReady}
 use Rattle.checked_law.specs.Small.{GeneratedCodeIsCode}
 use Rattle.built_image_law.specs.Suits.{NamesHaveFrames, Suits, ScriptsForTheNamesSuit}
 use Rattle.built_image.specs.Named.{names_of}
 use Rattle.vm_law.specs.ScriptSuits.{ScriptsSuit}
 use Rattle.script.specs.Scripts.{IsScript}
-use Rattle.script_meaning.specs.Script.{said}
+use Rattle.script.specs.Meaning.{said}
 use Rattle.edf_semantics.proofs.Keeping.{every_run_is_safe, run_keeps_words}
-use Rattle.edf_timing.specs.InTime.{MeetsDeadlines}
-use Rattle.edf_feasible.specs.Premises.{MeetsPremises, WaitlessImagesMeetPremises}
-use Rattle.edf_feasible.specs.Deadlines.{EdfDeadlinesAreMet}
+use Rattle.edf_semantics.specs.InTime.{MeetsDeadlines}
+use Rattle.edf_correct.specs.Premises.{MeetsPremises, WaitlessImagesMeetPremises}
+use Rattle.edf_correct.specs.Deadlines.{EdfDeadlinesAreMet}
 use Rattle.edf_correct.specs.EdfLaws.{CompiledRunsAreRuns, EdfRunsAreRight, EdfImagesKeepTheirWord}
 use Rattle.command_answers.specs.Runs.{IsEdfRun}
 

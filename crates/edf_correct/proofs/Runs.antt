@@ -3,8 +3,8 @@ use Rattle.code_lifting.specs.Related.{Whole}
 use Rattle.code_lifting.specs.Compiled.{script_of}
 use Rattle.code_lifting.specs.Image.{whole}
 use Rattle.code_lifting.proofs.Assembled.{r, is_compiled}
-use Rattle.edf_timing.proofs.Kept.{waitless_runs_are_kept}
-use Rattle.edf_timing.proofs.Run.{run_is_any_run}
+use Rattle.edf_semantics.proofs.Kept.{waitless_runs_are_kept}
+use Rattle.edf_semantics.proofs.Run.{run_is_any_run}
 use Rattle.edf_correct.specs.EdfLaws.{CompiledRunsAreRuns}
 use Rattle.code_lifting.proofs.Runs.{faithful, stands}
 

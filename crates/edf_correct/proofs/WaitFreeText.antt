@@ -7,8 +7,8 @@ use Rattle.syntax_tree.specs.Placed.{plain}
 use Rattle.syntax_tree.specs.Plain.{Handler, Process}
 use Rattle.source_semantics.specs.Names.{processes}
 use Rattle.command_due.specs.Waits as text
-use Rattle.edf_feasible.specs.Waits.{HandlerHasNoWait, HasNoWait}
-use Rattle.edf_feasible.specs.EdfWaits.{BodiesDoNotWait, EntriesDoNotWait, HandlersDoNotWait, OwnRoutinesDoNotWait, RoutinesDoNotWait}
+use Rattle.edf_correct.specs.Waits.{HandlerHasNoWait, HasNoWait}
+use Rattle.edf_correct.specs.EdfWaits.{BodiesDoNotWait, EntriesDoNotWait, HandlersDoNotWait, OwnRoutinesDoNotWait, RoutinesDoNotWait}
 
 handler_waits : (g : placed.Prog Place) (none : text.HasNoWait g) → HandlersDoNotWait → (k : ℕ) (p : Process) → slice_get (processes (plain g)) k ≡ Some p → HandlerHasNoWait p.handler
 handler_waits g none handlers k p at = by p.handler refl

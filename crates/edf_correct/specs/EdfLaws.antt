@@ -12,7 +12,7 @@ use Rattle.sched_timing.specs.Timed.{RespectsFrames}
 use Rattle.sched_demand.specs.declared.judging.Judgement.TheVariants as judgement
 use Rattle.edf_semantics.specs.Run.{events}
 use Rattle.edf_semantics.specs.Safe.{IsWaitless}
-use Rattle.edf_timing.specs.Runs.{HasNoOverrun}
+use Rattle.edf_semantics.specs.Runs.{HasNoOverrun}
 use Rattle.command_answers.specs.Runs.{IsEdfRun}
 use Rattle.command_due.specs.Image.{IsEdfImage}
 use Rattle.command_due.specs.Tasks.{IsAnswer}
@@ -21,8 +21,8 @@ use Rattle.image.specs.Named.{NamedImage}
 use Rattle.script.specs.declared.script.ScriptLine.{ScriptLine}
 use Rattle.script.specs.Scripts.{IsScript}
 use Rattle.command_due.specs.Source.{IsWritten}
-use Rattle.script_meaning.specs.Script.{said}
-use Rattle.edf_feasible.specs.Waits.{HasNoWait}
+use Rattle.script.specs.Meaning.{said}
+use Rattle.edf_correct.specs.Waits.{HasNoWait}
 
 -- The law: the events of each run, without overrun, of the image of a program whose code is right
 -- are a run of the program in which any ready process may act. The image fits its trees and waits

@@ -4,7 +4,7 @@ use Rattle.syntax_tree.specs.Placed.{plain}
 use Rattle.image.specs.Named.{NamedImage}
 use Rattle.script.specs.declared.script.ScriptLine.{ScriptLine}
 use Rattle.script.specs.Scripts.{IsScript}
-use Rattle.script_meaning.specs.Script.{said}
+use Rattle.script.specs.Meaning.{said}
 use Rattle.command_due.specs.EdfDue.{IsFeasibleText}
 use Rattle.command_answers.specs.Runs.{IsEdfRun}
 

@@ -2,8 +2,8 @@
 
 ghost use Rattle.edf_correct.specs.FeasibleTexts.{FeasibleTextsKeepTheirWord};
 
+use crate::edf_waits::waitless_programs_have_no_wait;
 use crate::text_to_runs::edf_images_keep_their_word;
-use edf_feasible::edf_waits::waitless_programs_have_no_wait;
 
 /// Of a text whose demand is met, every run of its image over a script for its names meets the
 /// deadlines.

@@ -1,10 +1,17 @@
-//! Law: runs of a program whose demand is met are right.
+//! Laws: a feasible program can be run under deadlines, meets them, and runs right.
 //!
-//! `text_to_runs`: from the text of a program without waits to its runs under this dispatch, which are
-//! runs of the program in which any ready process may act, and meet its deadlines.
+//! `text_to_runs`: from the text of a program without waits to its runs under this dispatch, which
+//! are runs of the program in which any ready process may act, and meet its deadlines.
 //! `feasible_texts`: so every run of a text whose demand is met keeps what `command_answers`
-//! promises. Nothing here can run.
+//! promises.
+//!
+//! Of programs without waits whose demand the test calls feasible: the image is as `edf_semantics`
+//! and the test take it (`edf_premises`, `edf_waits`), meets its deadlines, and can be run
+//! (`edf_ready`). Nothing here can run.
 #![tactic(auto)]
 
+pub mod edf_premises;
+pub mod edf_ready;
+pub mod edf_waits;
 pub mod feasible_texts;
 pub mod text_to_runs;

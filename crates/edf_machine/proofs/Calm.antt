@@ -1,6 +1,6 @@
 -- A machine at a tick at which nothing is due.
 use Rattle.std.proofs.Common.{◌≡◌, ◌≢◌, ◌+◌, ◌-◌, ◌++◌, ℕ, List, [], Some, arith, ap, sym, subst, ◌∙◌}
-use Rattle.vm_dispatch.specs.Due.{least}
+use Rattle.vm_stretch.specs.Due.{least}
 use Rattle.base.specs.declared.event.Event.{Event}
 use Rattle.machine_semantics.specs.State.{State}
 use Rattle.vm_stretch.specs.StartLawsDue.{HasDue}

@@ -18,7 +18,7 @@ use Rattle.vm_law.proofs.Starting.{WaitAt, starts_good}
 use Rattle.vm_law.proofs.Ticking.{first_below, ran_lines}
 use Rattle.edf_semantics.specs.Run.{Marked, candidate, chosen_at, events, events_from, state_at, tick}
 use Rattle.edf_semantics.specs.Safe.{IsWaitless}
-use Rattle.edf_timing.specs.Runs.{IsAwake, IsNotWaiting, NobodyWaits, WaitlessRunsAreAwake}
+use Rattle.edf_semantics.specs.Runs.{IsAwake, IsNotWaiting, NobodyWaits, WaitlessRunsAreAwake}
 use Rattle.edf_machine.specs.EdfRunnable.{WaitlessRunsHaveLines}
 use Rattle.edf_machine.proofs.Runnable.{during_fits}
 

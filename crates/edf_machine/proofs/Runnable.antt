@@ -13,8 +13,8 @@ use Rattle.machine_safety.proofs.Starting.{starts_keep}
 use Rattle.edf_semantics.specs.Run.{state_at}
 use Rattle.edf_semantics.specs.Safe.{EveryRunIsSafe, IsWaitless}
 use Rattle.edf_semantics.proofs.Keeping.{kept}
-use Rattle.edf_timing.specs.Runs.{IsNotWaiting, IsAwake, WaitlessRunsAreAwake}
-use Rattle.edf_timing.specs.Runs as lifted
+use Rattle.edf_semantics.specs.Runs.{IsNotWaiting, IsAwake, WaitlessRunsAreAwake}
+use Rattle.edf_semantics.specs.Runs as lifted
 use Rattle.edf_machine.specs.Runnable.{NobodyWaits}
 use Rattle.edf_semantics.specs.Rows.{IsSafeRun}
 use Rattle.edf_semantics.specs.Turn.{begun}

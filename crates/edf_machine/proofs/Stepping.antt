@@ -16,7 +16,7 @@ use Rattle.edf_machine.specs.Marks.{AreMarks}
 use Rattle.edf_machine.specs.declared.marks.DeadlineState.{DeadlineState as Kept}
 use Rattle.edf_semantics.specs.Turn.{begun, marked, started}
 use Rattle.edf_semantics.proofs.Staying.{marks_same}
-use Rattle.edf_timing.specs.Runs.{HasNoOverrun}
+use Rattle.edf_semantics.specs.Runs.{HasNoOverrun}
 use Rattle.edf_machine.specs.Runnable.{NobodyWaits}
 use Rattle.edf_machine.specs.Standing.{events_between}
 use Rattle.edf_machine.specs.Turn.{HasPassed, Run}

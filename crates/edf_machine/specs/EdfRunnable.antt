@@ -7,7 +7,7 @@ use Rattle.machine_safety_spec.specs.Safe.{Parts, ImageFits}
 use Rattle.vm_stretch.specs.StretchDue.{AreInOrder}
 use Rattle.edf_semantics.specs.Run.{events}
 use Rattle.edf_semantics.specs.Safe.{IsWaitless}
-use Rattle.edf_timing.specs.Runs.{HasNoOverrun}
+use Rattle.edf_semantics.specs.Runs.{HasNoOverrun}
 use Rattle.edf_machine.specs.Runnable.{IsRunnable}
 use Rattle.event_log.specs.InRange.{AreIn}
 use Rattle.vm_law.specs.Logged.{AreNamesOf}

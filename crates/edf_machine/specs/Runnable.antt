@@ -9,7 +9,7 @@ use Rattle.vm_stretch.specs.StretchDue.{AreInOrder}
 use Rattle.edf_semantics.specs.Run.{state_at}
 use Rattle.edf_semantics.specs.Turn.{begun}
 use Rattle.edf_semantics.specs.Rows.{IsSafeRun}
-use Rattle.edf_timing.specs.Runs.{HasNoOverrun}
+use Rattle.edf_semantics.specs.Runs.{HasNoOverrun}
 
 abbrev pub NobodyWaits : State → Type 0
 NobodyWaits s = (k c d e : ℕ) (job : Job) → slice_get s.threads k ≡ Some (Waiting c d e job) → ⊥

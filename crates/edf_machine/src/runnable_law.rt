@@ -8,8 +8,8 @@
 
 ghost use Rattle.edf_machine.specs.EdfRunnable.{WaitlessRunsAreRunnable, WaitlessRunsHaveLines};
 
+use edf_semantics::runs_refine::waitless_runs_are_awake;
 use edf_semantics::safety_law::every_run_is_safe;
-use edf_timing::runs_refine::waitless_runs_are_awake;
 
 /// A run without overrun of an image that waits nowhere, under a script in order, is one that the
 /// machine takes.

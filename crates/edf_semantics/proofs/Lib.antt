@@ -5,3 +5,14 @@ pub mod Keeping
 pub mod Staying
 pub mod Turning
 pub mod Rowing
+pub mod Caps
+pub mod Counts
+pub mod Sights
+pub mod Logging
+pub mod Meeting
+pub mod Two
+pub mod Phases
+pub mod Starts
+pub mod Ticks
+pub mod Run
+pub mod Kept

@@ -5,7 +5,7 @@ use Rattle.base.specs.declared.event.Act.TheVariants as act
 use Rattle.machine_isa.specs.declared.instr.Instr.TheVariants as i
 use Rattle.machine_semantics.specs.Trees.{Cons, Line, Nil}
 use Rattle.machine_semantics.specs.Image.{Image}
-use Rattle.machine_semantics_law.specs.Example.{alone, at}
+use Rattle.machine_safety.specs.SmallImages.{alone, at}
 
 -- the first puts 1 in each 30 ticks, the second 2 and 3 in each 52; each has its frame as deadline
 abbrev pub two : Image

@@ -4,3 +4,6 @@ pub mod Safe
 pub mod Example
 pub mod Turn
 pub mod Rows
+pub mod InTime
+pub mod ExampleInTime
+pub mod Runs

@@ -2,7 +2,7 @@
 
 ghost use Rattle.edf_semantics.specs.Example.{two, two_put};
 ghost use Rattle.edf_semantics.specs.Run.{events};
-ghost use Rattle.machine_semantics_law.specs.Example.{until};
+ghost use Rattle.machine_safety.specs.SmallImages.{until};
 ghost use Rattle.std.specs.Prelude.{◌≡◌};
 
 /// Two processes that meet their deadlines by the earliest one.

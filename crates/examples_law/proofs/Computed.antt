@@ -2,7 +2,7 @@
 use Rattle.std.proofs.Common.{refl, rules}
 use Rattle.image_format.specs.declared.seg.Seg.{the_lemmas}
 use Rattle.code_spec.specs.Numbering.{numbered, visit, number_of}
-use Rattle.machine_semantics_law.specs.Example.{waiter_and_signaller}
+use Rattle.machine_safety.specs.SmallImages.{waiter_and_signaller}
 use Rattle.source_semantics_law.specs.Example.{signalled_wait}
 use Rattle.examples_law.specs.Mine.{mine, mine_image}
 use Rattle.examples_law.specs.Forms.{FormsAreMade}

@@ -5,7 +5,7 @@ use Rattle.source_semantics_law.specs.Example.{signalled_wait}
 use Rattle.image_format.specs.declared.seg.Seg.{the_lemmas}
 use Rattle.code_spec.specs.Numbering.{numbered, visit, number_of}
 use Rattle.code_cost_spec.specs.Levels.{code_length}
-use Rattle.valid_image_examples.specs.Example.{meeting}
+use Rattle.machine_safety.specs.ValidImages.{meeting}
 use Rattle.code_measures.proofs.Meeting.{both, meeting_is_made}
 use Rattle.codegen_spec.specs.Parts.{program_made}
 use Rattle.codegen_law.specs.MadeWholeFits.{RoutineFits, ProcessFits, ProgramFits}

@@ -7,7 +7,7 @@ use Rattle.source_semantics.specs.Names.{named, routines, monitors}
 use Rattle.source_semantics_law.specs.Example.{signalled_wait}
 use Rattle.examples_law.proofs.Small.{signalled_wait_fits}
 use Rattle.code_spec.specs.Numbering.{routine_calls}
-use Rattle.code_names_law.specs.Ruled.{AllOfProgram, NamesApart}
+use Rattle.codegen_law.specs.Ruled.{AllOfProgram, NamesApart}
 use Rattle.examples_law.specs.Headline.{MeetingIsWellFormed}
 use Rattle.examples_law.proofs.MeetingProper.{m, names_differ}
 

@@ -15,10 +15,10 @@ use Rattle.code_spec.specs.Numbering.{Text, entry_in, entry_of, routine_of}
 use Rattle.code_spec.specs.Compiled.{process_scope}
 use Rattle.code_simulation_spec.specs.Memory.{Setting}
 use Rattle.code_simulation_spec.specs.Proper.{Reaches, ProperAll, found_of}
-use Rattle.code_simulation.specs.Known.{IsProper as IsProperRoutine}
-use Rattle.code_names_law.specs.Kept.{AllFound, NamesDiffer}
-use Rattle.code_simulation.specs.Kept.{KeepsRules}
-use Rattle.code_simulation.specs.Process.{setting_of, ProperHandler}
+use Rattle.code_correct.specs.Known.{IsProper as IsProperRoutine}
+use Rattle.codegen_law.specs.Kept.{AllFound, NamesDiffer}
+use Rattle.code_correct.specs.Kept.{KeepsRules}
+use Rattle.code_correct.specs.Process.{setting_of, ProperHandler}
 use Rattle.code_lifting.specs.Image.{compiled_of}
 use Rattle.code_lifting.specs.Example.{meeting}
 use Rattle.code_lifting.proofs.Lists.{none_some}

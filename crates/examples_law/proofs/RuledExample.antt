@@ -5,12 +5,12 @@ use Rattle.std.proofs.lemmas.Option.{none-some}
 use Rattle.syntax_tree.specs.Plain.{Routine, Monitor, Process}
 use Rattle.source_semantics.specs.Names.{monitors, processes}
 use Rattle.source_semantics_law.specs.Example.{signalled_wait}
-use Rattle.machine_semantics_law.specs.Example.{waiter_and_signaller}
+use Rattle.machine_safety.specs.SmallImages.{waiter_and_signaller}
 use Rattle.code_spec.specs.Numbering.{numbered, visit, number_of, routine_calls}
 use Rattle.code_spec.specs.Compiled.{IsCodeOf}
 use Rattle.examples_law.proofs.Small.{signalled_wait_fits}
-use Rattle.code_names_law.specs.Kept.{AllFound}
-use Rattle.code_names_law.specs.Ruled.{AllOfProgram, NamesApart}
+use Rattle.codegen_law.specs.Kept.{AllFound}
+use Rattle.codegen_law.specs.Ruled.{AllOfProgram, NamesApart}
 use Rattle.examples_law.specs.RuledExample.{ExampleMeets}
 
 code_is : (over : ℕ) → IsCodeOf signalled_wait (waiter_and_signaller over 31)

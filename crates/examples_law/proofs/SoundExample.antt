@@ -5,7 +5,7 @@ use Rattle.source_semantics_law.specs.Example.{signalled_wait}
 use Rattle.code_spec.specs.Numbering.{visit, numbered}
 use Rattle.examples_law.proofs.RuledExample.{example_meets}
 use Rattle.examples_law.specs.SoundExample.{ExampleIsSound}
-use Rattle.code_names_law.proofs.SoundLemmas.{routines_have_numbers, well_formed_programs_are_sound}
+use Rattle.codegen_law.proofs.SoundLemmas.{routines_have_numbers, well_formed_programs_are_sound}
 
 two : length (numbered signalled_wait) ≡ 2
 unfolding numbered visit

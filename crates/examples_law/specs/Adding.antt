@@ -1,6 +1,6 @@
 -- A program with a monitor's word, and its image.
 use Rattle.source_semantics_law.specs.Example.{three_ranks}
-use Rattle.machine_semantics_law.specs.Example.{adders, low_ceiling}
+use Rattle.machine_safety.specs.SmallImages.{adders, low_ceiling}
 use Rattle.code_lifting.specs.Related.{Whole}
 use Rattle.code_lifting.specs.Image.{IsImageOf, AreRight, whole}
 

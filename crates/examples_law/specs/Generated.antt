@@ -1,7 +1,7 @@
 -- The law of the generator: what it makes of a well-formed program that is not too large is the
 -- code of the program.
 use Rattle.source_semantics_law.specs.Example.{signalled_wait}
-use Rattle.valid_image_examples.specs.Example.{meeting}
+use Rattle.machine_safety.specs.ValidImages.{meeting}
 use Rattle.codegen_spec.specs.Parts.{program_made}
 use Rattle.codegen_spec.specs.Held.{Holds}
 use Rattle.checked_law.specs.Generated.{IsSmall}

@@ -4,10 +4,10 @@ use Rattle.source_semantics.specs.Starts.{Script}
 use Rattle.source_semantics.specs.Source.{IsSourceRun}
 use Rattle.source_semantics_law.specs.Example.{signalled_wait}
 use Rattle.machine_semantics.specs.Run.{events}
-use Rattle.machine_semantics_law.specs.Example.{waiter_and_signaller}
+use Rattle.machine_safety.specs.SmallImages.{waiter_and_signaller}
 use Rattle.code_simulation_spec.specs.Memory.{Order}
 use Rattle.wellformed.specs.WellFormed.{IsWellFormed}
-use Rattle.code_names_law.specs.Ruled.{NamesApart}
+use Rattle.codegen_law.specs.Ruled.{NamesApart}
 use Rattle.code_lifting.specs.Compiled.{IsFrom, script_of}
 use Rattle.code_lifting.specs.Example.{meeting}
 use Rattle.sched_timing.specs.Timed.{IsInTime}

@@ -2,7 +2,7 @@
 use Rattle.std.specs.Prelude.{◌≡◌, length}
 use Rattle.source_semantics_law.specs.Example.{signalled_wait}
 use Rattle.code_spec.specs.Numbering.{numbered}
-use Rattle.code_names_law.specs.Numbered.{AreNumbered}
+use Rattle.codegen_law.specs.Numbered.{AreNumbered}
 use Rattle.code_measures.specs.Declared.{IsSound}
 
 -- The law: it is sound, its routines are numbered, and these are its two entries.

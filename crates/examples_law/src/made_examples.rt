@@ -6,7 +6,7 @@
 //!
 //! What is made of three programs. These functions do nothing; their contracts are the laws.
 
-ghost use Rattle.machine_semantics_law.specs.Example.{waiter_and_signaller};
+ghost use Rattle.machine_safety.specs.SmallImages.{waiter_and_signaller};
 ghost use Rattle.source_semantics_law.specs.Example.{signalled_wait};
 ghost use Rattle.examples_law.specs.Mine.{mine, mine_image};
 ghost use Rattle.examples_law.specs.Forms.{FormsAreMade};

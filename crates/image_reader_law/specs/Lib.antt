@@ -4,3 +4,8 @@ pub mod ImageFaults
 pub mod ImageRanges
 pub mod ValidLimits
 pub mod ReadNames
+pub mod Fields
+pub mod Layout
+pub mod Places
+pub mod FieldsLaw
+pub mod Stored

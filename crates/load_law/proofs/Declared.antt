@@ -17,7 +17,7 @@ use Rattle.load_law.proofs.Knowing.{Agrees}
 use Rattle.load_law.proofs.Fine.{Fine}
 use Rattle.load_law.proofs.Outside.{outside}
 use Rattle.load_law.proofs.LoadNamesProcesses.{process_fine}
-use Rattle.wellformed_names_law.proofs.Lookups.{same-is}
+use Rattle.wellformed_law.proofs.Lookups.{same-is}
 use Rattle.load_text_law.proofs.Processes.{decls}
 
 -- ---- names

@@ -10,7 +10,7 @@ use Rattle.code_spec.specs.Layout.{by_process, by_monitor}
 use Rattle.code_spec.specs.Numbering.{Text, texts_from}
 use Rattle.code_cost_spec.specs.Heights.{stack_of}
 use Rattle.code_cost_spec.specs.Levels.{calls_at, stack_of_process}
-use Rattle.code_size.specs.Rules.{routine_stack}
+use Rattle.code_cost.specs.Rules.{routine_stack}
 use Rattle.load.specs.declared.program.DrawnProcess.{DrawnProcess}
 use Rattle.load.specs.Program.{is_even, drawn, add_entry, pause_entry, load_process, processes_from}
 use Rattle.load_text_law.proofs.Lengths.{with_pause}

@@ -6,7 +6,7 @@ use Rattle.static_names.specs.declared.kind.Declared.{Declared}
 use Rattle.static_names.specs.declared.kind.Kind.{Kind}
 use Rattle.static_names.specs.declared.kind.Kind.TheVariants as kind_is
 use Rattle.static_names.specs.Reach.{same, Names, first, or_else, Site, inside, members_of, through}
-use Rattle.wellformed_names_law.proofs.Lookups.{same-is}
+use Rattle.wellformed_law.proofs.Lookups.{same-is}
 
 -- a name means nothing, or is of a kind, or is that of a monitor whose entries are those of the load
 pub data Fact : Type 0 where

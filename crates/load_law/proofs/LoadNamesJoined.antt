@@ -20,7 +20,7 @@ use Rattle.load_law.proofs.Outside.{outside}
 use Rattle.load_law.proofs.Members.{has_entries}
 use Rattle.load_law.proofs.Monitor.{monitor_fine}
 use Rattle.load_law.proofs.Declared.{not_pause, no_process, AreFresh, processes_fine}
-use Rattle.wellformed_names_law.proofs.Found.{same-itself}
+use Rattle.wellformed_law.proofs.Found.{same-itself}
 use Rattle.load_text_law.proofs.Processes.{decls}
 
 -- ---- the entries of the monitor

@@ -11,8 +11,8 @@ use Rattle.syntax_tree.specs.Parts as parts
 use Rattle.source_semantics.specs.Names.{processes}
 use Rattle.code_spec.specs.Numbering.{Text, texts_from}
 use Rattle.code_cost_spec.specs.Levels.{stack_of_process}
-use Rattle.code_size.specs.Rules.{routine_stack, RoutineTooLarge, ProcessTooLarge}
-use Rattle.code_size.specs.Rules as rules
+use Rattle.code_cost.specs.Rules.{routine_stack, RoutineTooLarge, ProcessTooLarge}
+use Rattle.code_cost.specs.Rules as rules
 use Rattle.load_law.proofs.LoadStacksTrees.{processes_are, texts_are}
 use Rattle.load_law.proofs.Heights.{stacks_are, IsLow, all_low}
 use Rattle.checked_law.proofs.Texts.{plain_text}

@@ -18,7 +18,7 @@ use Rattle.load_law.proofs.LoadTypesTrees.{made_add, made_pause, made_monitor, i
 use Rattle.load_law.proofs.Sites.{reaching, Seen}
 use Rattle.load_law.proofs.LoadTypesProcesses.{processes_kept}
 use Rattle.load_law.proofs.Monitors.{monitor_kept}
-use Rattle.wellformed_names_law.proofs.Found.{same-itself}
+use Rattle.wellformed_law.proofs.Found.{same-itself}
 
 abbrev made : Prog Place → (source sink : Place) → Monitor Place → List (Process Place) → Prog Place
 made g source sink m ps = record g {

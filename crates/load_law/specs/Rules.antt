@@ -7,7 +7,7 @@ use Rattle.syntax_tree.specs.Bare.{bare}
 use Rattle.static_names.specs.Resolved.{IsRead, IsNamed}
 use Rattle.static_types.specs.Rules.{StatementFails}
 use Rattle.static_semantics.specs.Static.{IsChecked}
-use Rattle.code_size.specs.Rules.{RoutineTooLarge, ProcessTooLarge, SizeFails}
+use Rattle.code_cost.specs.Rules.{RoutineTooLarge, ProcessTooLarge, SizeFails}
 use Rattle.load.specs.Program.{load_program}
 
 -- each name that is used is declared, once in its reach and of the kind that is wanted, and each

@@ -9,7 +9,7 @@
 
 ghost use Rattle.load_law.specs.Rules.{KeepsTypes};
 
-use wellformed_names_law::{names_are_found, names_stand_apart, things_are_known};
+use wellformed_law::{names_are_found, names_stand_apart, things_are_known};
 
 /// Of a tree that is read and that is that of the load apart from places, types fit (30), each
 /// statement may stand where it does (34), and devices are used in their direction (38).

@@ -4,7 +4,7 @@ use Rattle.syntax_tree.specs.declared.place.Place.{Place}
 use Rattle.syntax_tree.specs.Placed.{Prog, plain}
 use Rattle.syntax_tree.specs.Bare.{bare}
 use Rattle.code_cost_spec.specs.Levels.{code_length}
-use Rattle.code_size.specs.Rules.{CodeTooLong}
+use Rattle.code_cost.specs.Rules.{CodeTooLong}
 use Rattle.load.specs.Program.{load_program}
 
 abbrev pub HasLength : Type 0

@@ -19,3 +19,4 @@ pub mod Keeping
 pub mod Building
 pub mod Looping
 pub mod Meeting
+pub mod Computed

@@ -6,7 +6,7 @@ use Rattle.machine_semantics.specs.Trees.{Line, Fork, Rep, Call, Exit, Nil, Cons
 use Rattle.machine_semantics.specs.Image.{Image, Routine, Process, Script}
 use Rattle.machine_semantics.specs.Tick.{tick}
 use Rattle.machine_semantics.specs.Run.{state_at}
-use Rattle.machine_semantics_law.specs.Example.{waiter_and_signaller}
+use Rattle.machine_safety.specs.SmallImages.{waiter_and_signaller}
 use Rattle.machine_safety_spec.specs.Part.{Part}
 use Rattle.machine_safety_spec.specs.Walk.{Where, WalkCost}
 use Rattle.machine_safety_spec.specs.Safe.{Parts, ImageFits}

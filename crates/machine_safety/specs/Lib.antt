@@ -1,1 +1,3 @@
+pub mod SmallImages
 pub mod Example
+pub mod ValidImages

@@ -8,7 +8,7 @@ use Rattle.syntax_tree.specs.Bare.{bare}
 use Rattle.syntax_printer.specs.Canonical.{canonical}
 use Rattle.syntax_printer.specs.ReadBack.{AreSpelled, HasTree, IsPrinted}
 use Rattle.static_names.specs.Resolved.{IsRead}
-use Rattle.placing_law.specs.Laws.{TreesAreCheckedAlike}
+use Rattle.printed_law.specs.AlikeLaws.{TreesAreCheckedAlike}
 use Rattle.load_text_law.proofs.Plain.{plain-bare}
 use Rattle.built_image_law.specs.Limits.{StacksAreInLimits}
 use Rattle.command_due.specs.Source.{IsWritten, IsWrittenAgain}

@@ -8,8 +8,8 @@ use Rattle.syntax_tree.specs.Plain as plain_of
 use Rattle.source_semantics.specs.Names.{processes}
 use Rattle.code_spec.specs.Numbering as numbering
 use Rattle.code_cost_spec.specs.Levels.{code_length, stack_of_process}
-use Rattle.code_size.specs.Rules.{SizeFails, placed_texts_from, routine_stack}
-use Rattle.code_size.proofs.Parts.{plain_process_at, plain_texts}
+use Rattle.code_cost.specs.Rules.{SizeFails, placed_texts_from, routine_stack}
+use Rattle.code_cost.proofs.Parts.{plain_process_at, plain_texts}
 use Rattle.checked_law.proofs.Texts.{IsPlainOf, plain_of_placed, plain_text}
 use Rattle.built_image_law.specs.Limits.{StacksAreInLimits}
 

@@ -1,1 +1,4 @@
+pub mod Moved
+pub mod Alike
+pub mod AlikeLaws
 pub mod Printed

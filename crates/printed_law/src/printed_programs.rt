@@ -2,8 +2,8 @@
 
 ghost use Rattle.printed_law.specs.Printed.{PrintedTreesAreWritten};
 
+use crate::trees_are_checked_alike;
 use built_image_law::number_limits::stacks_are_in_limits;
-use placing_law::trees_are_checked_alike;
 use syntax_printer::{reads_back, tokens_are_spelled};
 
 /// The canonical text of a program is that of a program with the same tree, apart from places.

@@ -12,7 +12,7 @@ use Rattle.built_image.specs.Named.{names_of}
 use Rattle.event_log.specs.declared.fault.LogFault.{LogFault}
 use Rattle.event_log.specs.declared.fault.LogFault.TheVariants as log_fault
 use Rattle.event_log.specs.Logs.{IsFault, IsLog}
-use Rattle.script_meaning.specs.Script.{said}
+use Rattle.script.specs.Meaning.{said}
 use Rattle.source_semantics.specs.declared.verdict.Verdict.{Verdict}
 use Rattle.source_semantics.specs.declared.verdict.Verdict.TheVariants as verdict_is
 use Rattle.source_semantics.specs.Verdicts.{Judges}

@@ -17,18 +17,18 @@ use Rattle.image.specs.declared.raw.RawProcess.{RawProcess}
 use Rattle.machine_semantics.specs.Image as image
 use Rattle.code_spec.specs.Compiled.{IsCodeOf}
 use Rattle.code_lifting.proofs.Words.{same_length}
-use Rattle.codegen_ranks.proofs.Whole.{as_many_processes}
-use Rattle.codegen_ranks.proofs.Counts.{rank_most}
-use Rattle.codegen_ranks.specs.Ranks.{CeilingsAreOfTheMeaning, RanksAreOfTheMeaning}
+use Rattle.built_tasks_law.proofs.Whole.{as_many_processes}
+use Rattle.built_tasks_law.proofs.Counts.{rank_most}
+use Rattle.built_tasks_law.specs.Ranks.{CeilingsAreOfTheMeaning, RanksAreOfTheMeaning}
 use Rattle.replay_state.specs.declared.ranks.Ranks.{Ranks}
 use Rattle.replay_state.specs.Tables.{AreRanksOf}
 use Rattle.code_measures.specs.Whole.{HasRanks}
-use Rattle.code_size.specs.Rules.{SizeFails}
+use Rattle.code_cost.specs.Rules.{SizeFails}
 use Rattle.compile.specs.Steps.{IsSizeFault}
 use Rattle.compile.specs.declared.built.BuildFault.{BuildFault}
 use Rattle.compile.specs.declared.built.BuildFault.TheVariants as fault
 use Rattle.wellformed.specs.WellFormed.{IsWellFormed}
-use Rattle.code_names_law.specs.Ruled.{NamesApart}
+use Rattle.codegen_law.specs.Ruled.{NamesApart}
 use Rattle.replay.specs.Told.{ceiling_told}
 
 -- ---- a program that is not too large

@@ -10,7 +10,7 @@ ghost use Rattle.std.specs.Prelude.{IfOk, length, ◌<◌, ◌^◌};
 ghost use Rattle.replay_script.specs.Cursors.{IsAt, script_in};
 ghost use Rattle.replay_accept.specs.Running.{Stands, program_of};
 ghost use Rattle.replay_state.specs.View.{config_of};
-ghost use Rattle.script_meaning.specs.Script.{said};
+ghost use Rattle.script.specs.Meaning.{said};
 ghost use Rattle.source_semantics.specs.Verdicts.{Judges};
 
 use base::Event;

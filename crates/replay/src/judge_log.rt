@@ -14,7 +14,7 @@ ghost use Rattle.command_due.specs.ReplayDue.{IsJudged};
 ghost use Rattle.command_refusals.specs.Refusals.{Explains};
 ghost use Rattle.command_refusals.specs.Told.{IsLogTold, IsMisreadTold, IsRefusedTold};
 ghost use Rattle.message_log.specs.Log as message_of;
-ghost use Rattle.script_meaning.specs.Script.{said};
+ghost use Rattle.script.specs.Meaning.{said};
 ghost use Rattle.source_semantics.specs.Config.{start};
 ghost use Rattle.source_semantics.specs.Verdicts.{Judges};
 ghost use Rattle.syntax_tree.specs.Placed.{placed, plain};

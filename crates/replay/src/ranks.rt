@@ -3,7 +3,7 @@
 //! Ranks are by deadlines (Leung and Whitehead), a ceiling is the least rank of the processes that
 //! reach an entry of the monitor. `ranks_of` promises those of the source meaning
 //! (`AreRanksOf` of `replay_state::ranks`). They are read off the image of the program before its bounds,
-//! whose ranks and ceilings are those of the meaning (`codegen_ranks::ranks_and_ceilings`).
+//! whose ranks and ceilings are those of the meaning (`built_tasks_law::ranks_and_ceilings`).
 //!
 //! Ranks and ceilings.
 
@@ -13,9 +13,9 @@ ghost use Rattle.command_due.specs.Source.{IsWritten};
 ghost use Rattle.replay.specs.Told.{ceiling_told};
 ghost use Rattle.syntax_tree.specs.Placed.{placed, plain};
 
+use built_tasks_law::ranks_and_ceilings::{ceilings_are_of_the_meaning, ranks_are_of_the_meaning};
 use checked_law::generated_within_limits::generated_code_is_code;
 use checked_law::premises_of_laws::checked_programs_are_ready;
-use codegen_ranks::ranks_and_ceilings::{ceilings_are_of_the_meaning, ranks_are_of_the_meaning};
 use compile::{BuildFault, ranked};
 use image::{RawMonitor, RawProcess};
 use replay_state::Ranks;

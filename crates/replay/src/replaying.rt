@@ -3,7 +3,7 @@
 ghost use Rattle.std.specs.Prelude.{◌<◌, ◌≤◌, ◌^◌, ℕ, List, IfOk, length};
 ghost use Rattle.source_semantics.specs.Names.{routine_count};
 ghost use Rattle.replay_state.specs.Tables.{AreRanksOf};
-ghost use Rattle.script_meaning.specs.Script.{said};
+ghost use Rattle.script.specs.Meaning.{said};
 ghost use Rattle.command_due.specs.Source.{IsWritten};
 ghost use Rattle.replay_due_events.specs.NextDue.{FramesPass};
 ghost use Rattle.source_semantics.specs.Config.{start as start_of};

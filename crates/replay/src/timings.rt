@@ -7,9 +7,9 @@ ghost use Rattle.source_semantics.specs.Starts.{first_of};
 ghost use Rattle.replay_due_events.specs.Timings.{timing_of};
 ghost use Rattle.replay.specs.Parts.{seen_processes};
 
+use replay_calls::equal;
 use replay_due_events::Timing;
 use replay_state::count;
-use replay_values::equal;
 use static_declarations::Declarations;
 use std::alloc::{AllocError, Global};
 use syntax_tree::{Constant, Declaration, Name, Process, Trigger};

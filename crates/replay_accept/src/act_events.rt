@@ -12,11 +12,11 @@ ghost use Rattle.replay_accept.specs.Running.{AreRules, IsFirstOf, program_of};
 use crate::rules::Rules;
 use crate::{act, is_told, may_act};
 use base::Event;
+use replay_calls::EvalContext;
 use replay_due_events::has_acted;
 use replay_next::next_action;
 use replay_script::ScriptCursor;
 use replay_state::{Activity, Config, NextAction};
-use replay_values::EvalContext;
 use std::alloc::AllocError;
 
 /// Whether it is work since a release.

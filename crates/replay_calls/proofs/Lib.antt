@@ -1,2 +1,5 @@
+pub mod NoWord
+pub mod Spots
+pub mod Elements
 pub mod Puts
 pub mod Placing

@@ -3,7 +3,7 @@ use Rattle.std.specs.Prelude.{◌≡◌, ℕ, zero, suc, Bool, true, false, cond
 use Rattle.std.proofs.Common.{refl, sym, ◌∙◌, ap}
 use Rattle.syntax_tree.specs.Plain.{Name}
 use Rattle.source_semantics.specs.Store.{Held, Slot, Vars, slot_named, replaced}
-use Rattle.replay_values.specs.Stores.{at_place, with_held}
+use Rattle.replay_calls.specs.Places.{at_place, with_held}
 use Rattle.replay_calls.specs.Stores.{IsTried, IsStored, put, put_slot, put_found, put_named, tried}
 use Rattle.replay_calls.specs.declared.storing.StoreResult.TheVariants as stored_is
 

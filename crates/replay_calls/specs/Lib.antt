@@ -1,2 +1,5 @@
+pub mod Seen
+pub mod Lookups
+pub mod Places
 pub mod Reach
 pub mod Stores

@@ -8,7 +8,7 @@ use Rattle.std.specs.Global.{Vec}
 use Rattle.replay_state.specs.View.{home_of, slot_of, vars_of}
 use Rattle.replay_state.specs.declared.variables.Slot as code_slot
 use Rattle.replay_state.specs.declared.call.CallOwner as code_home
-use Rattle.replay_values.specs.declared.lookup.EvalContext as code_scope
+use Rattle.replay_calls.specs.declared.lookup.EvalContext as code_scope
 use Rattle.replay_calls.specs.declared.memory.CowSlots as code_area
 use Rattle.replay_calls.specs.declared.memory.Memory as code_memory
 use Rattle.replay_calls.specs.declared.fresh.ArgumentResult as code_bind

@@ -3,7 +3,7 @@ use Rattle.std.specs.Prelude.{◌≡◌, ℕ, Bool, true, false, cond, Option, S
 use Rattle.syntax_tree.specs.Plain.{Name}
 use Rattle.source_semantics.specs.Store.{Held, Slot, Vars, in_range, slot_named, replaced, stored}
 use Rattle.source_semantics.specs.Run as run
-use Rattle.replay_values.specs.Stores.{at_place, with_held}
+use Rattle.replay_calls.specs.Places.{at_place, with_held}
 use Rattle.replay_calls.specs.declared.storing.StoreResult.{StoreResult}
 use Rattle.replay_calls.specs.declared.storing.StoreResult.TheVariants as stored_is
 

@@ -5,9 +5,9 @@ ghost use Rattle.base.specs.Words.{negated as negative, with_word};
 ghost use Rattle.syntax_tree.specs.Placed.{op_of};
 ghost use Rattle.source_semantics.specs.Operators.{operated as operated_on};
 ghost use Rattle.source_semantics.specs.Run.{operated_not};
-ghost use Rattle.replay_values.specs.Seen.{answer_of};
+ghost use Rattle.replay_calls.specs.Seen.{answer_of};
 
-use replay_values::{Answer, is_true, negated, operated, truth};
+use crate::{Answer, is_true, negated, operated, truth};
 use syntax_tree::Op;
 
 /// The exact negation.

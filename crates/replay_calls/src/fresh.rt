@@ -6,12 +6,12 @@ ghost use Rattle.syntax_tree.specs.Placed.{placed, placed_kind, placed_param, pl
 ghost use Rattle.source_semantics.specs.Store.{checked as checked_in, fresh as fresh_var, fresh_held as held_fresh, kind_range as range_of_type, range_of as range_of_kind, up_to};
 ghost use Rattle.source_semantics.specs.Run.{Bound, added, with_argument};
 ghost use Rattle.replay_state.specs.View.{held_of, range_of as seen_range, slot_of, vars_of};
-ghost use Rattle.replay_values.specs.Seen.{answer_of};
+ghost use Rattle.replay_calls.specs.Seen.{answer_of};
 ghost use Rattle.replay_calls.specs.Reach.{in_front};
 
+use crate::Answer;
 use crate::storing::in_range;
 use replay_state::{Slot, SlotValue, Subrange, Words};
-use replay_values::Answer;
 use static_declarations::Declarations;
 use std::alloc::{AllocError, Global};
 use syntax_tree::{Param, Scalar, Type, Var};

@@ -5,22 +5,22 @@ ghost use Rattle.syntax_tree.specs.Placed.{placed, placed_decl, placed_monitor, 
 ghost use Rattle.source_semantics.specs.Names.{monitor_in, named};
 ghost use Rattle.source_semantics.specs.Run.{entry_name, entry_named as named_entry};
 ghost use Rattle.replay_state.specs.View.{home_of};
-ghost use Rattle.replay_values.specs.Lookups.{found_of};
-ghost use Rattle.replay_values.specs.Seen as running;
+ghost use Rattle.replay_calls.specs.Lookups.{found_of};
+ghost use Rattle.replay_calls.specs.Seen as running;
 
 use crate::numbers::monitor_number;
+use crate::{EvalContext, ResolvedRoutine, equal};
 use replay_state::CallOwner;
-use replay_values::{EvalContext, ResolvedRoutine, equal};
 use syntax_tree::{Declaration, Monitor, Name, Routine};
 
 /// The same home.
-pub fn home_in(home: replay_values::RoutineHome) -> CallOwner
+pub fn home_in(home: crate::RoutineHome) -> CallOwner
     ensures { home_of result ≡ running.home_of home }
 {
     match home {
-        replay_values::RoutineHome::Program => CallOwner::Program,
-        replay_values::RoutineHome::Process => CallOwner::Process,
-        replay_values::RoutineHome::Monitor(mon) => CallOwner::Monitor(mon),
+        crate::RoutineHome::Program => CallOwner::Program,
+        crate::RoutineHome::Process => CallOwner::Process,
+        crate::RoutineHome::Monitor(mon) => CallOwner::Monitor(mon),
     }
 }
 
@@ -69,7 +69,7 @@ pub fn entry_named<'a>(
         Some(monitor) => match among(entry, monitor.entries.as_slice()) {
             None => None,
             Some(routine) => Some(ResolvedRoutine {
-                home: replay_values::RoutineHome::Monitor(number),
+                home: crate::RoutineHome::Monitor(number),
                 routine,
             }),
         },

@@ -6,8 +6,8 @@ ghost use Rattle.source_semantics.specs.Names.{condition_from, condition_in, dev
 ghost use Rattle.source_semantics.specs.Run.{condition_here as condition_at};
 ghost use Rattle.replay_calls.specs.Reach.{site_of};
 
+use crate::{EvalContext, equal};
 use replay_state::CallOwner;
-use replay_values::{EvalContext, equal};
 use std::alloc::AllocError;
 use syntax_tree::{Declaration, Member, Name};
 

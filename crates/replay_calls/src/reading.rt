@@ -5,12 +5,12 @@ ghost use Rattle.base.specs.Words.{with_word};
 ghost use Rattle.source_semantics.specs.Store.{read as read_held, read_at as read_held_at};
 ghost use Rattle.source_semantics.specs.Run.{read_element, slot_in, value_of};
 ghost use Rattle.replay_state.specs.View.{held_of, home_of};
-ghost use Rattle.replay_values.specs.Seen.{answer_of};
+ghost use Rattle.replay_calls.specs.Seen.{answer_of};
 ghost use Rattle.replay_calls.specs.Reach.{memory_of, site_of};
 
 use crate::memory::Memory;
+use crate::{Answer, EvalContext, place_at};
 use replay_state::{CallOwner, SlotValue};
-use replay_values::{Answer, EvalContext, place_at};
 use syntax_tree::Name;
 
 /// What a variable holds, 0 for a whole array.

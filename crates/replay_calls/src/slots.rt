@@ -3,10 +3,10 @@
 ghost use Rattle.std.specs.Prelude.{◌≡◌, IfOk, map, option_map};
 ghost use Rattle.source_semantics.specs.Store.{slot_named as named_slot};
 ghost use Rattle.replay_state.specs.View.{held_of, slot_of, vars_of};
-ghost use Rattle.replay_values.specs.Stores.{IsPlace};
+ghost use Rattle.replay_calls.specs.Places.{IsPlace};
 
+use crate::equal;
 use replay_state::{Slot, SlotValue, Words};
-use replay_values::equal;
 use std::alloc::{AllocError, Global};
 use syntax_tree::Name;
 

@@ -8,9 +8,9 @@ ghost use Rattle.replay_calls.specs.Reach.{area_of, memory_of};
 ghost use Rattle.replay_calls.specs.Stores.{IsStored, IsStoredAt, IsTried, accepted, put_named, put_slot, store_run};
 
 use crate::memory::{CowSlots, Memory};
+use crate::place_at;
 use crate::slots::place_named;
 use replay_state::{CallOwner, Slot, SlotValue, Subrange, Target};
-use replay_values::place_at;
 use std::alloc::{AllocError, Global};
 use syntax_tree::Name;
 

@@ -10,7 +10,7 @@ use Rattle.source_semantics.specs.Starts.{due, event_releases, is_due, periodic_
 use Rattle.script.specs.declared.script.ScriptLine.{ScriptLine}
 use Rattle.script.specs.declared.script.ScriptLine.TheVariants as line_is
 use Rattle.replay_due_events.specs.declared.timetable.Timing.{Timing}
-use Rattle.script_meaning.specs.Script.{line_said, said}
+use Rattle.script.specs.Meaning.{line_said, said}
 use Rattle.replay_due_events.specs.Timings.{clocked, expired, first_in, is_at, is_clocked, released_by, released_in, timing_of, timings}
 
 pub releases_agree : (g : Program) (c : Config) (t e k : ℕ) (ps : List Process) → releases_by g c t e k ps ≡ released_by c.jobs t e k (map (λ p. timing_of g p.activation) ps)

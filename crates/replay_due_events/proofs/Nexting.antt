@@ -11,7 +11,7 @@ use Rattle.source_semantics.specs.Names.{processes}
 use Rattle.source_semantics.specs.Starts.{occurs, releases_by}
 use Rattle.replay_due_events.specs.declared.timetable.Timing.{Timing}
 use Rattle.script.specs.declared.script.ScriptLine.{ScriptLine}
-use Rattle.script_meaning.specs.Script.{line_said, said}
+use Rattle.script.specs.Meaning.{line_said, said}
 use Rattle.replay_due_events.specs.Timings.{FrameCounts, FramesCount, first_in, released_by, timing_of, timings}
 use Rattle.replay_due_events.proofs.Agreeing.{releases_agree}
 use Rattle.replay_due_events.specs.Next.{jobs_due, timing_due, timings_due}

@@ -4,7 +4,7 @@ ghost use Rattle.std.specs.Prelude.{◌≡◌, ◌+◌, ◌&&◌, [], ◌∷◌,
 ghost use Rattle.syntax_tree.specs.Plain.{Program};
 ghost use Rattle.source_semantics.specs.Starts.{due, release_missing, release_of, was_released_at, time_out};
 ghost use Rattle.replay_state.specs.View.{config_of, doing_of, jobs_of};
-ghost use Rattle.script_meaning.specs.Script.{said};
+ghost use Rattle.script.specs.Meaning.{said};
 ghost use Rattle.replay_due_events.specs.Timings.{FramesCount, IsTimetableOf, clocked, event_of, expired, first_in, is_at, is_clocked, released_by, released_in};
 
 use crate::timetable::{Timetable, Timing};

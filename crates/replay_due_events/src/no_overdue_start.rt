@@ -12,7 +12,7 @@ ghost use Rattle.source_semantics.specs.Names.{processes};
 ghost use Rattle.source_semantics.specs.Starts.{NoneMissing};
 ghost use Rattle.replay_due_events.specs.NextDue.{FramesPass, doing_due, due_from, is_after, line_due, lines_due, next_in_order, release_from};
 ghost use Rattle.replay_state.specs.View.{config_of, doing_of, jobs_of};
-ghost use Rattle.script_meaning.specs.Script.{line_said, said};
+ghost use Rattle.script.specs.Meaning.{line_said, said};
 ghost use Rattle.replay_due_events.specs.Timings.{FramesCount, IsClockFree, IsTimetableOf, timings as timings_in};
 ghost use Rattle.replay_due_events.specs.Next.{AreWaitsAfter, timing_due, timings_due, jobs_due};
 

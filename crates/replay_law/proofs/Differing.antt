@@ -2,7 +2,7 @@
 use Rattle.std.proofs.Common.{◌≡◌, ◌<◌, ℕ, zero, suc, inl, inr, List, [], ◌∷◌, length, map, arith, refl, ap, sym}
 use Rattle.std.specs.Prelude.{option_map, slice_get, unwrap_or}
 use Rattle.syntax_tree.specs.Plain.{Name}
-use Rattle.wellformed_names_law.proofs.Members.{In}
+use Rattle.wellformed_law.proofs.Members.{In}
 
 -- each is another than those behind it
 abbrev pub Differing : List Name → Type 0

@@ -10,7 +10,7 @@ use Rattle.built_image.specs.Named.{names_of}
 use Rattle.event_log.specs.declared.fault.LogFault.{LogFault}
 use Rattle.event_log.specs.Logs.{IsLog}
 use Rattle.event_log.specs.LogReading.{AreUnambiguous, IsOneLog}
-use Rattle.script_meaning.specs.Script.{said}
+use Rattle.script.specs.Meaning.{said}
 use Rattle.command_due.specs.CommandsDue.{told}
 use Rattle.source_semantics.specs.Verdicts.{IsRefusedAt}
 use Rattle.command_due.specs.ReplayDue.{IsJudged, misread, is_refused, is_run, log_fault_line, refused_line, run_line}

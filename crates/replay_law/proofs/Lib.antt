@@ -20,3 +20,19 @@ mod Logs
 mod Verdicts
 pub mod Judged
 pub mod ReplayOnceReplayed
+pub mod Numbers
+pub mod Trees
+pub mod Turns
+pub mod Instructions
+pub mod Nesting
+pub mod Levels
+pub mod Routines
+pub mod Rising
+pub mod Processes
+pub mod Fresh
+pub mod StoredDeclared
+pub mod Events
+pub mod Lists
+pub mod StoredNamed
+pub mod Whole
+pub mod Joined

@@ -16,7 +16,7 @@ use Rattle.event_log.specs.Line.{condition_name, monitor_name, qualified}
 use Rattle.event_log.specs.Logs.{AreWordNames}
 use Rattle.event_log.specs.LogReading.{AreDistinct}
 use Rattle.event_log.proofs.Names.{word_at}
-use Rattle.wellformed_names_law.proofs.Members.{In}
+use Rattle.wellformed_law.proofs.Members.{In}
 use Rattle.replay_law.proofs.Differing.{Differing}
 use Rattle.built_valid_law.proofs.Counts.{named_in}
 

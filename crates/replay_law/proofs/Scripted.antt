@@ -8,7 +8,7 @@ use Rattle.script.specs.declared.script.ScriptLine.{ScriptLine}
 use Rattle.script.specs.declared.script.ScriptLine.TheVariants.{Set, Occur}
 use Rattle.script.specs.Saying.{Said, set, event, end, IsInForm}
 use Rattle.script.specs.Scripts.{IsScript, in_device, event_number, meaning}
-use Rattle.script_meaning.specs.Script.{line_said}
+use Rattle.script.specs.Meaning.{line_said}
 use Rattle.command_due.specs.Script.{run_of}
 use Rattle.code_lifting.specs.Compiled.{line_of}
 use Rattle.replay_law.specs.RunWords.{SetsWord}

@@ -4,3 +4,4 @@ pub mod MadeWords
 pub mod RunWords
 pub mod ReplayLaws
 pub mod Once
+pub mod Stored

@@ -10,7 +10,7 @@
 ghost use Rattle.replay_law.specs.SoundNames.{NamesOfProgramsAreSound};
 
 use crate::names_are_words::{names_of_texts_are_identifiers, names_of_texts_are_words};
-use wellformed_names_law::{declarations_are_listed, names_are_found};
+use wellformed_law::{declarations_are_listed, names_are_found};
 
 /// The names of the parts of the program of a text are words, none of a process is a dash, and no
 /// two of a kind are the same.

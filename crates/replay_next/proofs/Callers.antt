@@ -7,7 +7,7 @@ use Rattle.source_semantics.specs.Store.{Vars}
 use Rattle.source_semantics.specs.Next.{leave_loop, run_items}
 use Rattle.source_semantics.specs.Run as run
 use Rattle.replay_state.specs.View.{home_of, item_of, vars_of}
-use Rattle.replay_values.specs.declared.lookup.EvalContext as code_scope
+use Rattle.replay_calls.specs.declared.lookup.EvalContext as code_scope
 use Rattle.replay_calls.specs.Reach.{site_of}
 use Rattle.replay_next.specs.Came.{CameBelow, weight_at}
 use Rattle.replay_next.specs.Driving.{caller_weight, callers_run, callers_weight, within}

@@ -3,7 +3,7 @@ use Rattle.std.specs.Prelude.{ℕ, suc, ◌+◌, ◌-◌, ◌<◌, ◌≤◌, �
 use Rattle.std.proofs.Common.{arith}
 use Rattle.syntax_tree.specs.Placed.{placed, placed_process, plain, plain_process}
 use Rattle.source_semantics.specs.Run.{Found}
-use Rattle.replay_values.specs.declared.lookup.EvalContext as code_scope
+use Rattle.replay_calls.specs.declared.lookup.EvalContext as code_scope
 use Rattle.replay_next.specs.Ran.{IsReached}
 use Rattle.replay_next.proofs.Sizes.{answers_size, reached_part, room_in, room_left, routine_size, stmts_size, weight}
 

@@ -21,7 +21,7 @@ use Rattle.replay_next.specs.declared.pending.Progress.{Progress}
 use Rattle.replay_next.specs.declared.pending.Progress.TheVariants as progress_is
 use Rattle.replay_next.specs.declared.pending.Outcome.{Outcome}
 use Rattle.replay_next.specs.declared.pending.Outcome.TheVariants as outcome_is
-use Rattle.replay_values.specs.declared.lookup.EvalContext as code_scope
+use Rattle.replay_calls.specs.declared.lookup.EvalContext as code_scope
 use Rattle.replay_next.specs.Weights.{stmt_weight, stmts_weight, item_weight, items_weight, weight_of, FallsBelow, HasFallen}
 
 -- of a tree as code has it

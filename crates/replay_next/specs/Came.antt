@@ -1,7 +1,7 @@
 -- What an item comes to, as contracts see it.
 use Rattle.std.specs.Prelude.{ℕ, ◌<◌}
 use Rattle.source_semantics.specs.Run as run
-use Rattle.replay_values.specs.declared.lookup.EvalContext as code_scope
+use Rattle.replay_calls.specs.declared.lookup.EvalContext as code_scope
 use Rattle.replay_next.specs.Ran.{ran_of}
 use Rattle.replay_next.specs.Pending.{pending_run}
 use Rattle.replay_next.specs.Weights.{pending_weight}

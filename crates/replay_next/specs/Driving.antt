@@ -3,7 +3,7 @@ use Rattle.std.specs.Prelude.{ℕ, suc, ◌+◌, ◌<◌, List, [], ◌∷◌, m
 use Rattle.source_semantics.specs.Next.{leave_loop, run_items}
 use Rattle.source_semantics.specs.Run as run
 use Rattle.replay_state.specs.View.{home_of, item_of, vars_of}
-use Rattle.replay_values.specs.declared.lookup.EvalContext as code_scope
+use Rattle.replay_calls.specs.declared.lookup.EvalContext as code_scope
 use Rattle.replay_calls.specs.Reach.{site_of}
 use Rattle.replay_next.specs.Came.{came_of, item_progress_of, weight_at}
 use Rattle.replay_next.specs.Weights.{items_weight_in}

@@ -4,7 +4,7 @@ use Rattle.source_semantics.specs.Store.{Vars}
 use Rattle.source_semantics.specs.Next.{leave_loop, run_items}
 use Rattle.source_semantics.specs.Run as run
 use Rattle.replay_state.specs.View.{item_of, vars_of}
-use Rattle.replay_values.specs.Lookups.{found_of}
+use Rattle.replay_calls.specs.Lookups.{found_of}
 use Rattle.replay_next.specs.Ran.{ran_of}
 use Rattle.replay_next.specs.declared.pending.PendingCall as code_pending
 use Rattle.replay_next.specs.declared.pending.Progress as code_progress

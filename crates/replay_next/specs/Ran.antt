@@ -5,7 +5,7 @@ use Rattle.syntax_tree.specs.Plain.{Name, Ref, whole, part}
 use Rattle.base.specs.Words as w
 use Rattle.source_semantics.specs.Run as run
 use Rattle.replay_state.specs.View.{action_of, calls_of, item_of, target_of, vars_of}
-use Rattle.replay_values.specs.declared.lookup.EvalContext as code_scope
+use Rattle.replay_calls.specs.declared.lookup.EvalContext as code_scope
 use Rattle.replay_next.specs.declared.results.RunResult as code_ran
 use Rattle.replay_next.specs.declared.results.RunResult.TheVariants as ran_is
 use Rattle.replay_next.specs.declared.results.ArgumentsResult as code_bound

@@ -7,8 +7,8 @@ use Rattle.source_semantics.specs.Names.{constant_value}
 use Rattle.source_semantics.specs.Store.{up_to}
 use Rattle.source_semantics.specs.Run as run
 use Rattle.replay_state.specs.View.{item_of}
-use Rattle.replay_values.specs.declared.lookup.EvalContext as code_scope
-use Rattle.replay_values.specs.Lookups.{found_of}
+use Rattle.replay_calls.specs.declared.lookup.EvalContext as code_scope
+use Rattle.replay_calls.specs.Lookups.{found_of}
 use Rattle.replay_next.specs.declared.pending.PendingCall as code_pending
 use Rattle.replay_next.specs.declared.pending.Progress as code_progress
 use Rattle.replay_next.specs.declared.pending.Progress.TheVariants as progress_is

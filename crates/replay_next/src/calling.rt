@@ -6,15 +6,14 @@ ghost use Rattle.syntax_tree.specs.Plain.{Answers};
 ghost use Rattle.source_semantics.specs.Next.{answer_after};
 ghost use Rattle.source_semantics.specs.Run as run_of;
 ghost use Rattle.replay_state.specs.View.{answers_of, call_of, home_of, target_of, vars_of};
-ghost use Rattle.replay_values.specs.Lookups.{found_of};
-ghost use Rattle.replay_values.specs.Seen.{answer_of};
+ghost use Rattle.replay_calls.specs.Lookups.{found_of};
+ghost use Rattle.replay_calls.specs.Seen.{answer_of};
 ghost use Rattle.replay_calls.specs.Reach.{memory_of, site_of};
 ghost use Rattle.replay_next.specs.Ran.{bound_of, ran_of, receiving};
 
 use crate::results::{ArgumentsResult, RunResult, Stop, stopped_in};
-use replay_calls::{Memory, add_fresh, home_in};
+use replay_calls::{Answer, EvalContext, Memory, ResolvedRoutine, add_fresh, home_in};
 use replay_state::{Action, Call, CallOwner, Item, ResultExpr, Slot, Target};
-use replay_values::{Answer, EvalContext, ResolvedRoutine};
 use static_declarations::Declarations;
 use std::alloc::{AllocError, Global};
 use std::mem;

@@ -17,9 +17,8 @@ use crate::items::{ItemProgress, ItemResult, of_item, run_items, stopped_before}
 use crate::pending::PendingCall;
 use crate::results::RunResult;
 use crate::stepping::step_all;
-use replay_calls::{Memory, home_in};
+use replay_calls::{EvalContext, Memory, home_in};
 use replay_state::{CallOwner, Item, Slot};
-use replay_values::EvalContext;
 use std::alloc::AllocError;
 use std::mem;
 

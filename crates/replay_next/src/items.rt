@@ -4,8 +4,8 @@ ghost use Rattle.std.specs.Prelude.{◌≡◌, ◌++◌, ◌∷◌, [], IfOk, Li
 ghost use Rattle.source_semantics.specs.Next as next_of_source;
 ghost use Rattle.source_semantics.specs.Run as run_of;
 ghost use Rattle.replay_state.specs.View.{action_of, answers_of, calls_of, item_of, vars_of};
-ghost use Rattle.replay_values.specs.declared.lookup.EvalContext as code_scope;
-ghost use Rattle.replay_values.specs.Seen.{answer_of};
+ghost use Rattle.replay_calls.specs.declared.lookup.EvalContext as code_scope;
+ghost use Rattle.replay_calls.specs.Seen.{answer_of};
 ghost use Rattle.replay_calls.specs.Reach.{memory_of, site_of};
 ghost use Rattle.replay_next.specs.Ran.{ran_of};
 ghost use Rattle.replay_next.specs.Came.{CameBelow, came_of, item_progress_of};
@@ -15,9 +15,8 @@ ghost use Rattle.replay_next.specs.Weights.{FallsBelow, item_weight_in, items_we
 use crate::pending::{PendingCall, Progress};
 use crate::stepping::{step_all, step_turns};
 use crate::{RunResult, Stop, TargetResult, assigned, stops, value};
-use replay_calls::{Memory, checked, drop_turn, range_of};
+use replay_calls::{Answer, EvalContext, Memory, checked, drop_turn, range_of};
 use replay_state::{Action, CallOwner, Item, ResultExpr};
-use replay_values::{Answer, EvalContext};
 use std::alloc::{AllocError, Global};
 
 /// What an item comes to: what its statements come to, or a value that is given back.

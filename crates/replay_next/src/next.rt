@@ -13,11 +13,10 @@ ghost use Rattle.replay_calls.specs.Reach.{area_of};
 use crate::driving::run_whole;
 use crate::items::ItemResult;
 use crate::{RunResult, Stop};
-use replay_calls::{CowSlots, Memory, lent, slots_copied};
+use replay_calls::{CowSlots, EvalContext, Memory, lent, slots_copied};
 use replay_state::{
     Action, Call, CallOwner, Config, Item, MonitorState, NextAction, ProcessState, Slot,
 };
-use replay_values::EvalContext;
 use std::alloc::{AllocError, Global};
 
 /// An action after which these calls and variables remain.

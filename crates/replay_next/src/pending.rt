@@ -4,13 +4,13 @@ ghost use Rattle.std.specs.Prelude.{◌≡◌, ◌∷◌, ◌++◌, ◌+◌, ◌
 ghost use Rattle.source_semantics.specs.Next as next_of_source;
 ghost use Rattle.source_semantics.specs.Run as run_of;
 ghost use Rattle.replay_state.specs.View.{item_of, vars_of};
-ghost use Rattle.replay_values.specs.declared.lookup.EvalContext as code_scope;
+ghost use Rattle.replay_calls.specs.declared.lookup.EvalContext as code_scope;
 ghost use Rattle.replay_next.specs.Pending.{called_run, outcome_of, progress_of};
 ghost use Rattle.replay_next.specs.Weights.{FallsBelow, HasFallen, item_weight_in};
 
 use crate::results::{RunResult, stopped_before};
+use replay_calls::ResolvedRoutine;
 use replay_state::{Item, Slot};
-use replay_values::ResolvedRoutine;
 use std::alloc::AllocError;
 
 /// A procedure that is called, with the variables of its own, and the items of its caller that

@@ -4,10 +4,10 @@ ghost use Rattle.std.specs.Prelude.{◌≡◌, ◌++◌, ◌∷◌, [], IfOk, ma
 ghost use Rattle.source_semantics.specs.Run as run_of;
 ghost use Rattle.replay_state.specs.View.{action_of, calls_of, home_of, item_of, vars_of};
 ghost use Rattle.replay_next.specs.Ran.{aimed_of, aimed_at as aimed, listed, ran_of, with_aimed};
-ghost use Rattle.replay_values.specs.Seen.{answer_of};
+ghost use Rattle.replay_calls.specs.Seen.{answer_of};
 
+use replay_calls::Answer;
 use replay_state::{Action, Call, CallOwner, Item, Slot, Target};
-use replay_values::Answer;
 use std::alloc::{AllocError, Global};
 use syntax_tree::Name;
 

@@ -7,8 +7,8 @@ ghost use Rattle.source_semantics.specs.Next.{answer_after};
 ghost use Rattle.source_semantics.specs.Run as run_of;
 ghost use Rattle.syntax_tree.specs.Plain.{call as called_expr};
 ghost use Rattle.replay_state.specs.View.{answers_of, target_of, vars_of};
-ghost use Rattle.replay_values.specs.Lookups.{found_of};
-ghost use Rattle.replay_values.specs.Seen.{answer_of};
+ghost use Rattle.replay_calls.specs.Lookups.{found_of};
+ghost use Rattle.replay_calls.specs.Seen.{answer_of};
 ghost use Rattle.replay_calls.specs.Reach.{memory_of, site_of};
 ghost use Rattle.replay_next.specs.Ran.{IsReached, aim_in, aimed_of, bound_of, ran_of, receiving};
 
@@ -20,11 +20,11 @@ use crate::visible::{
     ConditionResult, asserted, assigned, device_here, exited, monitor_here, puts, tested, waits,
 };
 use replay_calls::{
-    ArgumentResult, Memory, checked, condition_here, drop_turn, element, entry_named, home_in,
-    joined, lent, minus, name_value, opposite, param_variable, push_turn, range_of, turn_count,
+    Answer, ArgumentResult, EvalContext, Memory, ResolvedRoutine, checked, condition_here,
+    drop_turn, element, entry_named, home_in, joined, lent, minus, name_value, opposite,
+    param_variable, push_turn, range_of, routine_named, turn_count,
 };
 use replay_state::{Action, CallOwner, Item, ResultExpr, Slot, Target, count};
-use replay_values::{Answer, EvalContext, ResolvedRoutine, routine_named};
 use std::alloc::AllocError;
 use std::mem;
 use syntax_tree::{Expr, Name, Op, Param, Ref, Stmt};

@@ -12,9 +12,8 @@ use crate::pending::{Outcome, PendingCall, Progress, before};
 use crate::results::{ArgumentsResult, RunResult};
 use crate::runs::{arguments, run, value};
 use crate::visible::{ConditionResult, tested};
-use replay_calls::{Memory, drop_turn, push_turn, turn_count};
+use replay_calls::{EvalContext, Memory, drop_turn, push_turn, routine_named, turn_count};
 use replay_state::{CallOwner, Item};
-use replay_values::{EvalContext, routine_named};
 use std::alloc::AllocError;
 use syntax_tree::{Expr, Name, Stmt};
 

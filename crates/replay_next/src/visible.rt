@@ -6,14 +6,15 @@ ghost use Rattle.syntax_tree.specs.Placed.{placed, placed_constant, plain, plain
 ghost use Rattle.source_semantics.specs.Names.{count_value, device_number as number_of_device, monitor_number as number_of_monitor};
 ghost use Rattle.source_semantics.specs.Run as run_of;
 ghost use Rattle.replay_state.specs.View.{home_of};
-ghost use Rattle.replay_values.specs.Seen.{answer_of};
+ghost use Rattle.replay_calls.specs.Seen.{answer_of};
 ghost use Rattle.replay_calls.specs.Reach.{memory_of, site_of};
 ghost use Rattle.replay_next.specs.Ran.{aimed_of, ran_of, tested_run, with_aimed};
 
 use crate::results::{RunResult, TargetResult, stops};
-use replay_calls::{Memory, condition_here, device_number, monitor_number, store_to};
+use replay_calls::{
+    Answer, EvalContext, Memory, condition_here, device_number, is_true, monitor_number, store_to,
+};
 use replay_state::{Action, CallOwner, Item, count};
-use replay_values::{Answer, EvalContext, is_true};
 use std::alloc::{AllocError, Global};
 use syntax_tree::{Constant, Name};
 

@@ -11,7 +11,7 @@ use Rattle.source_semantics.specs.Starts.{Script, due, event_releases, releases_
 use Rattle.script.specs.declared.script.ScriptLine.{ScriptLine}
 use Rattle.script.specs.declared.script.ScriptLine.TheVariants as line_is
 use Rattle.script.specs.Scripts.{tick_of}
-use Rattle.script_meaning.specs.Script.{line_said, said}
+use Rattle.script.specs.Meaning.{line_said, said}
 use Rattle.replay_script.specs.Cursors.{ArePassed, are_in_order, until, word, word_after}
 
 -- what stands past the end of a list of lines

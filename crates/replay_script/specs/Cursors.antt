@@ -6,7 +6,7 @@ use Rattle.source_semantics.specs.Starts.{Script, device_value, event_releases, 
 use Rattle.script.specs.declared.script.ScriptLine.{ScriptLine}
 use Rattle.script.specs.declared.script.ScriptLine.TheVariants as line_is
 use Rattle.script.specs.Scripts.{tick_of}
-use Rattle.script_meaning.specs.Script.{line_said, said}
+use Rattle.script.specs.Meaning.{line_said, said}
 use Rattle.replay_script.specs.declared.cursor.ScriptCursor.{ScriptCursor}
 
 -- the ticks of the lines do not descend, and none is before t

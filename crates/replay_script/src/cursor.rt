@@ -5,7 +5,7 @@ ghost use Rattle.syntax_tree.specs.Plain.{Program};
 ghost use Rattle.source_semantics.specs.Config.{Config};
 ghost use Rattle.source_semantics.specs.Starts.{device_value, due, value_set};
 ghost use Rattle.script.specs.Scripts.{tick_of as tick_in};
-ghost use Rattle.script_meaning.specs.Script.{line_said, said};
+ghost use Rattle.script.specs.Meaning.{line_said, said};
 ghost use Rattle.replay_script.specs.Cursors.{ArePassed, IsAt, IsCursor, IsWithin, are_in_order, lines_of, script_in, until, word, word_after};
 
 use script::{Script, ScriptLine};

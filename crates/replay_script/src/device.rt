@@ -2,7 +2,7 @@
 
 ghost use Rattle.std.specs.Prelude.{map, ◌≡◌};
 ghost use Rattle.source_semantics.specs.Starts.{device_value as value_at, value_set};
-ghost use Rattle.script_meaning.specs.Script.{line_said};
+ghost use Rattle.script.specs.Meaning.{line_said};
 ghost use Rattle.replay_script.specs.Cursors.{IsWithin, script_in};
 ghost use Rattle.replay_script.specs.Devices.{value_after};
 

@@ -1,7 +1,7 @@
 //! The configuration of a program, its changes, who is to act.
 //!
 //! The family Replay: the source meaning in code, by which a log is judged. `replay_state` keeps a
-//! configuration; `replay_due_events`, `replay_values`, `replay_calls` and `replay_next` find what
+//! configuration; `replay_due_events`, `replay_calls`, `replay_calls` and `replay_next` find what
 //! may come next, `replay_accept` takes an event or refuses it, `replay` judges a log.
 //!
 //! `specs/View.antt` says which configuration of the source meaning a `Config` stands for

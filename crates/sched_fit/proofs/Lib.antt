@@ -3,3 +3,4 @@ pub mod Changed
 pub mod Judged
 pub mod Laws
 pub mod Overheads
+pub mod Growing

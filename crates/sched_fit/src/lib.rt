@@ -6,13 +6,25 @@
 //! numbers, also of tasks that are not in time, within a bound on evaluations. Laws say that where
 //! a number fits each smaller one does, that the tasks are in time exactly where what fits is no
 //! less than what they have, and that it is then the cost and the spare ticks.
+//!
+//! What fits of each process as text: `specs/Rows.antt` says what is told of a process, its cost
+//! and its suspension, and what fits in their places; `specs/Lines.antt` is the text, a function of
+//! these numbers and of the overhead alone. `process_fits` finds the numbers, `fits_text` writes
+//! the text.
 #![tactic(auto)]
 
+mod finding;
 pub mod fit_law;
 mod fitting;
+mod lines;
 mod overhead;
+mod rows;
+pub mod text_law;
 mod uncounted;
 
+pub use finding::process_fits;
 pub use fitting::{Varied, fit};
+pub use lines::fits_text;
 pub use overhead::{overhead_fit, with_overhead};
+pub use rows::{ProcessFit, SuspensionFit};
 pub use uncounted::{fit_of, overhead_fit_of};

@@ -1,1 +1,4 @@
+pub mod Ranked
 pub mod Tasks
+pub mod Once
+pub mod Example

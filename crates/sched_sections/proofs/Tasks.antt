@@ -8,9 +8,9 @@ use Rattle.base.specs.Capped.{cap}
 use Rattle.sched_response.proofs.Caps as caps
 use Rattle.sched_response.specs.declared.tasks.Task.{Task}
 use Rattle.sched_response.specs.Demand.{activation, demand_at, task_at, IsTask}
-use Rattle.sched_parts.specs.Load.{load, share}
-use Rattle.sched_parts.specs.Parts.{all_of_first}
-use Rattle.sched_parts.proofs.Adding.{capped}
+use Rattle.sched_sections.specs.Load.{load, share}
+use Rattle.sched_sections.specs.Parts.{all_of_first}
+use Rattle.sched_sections.proofs.Adding.{capped}
 use Rattle.sched_sections.specs.declared.levels.Level.{Level}
 use Rattle.sched_sections.specs.Levels.{tasks_in}
 

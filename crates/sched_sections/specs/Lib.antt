@@ -1,3 +1,5 @@
+pub mod Parts
+pub mod Load
 pub mod Levels
 pub mod Sections
 pub mod Example

@@ -4,8 +4,8 @@ use Rattle.std.specs.Prelude.{◌+◌, ◌++◌, ℕ, zero, suc, List, [], ◌�
 use Rattle.base.specs.Capped.{cap}
 use Rattle.sched_response.specs.declared.tasks.Task.{Task}
 use Rattle.sched_response.specs.Demand.{task_at, demand_at}
-use Rattle.sched_parts.specs.Parts.{after_waits, releases, each_takes, all_take}
-use Rattle.sched_parts.specs.Load.{load}
+use Rattle.sched_sections.specs.Parts.{after_waits, releases, each_takes, all_take}
+use Rattle.sched_sections.specs.Load.{load}
 use Rattle.sched_table.specs.Report.{with_number, with_optional, verdict_text}
 use Rattle.sched_sections.specs.declared.levels.Blocker.{Blocker}
 use Rattle.sched_sections.specs.declared.levels.Level.{Level}

@@ -4,7 +4,7 @@ ghost use Rattle.std.specs.Prelude.{◌≡◌, ◌≤◌, ◌<◌, ◌+◌, ◌*
 ghost use Rattle.std.specs.Int.{div_ceil};
 ghost use Rattle.base.specs.Capped.{cap};
 ghost use Rattle.sched_response.specs.Demand.{activation, demand_at, AreTasks, IsTask};
-ghost use Rattle.sched_parts.specs.Load.{load, share};
+ghost use Rattle.sched_sections.specs.Load.{load, share};
 ghost use Rattle.sched_sections.specs.Levels.{tasks_in};
 
 use crate::Level;

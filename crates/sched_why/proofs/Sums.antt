@@ -5,7 +5,7 @@ use Rattle.syntax_tree.specs.Plain.{Process, Program}
 use Rattle.source_semantics.specs.Names.{processes}
 use Rattle.source_semantics.specs.Ranks.{rank}
 use Rattle.sched_response.specs.Demand.{deadline_at}
-use Rattle.sched_parts.proofs.Adding.{at_bound, capped, past}
+use Rattle.sched_sections.proofs.Adding.{at_bound, capped, past}
 use Rattle.sched_table.specs.Table.{IsBoundAt}
 use Rattle.sched_sections.specs.declared.levels.Level.{Level}
 use Rattle.sched_sections.specs.Levels.{tasks_in}

@@ -4,3 +4,4 @@ pub mod Faults
 pub mod Reading
 pub mod Script
 pub mod OneAnswer
+pub mod Meaning

@@ -11,6 +11,9 @@
 //!
 //! `read_script` gives the script, or that fault. A text is one script at most, and is none where
 //! it has a fault (`one_answer_law`).
+//!
+//! `specs/Meaning.antt` gives for the lines of a script that is read, with the tick before which
+//! its run ends, the script over which the meaning of programs is defined.
 #![tactic(auto)]
 
 mod fault;

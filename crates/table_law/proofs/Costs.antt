@@ -22,12 +22,12 @@ use Rattle.table_format.specs.declared.table.TaskTable.{TaskTable}
 use Rattle.table_format.specs.Rules.{same_name, stays, monitors, names_of_monitors, least_cost}
 use Rattle.table_format.specs.Spending.{Nowhere, of_x, in_turn, spend}
 use Rattle.table_format.specs.Program.{stay_name, stay_entry, stays_in, table_monitor, stay_call, table_process, program_with}
-use Rattle.table_text_law.specs.Ticks.{IsOwnWord, IsMet}
-use Rattle.table_text_law.proofs.Spends.{spent}
-use Rattle.table_text_law.proofs.Ticks.{Takes, takes}
-use Rattle.table_text_law.proofs.Lists.{Every, weaker}
-use Rattle.table_text_law.proofs.Few.{sum_of, same_is, same_self}
-use Rattle.table_text_law.proofs.Fits.{TicksFit, StayFits, LineFits, TableFits, stays_in_fit}
+use Rattle.table_law.specs.Ticks.{IsOwnWord, IsMet}
+use Rattle.table_law.proofs.Spends.{spent}
+use Rattle.table_law.proofs.Ticks.{Takes, takes}
+use Rattle.table_law.proofs.Lists.{Every, weaker}
+use Rattle.table_law.proofs.Few.{sum_of, same_is, same_self}
+use Rattle.table_law.proofs.Fits.{TicksFit, StayFits, LineFits, TableFits, stays_in_fit}
 use Rattle.table_law.proofs.Members.{Elem, elem_map, elem_flat, elem_filter, elem_distinct, elem_some, first_named}
 use Rattle.table_law.proofs.Parts.{mon, process_there, monitors_are, routines_counted}
 

@@ -17,11 +17,11 @@ use Rattle.table_format.specs.Rules as of_table
 use Rattle.table_format.specs.Rules.{stays, least_cost, IsBegun}
 use Rattle.table_format.specs.Spending.{Nowhere, in_turn, spend}
 use Rattle.table_format.specs.Program.{stay_name, stay_entry, stays_in, table_monitor, stay_call, table_process, event_of, program_with}
-use Rattle.table_text_law.proofs.Spends.{Spends, nothing, by_three, by_four, by_five, by_short, by_long, spent}
-use Rattle.table_text_law.proofs.Sizes.{short}
-use Rattle.table_text_law.proofs.Lists.{Every, both}
-use Rattle.table_text_law.proofs.Few.{sum_of, few_entries, map_length}
-use Rattle.table_text_law.proofs.Fits.{TicksFit, LineFits, TableFits, table_fits, stays_in_fit}
+use Rattle.table_law.proofs.Spends.{Spends, nothing, by_three, by_four, by_five, by_short, by_long, spent}
+use Rattle.table_law.proofs.TextSizes.{short}
+use Rattle.table_law.proofs.Lists.{Every, both}
+use Rattle.table_law.proofs.Few.{sum_of, few_entries, map_length}
+use Rattle.table_law.proofs.Fits.{TicksFit, LineFits, TableFits, table_fits, stays_in_fit}
 use Rattle.table_law.proofs.Parts.{processes_are, process_there}
 use Rattle.table_law.proofs.Costs.{entry_word, process_word}
 

@@ -2,8 +2,8 @@
 use Rattle.std.proofs.Common.{◌≡◌, ◌≤◌, ◌+◌, ℕ, ◌⊎◌, inl, inr, Bool, true, false, not, List, [], ◌∷◌, ◌++◌, Option, Some, None, length, map, bytes_eq, refl, ap, sym, ◌∙◌, subst, arith}
 use Rattle.std.specs.Prelude.{cond, filter, flat_map, find}
 use Rattle.table_format.specs.Rules.{distinct}
-use Rattle.table_text_law.proofs.Lists.{Every}
-use Rattle.table_text_law.proofs.Few.{same_is, same_self}
+use Rattle.table_law.proofs.Lists.{Every}
+use Rattle.table_law.proofs.Few.{same_is, same_self}
 
 abbrev pub Elem : {A : Type 0} → A → List A → Type 0
 Elem x [] = ⊥

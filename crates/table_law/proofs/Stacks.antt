@@ -15,10 +15,10 @@ use Rattle.table_format.specs.declared.table.TaskTable.{TaskTable}
 use Rattle.table_format.specs.Rules.{stays, least_cost}
 use Rattle.table_format.specs.Spending.{Nowhere, in_turn, spend}
 use Rattle.table_format.specs.Program.{stay_name, stay_entry, stay_call, table_process, program_with}
-use Rattle.table_text_law.proofs.Spends.{spent}
-use Rattle.table_text_law.proofs.Sizes.{low, few_loops}
-use Rattle.table_text_law.proofs.Lists.{Every}
-use Rattle.table_text_law.proofs.Fits.{TicksFit, StayFits, LineFits, TableFits}
+use Rattle.table_law.proofs.Spends.{spent}
+use Rattle.table_law.proofs.TextSizes.{low, few_loops}
+use Rattle.table_law.proofs.Lists.{Every}
+use Rattle.table_law.proofs.Fits.{TicksFit, StayFits, LineFits, TableFits}
 use Rattle.table_law.proofs.Members.{Elem}
 use Rattle.table_law.proofs.Costs.{entry_found}
 

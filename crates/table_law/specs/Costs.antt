@@ -10,7 +10,7 @@ use Rattle.table_format.specs.declared.table.TaskLine.{TaskLine}
 use Rattle.table_format.specs.declared.table.TaskTable.{TaskTable}
 use Rattle.table_format.specs.Rules.{IsBegun}
 use Rattle.table_format.specs.Program.{made_tail, stay_entry, table_process, program_of}
-use Rattle.table_text_law.specs.Ticks.{IsMet}
+use Rattle.table_law.specs.Ticks.{IsMet}
 
 -- the program of a table, without places
 abbrev pub table_program : TaskTable → plain_of.Program

@@ -1,4 +1,16 @@
+pub mod Ticks
+pub mod Tails
+pub mod Tree
 pub mod Costs
 pub mod Sizes
 pub mod Frames
 pub mod Once
+pub mod Tasks
+pub mod Agree
+pub mod Example
+pub mod Rules
+pub mod Names
+pub mod Checked
+pub mod Faultless
+pub mod WrittenSizes
+pub mod Written

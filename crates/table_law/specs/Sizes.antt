@@ -8,7 +8,7 @@ use Rattle.table_format.specs.declared.table.TaskLine.{TaskLine}
 use Rattle.table_format.specs.declared.table.TaskTable.{TaskTable}
 use Rattle.table_format.specs.Rules.{IsBegun}
 use Rattle.table_format.specs.Program.{made_tail, stay_entry}
-use Rattle.table_text_law.specs.Ticks.{IsMet}
+use Rattle.table_law.specs.Ticks.{IsMet}
 use Rattle.table_law.specs.Costs.{table_program, process_of}
 
 -- 32 for each list that spends ticks, 1 for each call, 3 beside its list for each entry, and 1 for

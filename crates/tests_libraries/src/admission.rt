@@ -1,7 +1,6 @@
 //! Images from any hand under earliest deadline first.
 
-use edf_admission::{AdmittedRun, EdfFault, EdfImage, images_of_files_can_be_run};
-use image_loaded::Shape;
+use image_loaded::{AdmittedRun, EdfFault, EdfImage, Shape, images_of_files_can_be_run};
 use outside::MemorySink;
 use sched_demand::Judgement;
 use script::read_script;

@@ -7,5 +7,5 @@
 //! the recurrence.
 //!
 //! The definitions alone stand here. What a valid image keeps to is in `valid_image_law`; images
-//! that are valid, and near misses, in `valid_image_examples`.
+//! that are valid, and near misses, in `machine_safety`.
 #![tactic(auto)]

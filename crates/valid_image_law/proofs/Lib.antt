@@ -20,3 +20,12 @@ pub mod Whole
 pub mod Agreeing
 pub mod Used
 pub mod Largest
+pub mod Searches
+pub mod Coding
+pub mod Fitting
+pub mod Pieces
+pub mod Numbers
+pub mod RuleWhole
+pub mod Reached
+pub mod Staying
+pub mod Binding

@@ -3,7 +3,7 @@ use Rattle.std.proofs.Common.{◌≡◌, ◌≤◌, ◌<◌, ℕ, zero, suc, len
 use Rattle.std.specs.Prelude.{cond, false, nat_eq}
 use Rattle.std.proofs.lemmas.Bool.Decides.{nat_tests}
 use Rattle.sched_response.specs.Ranked as defined
-use Rattle.valid_image_examples.specs.Example.{meeting}
+use Rattle.machine_safety.specs.ValidImages.{meeting}
 use Rattle.valid_image.specs.Tables.{longer_stay, stay_of_process}
 use Rattle.valid_image.specs.Times.{deadline_at}
 use Rattle.valid_image_law.specs.Uses.{IsStay, TellsStays, meeting_uses, MeetingIsUsed}

@@ -9,8 +9,8 @@ use Rattle.sched_timing.proofs.Whole.{every_run_is_in_time}
 use Rattle.valid_image.specs.Fault.{Fault, or_else}
 use Rattle.valid_image.specs.Valid.{Part, Shape, Costs, Sizes, Ranks, Bounds, Operands, Handlers, Shown, shown_of, shown, fault_of_part, fault_of, IsValid}
 use Rattle.valid_image_law.specs.ValidLaw.{IsSafe, EveryValidImageIsSafeAndInTime, MeetsPremises, ValidMeetsPremises, ValidIsWithoutFault, MeetingIsSafeAndInTime}
-use Rattle.valid_image_examples.specs.Example.{meeting, ExamplesAre}
-use Rattle.valid_image_examples.proofs.Computed.{examples_are}
+use Rattle.machine_safety.specs.ValidImages.{meeting, ExamplesAre}
+use Rattle.machine_safety.proofs.Computed.{examples_are}
 use Rattle.valid_image_law.proofs.Firsts.{neither}
 use Rattle.valid_image_law.proofs.Parts.{no_part, where_in}
 use Rattle.valid_image_law.proofs.Processes.{parts_in, image_fits}

@@ -5,3 +5,8 @@ pub mod ValidLaw
 pub mod Uses
 pub mod Paths
 pub mod PathsLaws
+pub mod Code
+pub mod Reached
+pub mod Operands
+pub mod PlainRules
+pub mod RulesLaw

@@ -3,7 +3,7 @@ use Rattle.std.specs.Prelude.{[], ◌∷◌, ◌≡◌, ◌≤◌, ◌<◌, ℕ,
 use Rattle.sched_response.specs.declared.uses.Use.{Use}
 use Rattle.sched_response.specs.Ranked as defined
 use Rattle.machine_semantics.specs.Image.{Image, Process, Monitor}
-use Rattle.valid_image_examples.specs.Example.{meeting}
+use Rattle.machine_safety.specs.ValidImages.{meeting}
 use Rattle.valid_image.specs.Tables.{stay_of_process}
 use Rattle.valid_image.specs.Times.{deadline_at, rank_of, ceiling_of, needed_block}
 

@@ -9,7 +9,7 @@ use Rattle.machine_safety_spec.specs.Safe.{Parts, ImageFits}
 use Rattle.machine_safety_spec.specs.Whole.{StackFits, WordsFit, Apart, InsideIsReady}
 use Rattle.sched_timing.specs.Timed.{ImageIsTimed, RespectsFrames, IsInTime}
 use Rattle.valid_image.specs.Valid.{fault_of, IsValid, HasLimits}
-use Rattle.valid_image_examples.specs.Example.{meeting}
+use Rattle.machine_safety.specs.ValidImages.{meeting}
 
 -- a run is safe: before each tick every process is within its declared stack and has the words that
 -- it declares, the processes that are inside monitors are apart, each of them is ready, and no tick

@@ -2,7 +2,7 @@
 use Rattle.std.proofs.Common.{◌≡◌, ◌≢◌, ◌≤◌, ◌<◌, ◌+◌, ◌⊎◌, inl, inr, ℕ, zero, suc, List, [], ◌∷◌, Option, Some, None, arith, refl, ap, ◌∙◌}
 use Rattle.std.specs.Prelude.{slice_get, min}
 use Rattle.std.proofs.lemmas.Bool.{cases_lt}
-use Rattle.vm_dispatch.specs.Due.{earlier, least}
+use Rattle.vm_stretch.specs.Due.{earlier, least}
 use Rattle.vm_stretch.specs.StretchDue.{NoneBefore}
 
 first_most : (r : ℕ) (o : Option ℕ) → (d : ℕ) × ((earlier (Some r) o ≡ Some d) × (d ≤ r))

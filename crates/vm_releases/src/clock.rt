@@ -14,8 +14,8 @@ ghost use Rattle.vm_releases.specs.Order.{IsOrderOf};
 use crate::order::StartOrder;
 use crate::release::release;
 use crate::time_out::time_out;
-use vm_dispatch::{Due, DueHeap};
 use vm_state::{DecodedImage, EventBuffer, MachineState, Release};
+use vm_stretch::{Due, DueHeap};
 
 /// Whether the slot is due at the tick.
 #[inline(always)]

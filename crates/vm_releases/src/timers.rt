@@ -4,7 +4,7 @@ ghost use Rattle.std.specs.Prelude.{◌≡◌, ◌≢◌, ◌≤◌, ◌<◌, �
 ghost use Rattle.machine_semantics.specs.Image.{Image};
 ghost use Rattle.machine_semantics.specs.Run.{at_start};
 ghost use Rattle.machine_semantics.specs.Starts.{starts};
-ghost use Rattle.vm_dispatch.specs.Due.{least};
+ghost use Rattle.vm_stretch.specs.Due.{least};
 ghost use Rattle.vm_stretch.specs.StretchDue.{AreInOrder, HasSlots, first_tick};
 ghost use Rattle.vm_stretch.specs.StartLawsDue.{AreDone, HasDue, HasOwnRanks};
 ghost use Rattle.vm_state.specs.Board.{IsBoardOf, state_of};
@@ -17,8 +17,8 @@ use crate::lines::{do_lines, tick_of};
 use crate::order::StartOrder;
 use script::{Script, ScriptLine};
 use std::alloc::{AllocError, Global};
-use vm_dispatch::{Due, DueHeap};
 use vm_state::{DecodedImage, EventBuffer, MachineState, Release};
+use vm_stretch::{Due, DueHeap};
 
 /// What comes when: the slots of due ticks, and how many lines of the script are done. Once made,
 /// it takes no memory.

@@ -5,7 +5,7 @@ use Rattle.std.proofs.lemmas.Bool.{cases_lt}
 use Rattle.std.proofs.lemmas.Bool.Decides.{nat_tests}
 use Rattle.std.proofs.lemmas.Option.{slice_get_within}
 use Rattle.base.proofs.Lists.{some_at}
-use Rattle.vm_dispatch.specs.Due.{least}
+use Rattle.vm_stretch.specs.Due.{least}
 use Rattle.machine_semantics.specs.Image.{Image, Script, Line}
 use Rattle.machine_semantics.specs.State.{State}
 use Rattle.machine_semantics.specs.Starts.{starts}

@@ -2,7 +2,7 @@
 
 ghost use Rattle.std.specs.Prelude.{◌≡◌, ◌≢◌, ◌≤◌, ◌<◌, ◌↔◌, ◌++◌, [], IfOk, Some, min, true};
 ghost use Rattle.arrayvec.specs.ArrayVec.{array_vec_len};
-ghost use Rattle.vm_dispatch.specs.Due.{least};
+ghost use Rattle.vm_stretch.specs.Due.{least};
 ghost use Rattle.machine_semantics.specs.Image.{Image};
 ghost use Rattle.vm_releases.specs.Begin.{script_of};
 ghost use Rattle.vm_state.specs.Plan.{IsOf};

@@ -1,7 +1,7 @@
 //! How long nothing starts.
 
 ghost use Rattle.std.specs.Prelude.{◌≡◌, ◌≤◌, ◌<◌, ◌+◌, ◌⊎◌, Some};
-ghost use Rattle.vm_dispatch.specs.Due.{least};
+ghost use Rattle.vm_stretch.specs.Due.{least};
 ghost use Rattle.vm_stretch.specs.StretchDue.{NoneBefore};
 
 use vm_releases::Timers;

@@ -1,3 +1,4 @@
+pub mod Least
 pub mod Jumping
 pub mod StretchMoving
 pub mod Quiet

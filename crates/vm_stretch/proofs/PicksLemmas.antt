@@ -7,8 +7,8 @@ use Rattle.machine_semantics.specs.Image.{Image, Process}
 use Rattle.machine_semantics.specs.State.{Job, Thread, Idle, Ready, Waiting}
 use Rattle.machine_semantics.specs.Tick.{Candidate, active_rank, first_of_two, is_before, least, outside, pick}
 use Rattle.vm_stretch.specs.Stretch.{place_of}
-use Rattle.vm_dispatch.specs.declared.choice.Contender.{Contender}
-use Rattle.vm_dispatch.specs.Pick.{Entry, foremost, foremost_from, key, sooner, place_of as entry_place, outside as out_of}
+use Rattle.vm_stretch.specs.declared.choice.Contender.{Contender}
+use Rattle.vm_stretch.specs.Pick.{Entry, foremost, foremost_from, key, sooner, place_of as entry_place, outside as out_of}
 use Rattle.vm_stretch.specs.Picks.{AreStanding, PickIsForemost, Stands, is_inside_one}
 
 -- the candidate is the entry

@@ -1,3 +1,6 @@
+pub mod Due
+pub mod Heap
+pub mod Pick
 pub mod Stretch
 pub mod Quiet
 pub mod StretchLaws

@@ -4,8 +4,8 @@ use Rattle.machine_semantics.specs.Image.{Image, Process}
 use Rattle.machine_semantics.specs.State.{Job, Thread, Idle, Ready, Waiting}
 use Rattle.machine_semantics.specs.Tick.{active_rank, pick}
 use Rattle.vm_stretch.specs.Stretch.{place_of}
-use Rattle.vm_dispatch.specs.declared.choice.Contender.{Contender}
-use Rattle.vm_dispatch.specs.Pick.{foremost}
+use Rattle.vm_stretch.specs.declared.choice.Contender.{Contender}
+use Rattle.vm_stretch.specs.Pick.{foremost}
 
 -- whether it is inside some monitor
 abbrev pub is_inside_one : Option ℕ → Bool

@@ -2,8 +2,8 @@
 use Rattle.std.proofs.Common.{◌≡◌, ◌≤◌, ◌<◌, ◌+◌, ℕ, zero, suc, true, false, List, [], ◌∷◌, Option, Some, None, length, drop, refl, arith, ap, sym, subst, ◌∙◌}
 use Rattle.std.specs.Prelude.{slice_get}
 use Rattle.std.proofs.lemmas.List.{drop_all}
-use Rattle.vm_dispatch.specs.declared.choice.Contender.{Contender}
-use Rattle.vm_dispatch.specs.Pick.{Entry, foremost, foremost_from, joined, place_of as entry_place}
+use Rattle.vm_stretch.specs.declared.choice.Contender.{Contender}
+use Rattle.vm_stretch.specs.Pick.{Entry, foremost, foremost_from, joined, place_of as entry_place}
 use Rattle.machine_semantics.specs.Image.{Image, Process}
 use Rattle.machine_semantics.specs.State.{Job, Thread, Idle, Ready, Waiting}
 use Rattle.machine_semantics.specs.Tick.{active_rank, pick}

@@ -1,6 +1,6 @@
 -- Which process runs, and how long it stays at what it is at.
 use Rattle.std.specs.Prelude.{◌≡◌, ℕ, List, Option, Some, map, slice_get}
-use Rattle.vm_dispatch.specs.declared.choice.Contender.{Contender}
+use Rattle.vm_stretch.specs.declared.choice.Contender.{Contender}
 use Rattle.machine_semantics.specs.Image.{Image, Monitor, Process}
 use Rattle.machine_semantics.specs.State.{Job, Ready}
 use Rattle.machine_semantics.specs.Tick.{ceiling, pick}

@@ -4,9 +4,9 @@ ghost use Rattle.std.specs.Prelude.{◌≡◌, ◌<◌, length, vec_len};
 ghost use Rattle.vm_turn.specs.Chosen.{IsCeiling, IsLeft, IsLeftOf, IsPick, StandsIn};
 
 use machine_isa::{Instr, ticks};
-use vm_dispatch::{Contender, foremost_with, place_found};
 use vm_instructions::Activation;
 use vm_state::{ControlBlock, DecodedImage, DecodedProcess, MachineState, SchedulingState};
+use vm_stretch::{Contender, foremost_with, place_found};
 
 /// The ticks left of what an activation is at: of its burn, where it has one, else of its
 /// instruction.

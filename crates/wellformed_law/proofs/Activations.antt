@@ -33,7 +33,7 @@ use Rattle.wellformed_law.proofs.Adding.{constant_adds, constants_add, optional_
 use Rattle.wellformed_law.proofs.Declared.{Lacks, lacks_both, lacks_map, outside_scope, event_declared}
 use Rattle.wellformed_law.proofs.Constants.{Reaches}
 use Rattle.wellformed_law.proofs.WellformedLaw.{Laws, kept, constant_fits}
-use Rattle.wellformed_calls_law.proofs.Basics.{not_held, held}
+use Rattle.wellformed_law.proofs.Basics.{not_held, held}
 
 -- ---- the events of activations
 

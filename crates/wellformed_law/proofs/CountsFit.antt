@@ -17,8 +17,8 @@ use Rattle.wellformed.specs.WellFormed.{kind_size, vars_words, CountsFit}
 use Rattle.wellformed_law.proofs.Lists.{sum_cons}
 use Rattle.wellformed_law.proofs.WellformedLaw.{Laws}
 use Rattle.wellformed_law.proofs.Standing.{plain_processes}
-use Rattle.wellformed_names_law.proofs.ProgramScope.{monitors-plain}
-use Rattle.wellformed_calls_law.proofs.Basics.{not_held}
+use Rattle.wellformed_law.proofs.ProgramScope.{monitors-plain}
+use Rattle.wellformed_law.proofs.Basics.{not_held}
 
 -- nothing at the place past the last
 few : (most : ℕ) (places : List Place) → limit.one_too_many most places ≡ None → length places ≤ most

@@ -19,10 +19,10 @@ use Rattle.static_semantics.specs.Places.{StandApart, NamesFound}
 use Rattle.static_semantics.specs.Mirrors.{program_site}
 use Rattle.wellformed_law.proofs.Lists.{Pictured, from_map, rest_part, one_of}
 use Rattle.wellformed_law.proofs.Adding.{inner_adds}
-use Rattle.wellformed_calls_law.proofs.Named.{Split, split-listed}
-use Rattle.wellformed_names_law.proofs.Found.{same-itself}
+use Rattle.wellformed_law.proofs.Named.{Split, split-listed}
+use Rattle.wellformed_law.proofs.Found.{same-itself}
 use Rattle.static_names.proofs.Scopes.{same-refl}
-use Rattle.wellformed_names_law.proofs.Lookups.{same-is}
+use Rattle.wellformed_law.proofs.Lookups.{same-is}
 
 -- ---- names
 

@@ -19,12 +19,12 @@ use Rattle.wellformed_law.proofs.WellformedLaw.{Laws}
 use Rattle.wellformed_law.proofs.Standing.{plain_processes, process_declared}
 use Rattle.wellformed_law.proofs.Activations.{EventAt, event_at}
 use Rattle.wellformed_law.proofs.ProcessesFit.{in_process_names}
-use Rattle.wellformed_calls_law.proofs.Named.{split-listed}
-use Rattle.wellformed_calls_law.proofs.Falling.{place-true}
-use Rattle.wellformed_names_law.proofs.Lookups.{same-is}
+use Rattle.wellformed_law.proofs.Named.{split-listed}
+use Rattle.wellformed_law.proofs.Falling.{place-true}
+use Rattle.wellformed_law.proofs.Lookups.{same-is}
 use Rattle.static_names.proofs.Scopes.{same-refl}
-use Rattle.wellformed_names_law.proofs.Found.{same-itself}
-use Rattle.wellformed_calls_law.proofs.Basics.{held}
+use Rattle.wellformed_law.proofs.Found.{same-itself}
+use Rattle.wellformed_law.proofs.Basics.{held}
 
 event_listed : (ds : List (Decl Place)) (n : Name) (q : Place) → Contains ds (event n q) → Contains (events ds) q
 event_listed [] n q h = absurd (none_in (event n q) h)

@@ -29,8 +29,8 @@ use Rattle.wellformed_law.proofs.TypesFit.{vars_fit, members_fit}
 use Rattle.wellformed_law.proofs.Standing.{plain_processes, process_declared, monitor_declared, routine_declared, MonitorAt, monitor_at, names_of_routine, parts_of_routine, bounds_of_routine, bounds_of_decl}
 use Rattle.wellformed_law.proofs.Texts.{routine_fits}
 use Rattle.wellformed_law.proofs.Activations.{handler_numbers_add, activation_fits, handler_fits}
-use Rattle.wellformed_calls_law.proofs.Named.{Split, split-listed}
-use Rattle.wellformed_names_law.proofs.ProgramScope.{monitors-plain, routines-plain}
+use Rattle.wellformed_law.proofs.Named.{Split, split-listed}
+use Rattle.wellformed_law.proofs.ProgramScope.{monitors-plain, routines-plain}
 
 no_constant_in_process : (p : Process Place) → Lacks kind_is.Constant (process_scope p)
 no_constant_in_process p = lacks_both kind_is.Constant (map var_name p.vars) (map routine_name p.routines) (lacks_map kind_is.Constant var_name p.vars (λ v e. cc)) (lacks_map kind_is.Constant routine_name p.routines (λ v e. cc))

@@ -18,8 +18,8 @@ use Rattle.wellformed_law.proofs.Lists.{Within, front, rest}
 use Rattle.wellformed_law.proofs.Adding.{constant_adds, scalar_adds, kind_adds, scalar_bounds_add, kind_bounds_add}
 use Rattle.wellformed_law.proofs.Constants.{Reaches}
 use Rattle.wellformed_law.proofs.WellformedLaw.{Laws, constant_fits}
-use Rattle.wellformed_calls_law.proofs.Numbers.{in_order}
-use Rattle.wellformed_calls_law.proofs.Basics.{not_held}
+use Rattle.wellformed_law.proofs.Numbers.{in_order}
+use Rattle.wellformed_law.proofs.Basics.{not_held}
 
 not_from : (a b : ℤ) → int_le b a ≡ false → int_lt a b ≡ true
 not_from (pos a) (pos b) e = grind (arith, nat_tests)

@@ -11,7 +11,7 @@ use Rattle.static_declarations.specs.declared.home.Where.{Where}
 use Rattle.static_declarations.specs.Parts.{answer, stmts_parts, parts}
 use Rattle.static_calls.specs.Reaching.{ReachesItself}
 use Rattle.static_semantics.specs.Static.{IsChecked}
-use Rattle.wellformed_calls_law.specs.Levels.{HasPlaceLevels}
+use Rattle.wellformed_law.specs.Levels.{HasPlaceLevels}
 use Rattle.source_semantics.specs.Nesting.{Levels}
 use Rattle.wellformed.specs.Here.{Here, scalar_sort}
 use Rattle.wellformed.specs.Typed.{IsOf}

@@ -2,7 +2,7 @@ use Rattle.std.proofs.Common.{subst}
 use Rattle.syntax_tree.specs.Placed.{placed}
 use Rattle.syntax_tree.specs.declared.decl.Program.{Program as Tree}
 use Rattle.static_rule.specs.First.{IsFirst}
-use Rattle.code_size.specs.Rules.{SizeFails}
+use Rattle.code_cost.specs.Rules.{SizeFails}
 use Rattle.command_due.specs.Source.{of_size}
 use Rattle.compile.specs.Build.{KeepsSizes}
 use Rattle.compile.proofs.read_text.read_written.Goals as goal

@@ -9,7 +9,7 @@ use Rattle.source_semantics.specs.Verdicts.{Allowed}
 use Rattle.replay.proofs.ReplayingLemmas.{allowed_all, allowed_here, refused_at_end, refused_here, run_from, some_event}
 use Rattle.std.specs.Borrow.{Bor}
 use Rattle.script.specs.declared.script.Script as code_script
-use Rattle.script_meaning.specs.Script.{said}
+use Rattle.script.specs.Meaning.{said}
 use Rattle.replay.proofs.judge_events.judge_over.Goals as goal
 
 abbrev script_at : Bor code_script.Script → Script

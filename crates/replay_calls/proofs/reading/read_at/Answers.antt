@@ -3,7 +3,7 @@ use Rattle.std.proofs.lemmas.Int.{to_z-of_z}
 use Rattle.base.specs.Words.{word}
 use Rattle.source_semantics.specs.Store.{place_at, read_at}
 use Rattle.replay_state.specs.View.{held_of}
-use Rattle.replay_values.proofs.Elements.{element_read}
+use Rattle.replay_calls.proofs.Elements.{element_read}
 use Rattle.replay_calls.proofs.reading.read_at.Goals as goal
 
 pub returns-in-Some : goal.returns-in-Some

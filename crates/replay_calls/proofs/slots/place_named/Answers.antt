@@ -3,9 +3,9 @@ use Rattle.std.specs.Prelude.{option_map, bytes_eq, false, true, Some, None, []}
 use Rattle.std.proofs.lemmas.Grind.{common_steps}
 use Rattle.source_semantics.specs.Store.{slot_named}
 use Rattle.replay_state.specs.View.{vars_of, slot_of}
-use Rattle.replay_values.specs.Stores.{IsPlace}
+use Rattle.replay_calls.specs.Places.{IsPlace}
 use Rattle.replay_state.specs.declared.variables.Slot.{Slot}
-use Rattle.replay_values.proofs.Spots.{place_here, place_next, place_on}
+use Rattle.replay_calls.proofs.Spots.{place_here, place_next, place_on}
 use Rattle.replay_calls.proofs.slots.place_named.Goals as goal
 
 rest : (slots : List Slot) (at : ℕ) (s : Slot) → at < length slots → s ≡ get_or slots at s → drop at slots ≡ s ∷ drop (at + 1) slots

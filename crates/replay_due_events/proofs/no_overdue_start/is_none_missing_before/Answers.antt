@@ -2,7 +2,7 @@ use Rattle.std.proofs.Common.{◌∙◌, ap, sym}
 use Rattle.source_semantics.specs.Starts.{NoneMissing}
 use Rattle.replay_due_events.specs.NextDue.{is_after, next_due, next_in_order}
 use Rattle.replay_state.specs.View.{config_of}
-use Rattle.script_meaning.specs.Script.{said}
+use Rattle.script.specs.Meaning.{said}
 use Rattle.replay_due_events.proofs.Nexting.{frames_count, told}
 use Rattle.replay_due_events.proofs.no_overdue_start.is_none_missing_before.Goals as goal
 

@@ -2,7 +2,7 @@ use Rattle.std.proofs.Common.{sym, ◌∙◌, ap}
 use Rattle.replay_due_events.specs.NextDue.{is_after, line_due}
 use Rattle.replay_state.specs.View.{config_of, jobs_of}
 use Rattle.source_semantics.specs.Starts.{occurs, release_of}
-use Rattle.script_meaning.specs.Script.{line_said}
+use Rattle.script.specs.Meaning.{line_said}
 use Rattle.replay_due_events.proofs.Nexting.{line_none, line_some}
 use Rattle.replay_due_events.proofs.no_overdue_start.line_is_after.Goals as goal
 

@@ -1,7 +1,7 @@
 use Rattle.std.proofs.Common.{◌≡◌, drop, map}
 use Rattle.replay_due_events.specs.NextDue.{is_after, lines_due}
 use Rattle.replay_state.specs.View.{config_of}
-use Rattle.script_meaning.specs.Script.{line_said}
+use Rattle.script.specs.Meaning.{line_said}
 use Rattle.replay_due_events.proofs.no_overdue_start.lines_are_after.Given as goal
 
 abbrev pub invariant-loop-line : goal.invariant-loop-line

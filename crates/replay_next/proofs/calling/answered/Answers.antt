@@ -3,8 +3,8 @@ use Rattle.std.proofs.Common.{◌∙◌, ap, sym}
 use Rattle.source_semantics.specs.Next.{answer_after}
 use Rattle.source_semantics.specs.Run.{goes}
 use Rattle.replay_state.specs.View.{action_of, calls_of, item_of}
-use Rattle.replay_values.specs.Seen.{answer_of}
-use Rattle.replay_values.specs.declared.words.Answer.{Answer}
+use Rattle.replay_calls.specs.Seen.{answer_of}
+use Rattle.replay_calls.specs.declared.words.Answer.{Answer}
 use Rattle.replay_next.specs.declared.results.RunResult.{RunResult}
 use Rattle.replay_next.specs.Ran.{ran_of}
 use Rattle.replay_next.proofs.Deeper.{after_exits, after_fails, after_stops}

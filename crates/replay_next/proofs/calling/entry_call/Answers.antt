@@ -7,7 +7,7 @@ use Rattle.source_semantics.specs.Store.{Vars}
 use Rattle.replay_state.specs.View.{answers_of, home_of, item_of, vars_of}
 use Rattle.replay_state.specs.declared.call.Item.{Item}
 use Rattle.replay_state.specs.declared.call.Item.TheVariants as item_is
-use Rattle.replay_values.specs.Lookups.{found_of}
+use Rattle.replay_calls.specs.Lookups.{found_of}
 use Rattle.std.specs.Prelude.{option_map}
 use Rattle.replay_next.proofs.NextTurning.{call_as}
 use Rattle.replay_next.proofs.calling.entry_call.Goals as goal

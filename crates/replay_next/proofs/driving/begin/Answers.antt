@@ -6,7 +6,7 @@ use Rattle.source_semantics.specs.Next.{run_items}
 use Rattle.replay_state.specs.View.{home_of, item_of, vars_of}
 use Rattle.replay_state.specs.declared.call.Item.{Item}
 use Rattle.replay_state.specs.declared.variables.Slot as code_slot
-use Rattle.replay_values.specs.Lookups.{found_of}
+use Rattle.replay_calls.specs.Lookups.{found_of}
 use Rattle.replay_calls.specs.Reach.{memory_of, site_of}
 use Rattle.std.specs.Global.{Vec}
 use Rattle.replay_next.specs.Came.{CameBelow, item_progress_of, weight_at}

@@ -7,7 +7,7 @@ use Rattle.source_semantics.specs.Next.{leave_loop, run_items}
 use Rattle.source_semantics.specs.Run.{answers, followed, stops}
 use Rattle.replay_state.specs.View.{action_of, calls_of, item_of, vars_of}
 use Rattle.replay_state.specs.declared.call.Item.{Item}
-use Rattle.replay_values.specs.Lookups.{found_of}
+use Rattle.replay_calls.specs.Lookups.{found_of}
 use Rattle.replay_calls.specs.Reach.{memory_of, site_of}
 use Rattle.replay_next.specs.declared.results.RunResult.{RunResult}
 use Rattle.replay_next.specs.Ran.{ran_of}

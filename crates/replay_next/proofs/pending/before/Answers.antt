@@ -2,7 +2,7 @@ use Rattle.std.specs.Prelude.{[], ◌∷◌, ◌++◌, ◌<◌, map}
 use Rattle.std.proofs.Common.{◌≡◌, ◌∙◌, ◌+◌, ap, sym, subst, arith}
 use Rattle.source_semantics.specs.Run as run
 use Rattle.replay_state.specs.View.{item_of, vars_of}
-use Rattle.replay_values.specs.Lookups.{found_of}
+use Rattle.replay_calls.specs.Lookups.{found_of}
 use Rattle.syntax_tree.specs.Placed.{placed, placed_process, plain, plain_process}
 use Rattle.replay_next.specs.Pending.{called_run, progress_of}
 use Rattle.replay_next.specs.Weights.{FallsBelow, found_weight_in, items_weight_in, item_weight_in}

@@ -6,8 +6,8 @@ use Rattle.std.proofs.lemmas.List.{drop_all}
 use Rattle.syntax_tree.specs.Placed.{placed_exprs, placed_param, placed_stmts, plain_exprs, plain_param, plain_stmts}
 use Rattle.source_semantics.specs.Run as run
 use Rattle.replay_state.specs.View.{action_of, answers_of, calls_of, item_of, vars_of}
-use Rattle.replay_values.specs.Lookups.{found_of}
-use Rattle.replay_values.specs.Seen.{answer_of}
+use Rattle.replay_calls.specs.Lookups.{found_of}
+use Rattle.replay_calls.specs.Seen.{answer_of}
 use Rattle.replay_calls.specs.Reach.{memory_of, site_of}
 use Rattle.replay_next.specs.Ran.{bound_of, ran_of}
 use Rattle.replay_next.proofs.Lists as lists

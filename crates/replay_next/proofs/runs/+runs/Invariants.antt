@@ -3,7 +3,7 @@ use Rattle.std.specs.Prelude.{option_map}
 use Rattle.syntax_tree.specs.Placed.{placed_exprs, placed_param, placed_stmts, plain_exprs, plain_param, plain_stmts}
 use Rattle.source_semantics.specs.Run as run
 use Rattle.replay_state.specs.View.{answers_of, vars_of}
-use Rattle.replay_values.specs.Seen.{answer_of}
+use Rattle.replay_calls.specs.Seen.{answer_of}
 use Rattle.replay_calls.specs.Reach.{memory_of, site_of}
 use Rattle.replay_next.proofs.Sizes.{answers_size}
 use Rattle.replay_next.proofs.Rooms.{room}

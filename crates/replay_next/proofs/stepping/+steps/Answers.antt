@@ -6,7 +6,7 @@ use Rattle.syntax_tree.specs.Placed.{placed, placed_process, placed_constant, pl
 use Rattle.source_semantics.specs.Names.{constant_value}
 use Rattle.source_semantics.specs.Run as run
 use Rattle.replay_state.specs.View.{vars_of}
-use Rattle.replay_values.specs.Seen.{answer_of}
+use Rattle.replay_calls.specs.Seen.{answer_of}
 use Rattle.replay_calls.specs.Reach.{memory_of, site_of}
 use Rattle.replay_next.specs.Pending.{outcome_of, progress_of}
 use Rattle.replay_next.specs.Ran.{tested_run}

@@ -3,7 +3,7 @@ use Rattle.std.proofs.Common.{◌≡◌, ◌∙◌, ◌+◌, suc, Some, ap, sym,
 use Rattle.syntax_tree.specs.Placed.{placed, placed_process, placed_exprs, placed_param, plain, plain_process, plain_exprs, plain_param}
 use Rattle.source_semantics.specs.Run as run
 use Rattle.replay_state.specs.View.{item_of, vars_of}
-use Rattle.replay_values.specs.Lookups.{found_of}
+use Rattle.replay_calls.specs.Lookups.{found_of}
 use Rattle.replay_calls.specs.Reach.{memory_of, site_of}
 use Rattle.replay_next.specs.Ran.{bound_of}
 use Rattle.replay_next.specs.Pending.{called_run}

@@ -1,6 +1,6 @@
 use Rattle.std.proofs.Common.{◌≡◌, drop, map}
 use Rattle.source_semantics.specs.Starts.{value_set}
-use Rattle.script_meaning.specs.Script.{line_said}
+use Rattle.script.specs.Meaning.{line_said}
 use Rattle.replay_script.proofs.device.set_up_to.Given as goal
 
 abbrev pub invariant-loop-line : goal.invariant-loop-line

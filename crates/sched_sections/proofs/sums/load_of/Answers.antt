@@ -1,6 +1,6 @@
 use Rattle.std.proofs.Common.{◌∙◌, ap, arith}
 use Rattle.sched_response.specs.declared.tasks.Task.{Task}
-use Rattle.sched_parts.specs.Load.{share}
+use Rattle.sched_sections.specs.Load.{share}
 use Rattle.sched_sections.proofs.Tasks.{all_shares, next_share}
 use Rattle.sched_sections.proofs.sums.load_of.Goals as goal
 

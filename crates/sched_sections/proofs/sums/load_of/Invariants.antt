@@ -1,6 +1,6 @@
 use Rattle.std.proofs.Common.{◌≡◌, ◌≤◌, ◌*◌, take}
 use Rattle.std.specs.Prelude.{sum_by}
-use Rattle.sched_parts.specs.Load.{share}
+use Rattle.sched_sections.specs.Load.{share}
 use Rattle.sched_sections.specs.Levels.{tasks_in}
 use Rattle.sched_sections.proofs.sums.load_of.Given as goal
 

@@ -1,7 +1,7 @@
 use Rattle.std.proofs.Common.{◌≡◌, ◌+◌}
 use Rattle.base.specs.Capped.{cap}
 use Rattle.sched_response.specs.Demand.{activation}
-use Rattle.sched_parts.specs.Parts.{all_of_first}
+use Rattle.sched_sections.specs.Parts.{all_of_first}
 use Rattle.sched_sections.specs.Levels.{tasks_in}
 use Rattle.sched_sections.proofs.sums.sum_of.Given as goal
 

@@ -2,8 +2,8 @@ use Rattle.std.proofs.Common.{ap, ◌∙◌}
 use Rattle.syntax_tree.specs.Placed.{plain, plain_process}
 use Rattle.code_cost_spec.specs.Levels.{cost_of_process}
 use Rattle.table_format.specs.Program.{made_tail, table_process, program_with, program_of}
-use Rattle.table_text_law.proofs.Ticks.{is_run}
-use Rattle.table_text_law.proofs.Fits.{LineFits, table_fits}
+use Rattle.table_law.proofs.Ticks.{is_run}
+use Rattle.table_law.proofs.Fits.{LineFits, table_fits}
 use Rattle.table_law.proofs.Members.{elem_of}
 use Rattle.table_law.proofs.Parts.{processes_are}
 use Rattle.table_law.proofs.Costs.{stays_so_long, process_takes, got_is_in, stays_there}

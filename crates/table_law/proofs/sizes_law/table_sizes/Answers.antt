@@ -2,7 +2,7 @@ use Rattle.std.proofs.Common.{arith}
 use Rattle.syntax_tree.specs.Placed.{plain}
 use Rattle.code_cost_spec.specs.Levels.{calls_of}
 use Rattle.table_format.specs.Program.{made_tail, program_with, program_of}
-use Rattle.table_text_law.proofs.Fits.{LineFits, table_fits}
+use Rattle.table_law.proofs.Fits.{LineFits, table_fits}
 use Rattle.table_law.proofs.Members.{elem_of}
 use Rattle.table_law.proofs.Costs.{got_is_in, stays_there}
 use Rattle.table_law.proofs.Instructions.{few_instructions}

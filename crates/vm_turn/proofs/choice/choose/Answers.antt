@@ -1,7 +1,7 @@
 -- The foremost of them is picked.
 use Rattle.std.proofs.Common.{◌≡◌, ◌<◌, ◌≤◌, ◌∙◌, Some, length, refl, arith}
 use Rattle.std.proofs.lemmas.List.{length-map}
-use Rattle.vm_dispatch.specs.Pick.{entry_of}
+use Rattle.vm_stretch.specs.Pick.{entry_of}
 use Rattle.vm_state.specs.Threads.{thread_of, threads_of}
 use Rattle.vm_turn.proofs.Choosing.{found, one_more}
 use Rattle.vm_turn.proofs.Turning.{many, read_at}

@@ -1,5 +1,5 @@
 use Rattle.std.proofs.Common.{◌≡◌, drop}
-use Rattle.vm_dispatch.specs.Pick.{entry_of, foremost_from, joined}
+use Rattle.vm_stretch.specs.Pick.{entry_of, foremost_from, joined}
 use Rattle.machine_semantics.specs.Image.{Image}
 use Rattle.vm_state.specs.Threads.{threads_of}
 use Rattle.vm_state.specs.Plan.{IsOf}

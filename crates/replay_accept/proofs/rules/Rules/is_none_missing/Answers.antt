@@ -2,7 +2,7 @@ use Rattle.std.proofs.Common.{◌≡◌, ◌≤◌, ◌∙◌, ap, sym, arith}
 use Rattle.std.specs.Prelude.{IsTrue}
 use Rattle.std.proofs.lemmas.List.{length-map}
 use Rattle.replay_state.specs.View.{config_of, job_of}
-use Rattle.script_meaning.specs.Script.{said}
+use Rattle.script.specs.Meaning.{said}
 use Rattle.replay_script.specs.Cursors.{script_in}
 use Rattle.replay_accept.proofs.Missing.{missing_alike}
 use Rattle.replay_accept.proofs.rules.Rules.is_none_missing.Goals as goal

@@ -4,7 +4,7 @@ use Rattle.std.proofs.Common.{◌≡◌, ◌∙◌, ap₂, ap, refl, sym, rules,
 use Rattle.std.proofs.lemmas.Int.{to_z-of_z}
 use Rattle.syntax_tree.specs.Placed.{placed_constant, plain_constant, placed_exprs, placed_stmts, plain_exprs, plain_stmts}
 use Rattle.source_semantics.specs.Run as run
-use Rattle.replay_values.specs.Seen.{answer_of}
+use Rattle.replay_calls.specs.Seen.{answer_of}
 use Rattle.replay_calls.specs.Reach.{memory_of, site_of}
 use Rattle.replay_next.specs.Ran.{aimed_of, ran_of, tested_run, with_aimed}
 use Rattle.replay_next.proofs.Lists as lists

@@ -6,9 +6,9 @@ use Rattle.syntax_tree.specs.Placed.{placed, placed_process, placed_stmts, plain
 use Rattle.source_semantics.specs.Run as run
 use Rattle.source_semantics.specs.Next.{answer_after}
 use Rattle.replay_state.specs.View.{action_of, answers_of, calls_of, home_of, item_of, vars_of}
-use Rattle.replay_values.specs.Lookups.{found_of}
-use Rattle.replay_values.specs.Seen.{answer_of}
-use Rattle.replay_values.specs.declared.words.Answer.{Answer}
+use Rattle.replay_calls.specs.Lookups.{found_of}
+use Rattle.replay_calls.specs.Seen.{answer_of}
+use Rattle.replay_calls.specs.declared.words.Answer.{Answer}
 use Rattle.replay_calls.specs.Reach.{area_of, memory_of, site_of}
 use Rattle.replay_next.specs.Ran.{ran_of}
 use Rattle.replay_next.proofs.Parts as parts

@@ -1,7 +1,7 @@
 use Rattle.std.proofs.Common.{List, ap, drop, map, sym, ◌∙◌}
 use Rattle.script.specs.declared.script.ScriptLine.{ScriptLine}
 use Rattle.source_semantics.specs.Starts.{event_releases, value_set}
-use Rattle.script_meaning.specs.Script.{line_said}
+use Rattle.script.specs.Meaning.{line_said}
 use Rattle.replay_script.specs.Cursors.{lines_of, until, word}
 use Rattle.replay_script.proofs.Passing.{due_alike, releases_until, value_until}
 use Rattle.replay_script.proofs.cursor.ScriptCursor.up_to.Goals as goal

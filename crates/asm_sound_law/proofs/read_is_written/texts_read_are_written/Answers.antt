@@ -1,5 +1,0 @@
-use Rattle.asm_sound_law.proofs.Whole.{text_took}
-use Rattle.asm_sound_law.proofs.read_is_written.texts_read_are_written.Goals as goal
-
-pub returns : goal.returns
-returns c text parts is = (text_took text).from parts is

@@ -1,5 +1,0 @@
-use Rattle.code_names_law.proofs.Finding.{text_finds}
-use Rattle.code_names_law.proofs.calls_found.texts_call_what_is_found.Goals as goal
-
-pub returns : goal.returns
-returns c = text_finds

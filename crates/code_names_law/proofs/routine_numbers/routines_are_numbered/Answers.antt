@@ -1,5 +1,0 @@
-use Rattle.code_names_law.proofs.NumberedLemmas.{routines_are_numbered}
-use Rattle.code_names_law.proofs.routine_numbers.routines_are_numbered.Goals as goal
-
-pub returns : goal.returns
-returns c = routines_are_numbered

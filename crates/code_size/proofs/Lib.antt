@@ -1,3 +1,0 @@
-pub mod Tried
-pub mod Parts
-pub mod Told

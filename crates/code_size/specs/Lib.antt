@@ -1,4 +1,0 @@
-pub mod Rules
-pub mod Example
-pub mod Numbers
-pub mod Told

@@ -1,5 +1,0 @@
-use Rattle.codegen_operands.proofs.EmittedLemmas.{lies_in_process}
-use Rattle.codegen_operands.proofs.instruction_properties.processes_own_their_code.Goals as goal
-
-pub returns : goal.returns
-returns c = lies_in_process

@@ -1,5 +1,0 @@
-use Rattle.codegen_ranks.proofs.Touched.{texts_use}
-use Rattle.codegen_ranks.proofs.monitors_reached.texts_use_what_they_touch.Goals as goal
-
-pub returns : goal.returns
-returns c = texts_use

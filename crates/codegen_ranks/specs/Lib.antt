@@ -1,4 +1,0 @@
-pub mod Calls
-pub mod Touches
-pub mod Ranks
-pub mod Images

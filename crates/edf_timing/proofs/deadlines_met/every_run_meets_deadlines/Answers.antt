@@ -1,5 +1,0 @@
-use Rattle.edf_timing.proofs.Meeting.{every_run_meets_deadlines}
-use Rattle.edf_timing.proofs.deadlines_met.every_run_meets_deadlines.Goals as goal
-
-pub returns : goal.returns
-returns c = every_run_meets_deadlines

@@ -1,5 +1,0 @@
-use Rattle.edf_timing.proofs.Kept.{waitless_runs_are_kept}
-use Rattle.edf_timing.proofs.runs_refine.waitless_runs_are_kept.Goals as goal
-
-pub returns : goal.returns
-returns c = waitless_runs_are_kept

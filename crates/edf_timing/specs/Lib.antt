@@ -1,3 +1,0 @@
-pub mod InTime
-pub mod Example
-pub mod Runs

@@ -1,5 +1,0 @@
-use Rattle.image_fields_law.proofs.Single.{numbers_for_nothing_are_i7}
-use Rattle.image_fields_law.proofs.numbers_for_nothing_are_i7.Goals as goal
-
-pub returns : goal.returns
-returns c = numbers_for_nothing_are_i7

@@ -1,5 +1,0 @@
-use Rattle.image_fields_law.proofs.Single.{out_of_range_is_i4}
-use Rattle.image_fields_law.proofs.out_of_range_is_i4.Goals as goal
-
-pub returns : goal.returns
-returns c = out_of_range_is_i4

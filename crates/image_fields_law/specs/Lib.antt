@@ -1,4 +1,0 @@
-pub mod Fields
-pub mod Layout
-pub mod Places
-pub mod FieldsLaw

@@ -1,5 +1,0 @@
-use Rattle.placing_law.proofs.Numbers.{limits-stay}
-use Rattle.placing_law.proofs.rules_fail_alike.limits_fail_alike.Goals as goal
-
-pub returns : goal.returns
-returns c = limits-stay

@@ -1,5 +1,0 @@
-use Rattle.placing_law.proofs.NameRules.{names-stay}
-use Rattle.placing_law.proofs.rules_fail_alike.names_fail_alike.Goals as goal
-
-pub returns : goal.returns
-returns c = names-stay

@@ -1,5 +1,0 @@
-use Rattle.placing_law.proofs.PlainMoved.{plain-moved}
-use Rattle.placing_law.proofs.rules_fail_alike.programs_stay.Goals as goal
-
-pub returns : goal.returns
-returns c = plain-moved

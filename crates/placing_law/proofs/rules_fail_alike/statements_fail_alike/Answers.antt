@@ -1,5 +1,0 @@
-use Rattle.placing_law.proofs.Statements.{statements-stay}
-use Rattle.placing_law.proofs.rules_fail_alike.statements_fail_alike.Goals as goal
-
-pub returns : goal.returns
-returns c = statements-stay

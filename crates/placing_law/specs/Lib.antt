@@ -1,3 +1,0 @@
-pub mod Moved
-pub mod Alike
-pub mod Laws

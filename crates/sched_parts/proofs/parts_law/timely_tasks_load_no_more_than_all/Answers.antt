@@ -1,5 +1,0 @@
-use Rattle.sched_parts.proofs.Loading.{no_more_than_all}
-use Rattle.sched_parts.proofs.parts_law.timely_tasks_load_no_more_than_all.Goals as goal
-
-pub returns : goal.returns
-returns c = no_more_than_all

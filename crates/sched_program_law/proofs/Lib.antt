@@ -1,7 +1,0 @@
-pub mod Levels
-pub mod Once
-pub mod Computed
-pub mod Greatest
-pub mod There
-pub mod Decided
-pub mod Bounded

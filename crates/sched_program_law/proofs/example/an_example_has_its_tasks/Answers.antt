@@ -1,5 +1,0 @@
-use Rattle.sched_program_law.proofs.Computed.{example_has_its_tasks}
-use Rattle.sched_program_law.proofs.example.an_example_has_its_tasks.Goals as goal
-
-pub returns : goal.returns
-returns c = example_has_its_tasks

@@ -1,5 +1,0 @@
-use Rattle.sched_ranks.proofs.RankedLemmas.{ranks_agree}
-use Rattle.sched_ranks.proofs.ranks_agree_law.ranks_agree.Goals as goal
-
-pub returns : goal.returns
-returns c = ranks_agree

@@ -1,0 +1,5 @@
+use Rattle.table_law.proofs.Computed.{example_has_its_tasks}
+use Rattle.table_law.proofs.example.an_example_has_its_tasks.Goals as goal
+
+pub returns : goal.returns
+returns c = example_has_its_tasks

@@ -1,9 +1,0 @@
-mod Elements
-mod Calls
-mod Entries
-mod Comes
-mod Ranks
-mod Ceilings
-mod Blocks
-mod Tasks
-mod Computed

@@ -1,5 +1,0 @@
-use Rattle.table_tasks_law.proofs.Ranks.{ranks_are}
-use Rattle.table_tasks_law.proofs.agree_law.table_ranks.Goals as goal
-
-pub returns : goal.returns
-returns c = ranks_are c.table_costs.ensures.processes c.table_frames.ensures.deadlines

@@ -1,5 +1,0 @@
-use Rattle.wellformed_names_law.proofs.Found.{names-are-found}
-use Rattle.wellformed_names_law.proofs.names_found.names_are_found.Goals as goal
-
-pub returns : goal.returns
-returns c = names-are-found c.names_stand_apart.ensures

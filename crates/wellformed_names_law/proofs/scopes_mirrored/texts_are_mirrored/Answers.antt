@@ -1,5 +1,0 @@
-use Rattle.wellformed_names_law.proofs.Mirrored.{texts_mirrored}
-use Rattle.wellformed_names_law.proofs.scopes_mirrored.texts_are_mirrored.Goals as goal
-
-pub returns : goal.returns
-returns c = texts_mirrored
