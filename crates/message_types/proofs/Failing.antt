@@ -120,8 +120,8 @@ by-number g number place h = eqb-true number 30 (when-some (eqb number 30) (opti
 
 pub of-sentences : (g : Prog Place) (number : ℕ) (place : Place) → IsSome (type_sentence g number place) ↔ ((number ≡ 30) × StatementFails g number place)
 of-sentences g number place = (
-      (λ h.
-        let is = by-number g number place h in
-        (is, subst (λ k. StatementFails g k place) (sym is) ((of-rule g place).0 (subst (λ k. IsSome (type_sentence g k place)) is h)))),
-      (λ h. subst (λ k. IsSome (type_sentence g k place)) (sym h.0) ((of-rule g place).1 (subst (λ k. StatementFails g k place) h.0 h.1))),
-    )
+  (λ h.
+      let is = by-number g number place h in
+      (is, subst (λ k. StatementFails g k place) (sym is) ((of-rule g place).0 (subst (λ k. IsSome (type_sentence g k place)) is h)))),
+  (λ h. subst (λ k. IsSome (type_sentence g k place)) (sym h.0) ((of-rule g place).1 (subst (λ k. StatementFails g k place) h.0 h.1))),
+)

@@ -1,4 +1,5 @@
 pub mod Agreeing
+pub mod Arguments
 pub mod Failing
 pub mod Looking
 pub mod Naming
