@@ -1,7 +1,8 @@
 -- Something is told exactly of the places at which the rule for types and numbers of arguments
 -- fails.
-use Rattle.std.proofs.Common.{◌≡◌, ℕ, Bool, true, false, ◌||◌, List, [], ◌∷◌, Option, Some, None, ◌⊎◌, inl, inr, ◌↔◌, IsSome, option_map, refl, ap, sym, ◌∙◌, subst, eqb, eqb-true, arith, if◌then◌else◌}
+use Rattle.std.proofs.Common.{◌≡◌, ◌==◌, ℕ, Bool, true, false, ◌||◌, List, [], ◌∷◌, Option, Some, None, ◌⊎◌, inl, inr, ◌↔◌, IsSome, option_map, refl, ap, sym, ◌∙◌, subst, eqb, eqb-true, arith, if◌then◌else◌}
 use Rattle.std.proofs.lemmas.Bool.{and_parts, and_from, eq-eqb}
+use Rattle.std.proofs.lemmas.Bool.Decides.{nat_tests}
 use Rattle.std.specs.Option.{is_none, is_some, option_or}
 use Rattle.syntax_tree.specs.Placed.{Prog}
 use Rattle.syntax_tree.specs.Parts.{same_place}
@@ -21,14 +22,14 @@ some-if : (b : Bool) (m : Mismatch) → is_some (if b then Some m else None) ≡
 some-if true m = refl
 some-if false m = refl
 
-none-if : (b : Bool) → is_some {A = Mismatch} (if b then None else None) ≡ false
-none-if true = refl
-none-if false = refl
+none-if : (b : Bool) (m : Option Mismatch) → m ≡ None → is_some (if b then m else None) ≡ false
+none-if true m is = ap is_some is
+none-if false m is = refl
 
 -- a mismatch is found exactly where what fails stands at the place
 found-there : (agrees : Bool) (p place : Place) (m : Option Mismatch) → is_none m ≡ agrees
     → is_some (if same_place p place then m else None) ≡ is_at place (if agrees then None else Some p)
-found-there true p place None is = none-if (same_place p place)
+found-there true p place None is = none-if (same_place p place) None refl
 found-there true p place (Some m) is = cc
 found-there false p place None is = cc
 found-there false p place (Some m) is = some-if (same_place p place) m
@@ -39,7 +40,10 @@ at-part g place (answer name kind e) =
     let spot = result_of (routine_name g name) in
     found-there (is_of (named_at g) (sort_of kind) e) name place (unfit (named_at g) spot (sort_of kind) e) (of-unfit (named_at g) spot (sort_of kind) e)
 
--- ---- places
+-- ---- numbers and places
+
+not-eqb : (m n : ℕ) → (m ≡ n → ⊥) → (m == n) ≡ false
+not-eqb m n other = grind (arith, nat_tests)
 
 same-true : (p q : Place) → same_place p q ≡ true → p ≡ q
 same-true p q h =
@@ -109,6 +113,14 @@ unfolding type_sentence
 of-rule g place =
     let same = said (first_mismatch g place (parts g)) in
     ((λ h. failure g place (parts g) (sym same ∙ h)), (λ h. same ∙ mismatched g place (parts g) h))
+
+pub of-this : (g : Prog Place) (number : ℕ) (place : Place) → number ≡ 30 → option_map sentence (first_mismatch g place (parts g)) ≡ type_sentence g number place
+unfolding type_sentence
+of-this g number place is = ap (λ k. if k == 30 then option_map sentence (first_mismatch g place (parts g)) else None) (sym is)
+
+pub of-other : (g : Prog Place) (number : ℕ) (place : Place) → (number ≡ 30 → ⊥) → None ≡ type_sentence g number place
+unfolding type_sentence
+of-other g number place other = ap (λ b. if b then option_map sentence (first_mismatch g place (parts g)) else None) (sym (not-eqb number 30 other))
 
 when-some : (b : Bool) (x : Option (List ℕ)) → IsSome (if b then x else None) → b ≡ true
 when-some true x h = refl
