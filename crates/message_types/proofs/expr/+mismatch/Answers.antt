@@ -16,7 +16,7 @@ mismatch-returns-in-Chain t c =
     let left : c.deref-in-Chain.result.now ≡ c.in-Chain.left.value = search rules in
     let left2 : c.deref-in-Chain-2.result.now ≡ c.in-Chain.left.value = search rules in
     let rest : c.as_slice-in-Chain.result.now ≡ c.in-Chain.rest = search rules in
-    c.first-in-Chain.ensures
+    c.first.ensures
     ∙ (λ i. option_or (c.mismatch-in-Chain.ensures i) (c.row_mismatch.ensures i))
     ∙ (λ i. option_or (mismatch named (placed_expr (left i))) (row_mismatch named (c.sort.ensures i) (placed_operands (rest i))))
     ∙ ap (λ s. option_or (mismatch named (placed_expr c.in-Chain.left.value)) (row_mismatch named (sort named (placed_expr s)) (placed_operands c.in-Chain.rest))) left2
