@@ -8,10 +8,10 @@ use Rattle.syntax_tree.specs.declared.place.Place.{Place}
 use Rattle.static_declarations.specs.declared.sort.Sort.{Sort}
 use Rattle.static_declarations.specs.declared.sort.Sort.TheVariants as sort_is
 use Rattle.static_declarations.specs.Sorts.{same_sort, fits, alike, gives, takes}
-use Rattle.static_declarations.specs.Things.{Thing, sort_of}
+use Rattle.static_declarations.specs.Things.{sort_of}
 use Rattle.static_types.specs.Sorts.{Named, is_array, asked, sort, answer_sort, agrees, operands_agree, call_agrees}
 use Rattle.static_types.specs.Types.{target_sort, target_agrees, is_of, stmt_agrees}
-use Rattle.message_types.specs.Mismatches.{Spot, test_of_if, test_of_exit, test_of_assert, assigned_to, got_into, put_to, argument, index_of, left_of, right_of, behind_minus, behind_not, Mismatch, differ, used_whole, used_by_element, count, miscounted, wants, misjoined, mismatch, unfit, row_mismatch, args_mismatch, target_mismatch, target_name, stmt_mismatch}
+use Rattle.message_types.specs.Mismatches.{Spot, test_of_if, test_of_exit, test_of_assert, assigned_to, got_into, put_to, argument, index_of, left_of, right_of, behind_minus, behind_not, Mismatch, differ, count, miscounted, wants, misjoined, mismatch, unfit, row_mismatch, args_mismatch, target_mismatch, target_name, stmt_mismatch}
 
 -- ---- tests of one thing
 

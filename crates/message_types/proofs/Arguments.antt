@@ -7,9 +7,8 @@ use Rattle.syntax_tree.specs.Plain.{Name}
 use Rattle.syntax_tree.specs.Placed.{Param, Expr, Exprs, exprs, placed_exprs}
 use Rattle.syntax_tree.specs.declared.place.Place.{Place}
 use Rattle.syntax_tree.specs.declared.expr.Expr as code_expr
-use Rattle.static_declarations.specs.declared.sort.Sort.{Sort}
 use Rattle.static_declarations.specs.Things.{sort_of}
-use Rattle.static_types.specs.Sorts.{Named, sort}
+use Rattle.static_types.specs.Sorts.{Named}
 use Rattle.message_types.specs.Mismatches.{Mismatch, counts_differ, argument, count, miscounted, mismatch, unfit, args_mismatch}
 
 not-eqb : (m n : ℕ) → (m ≡ n → ⊥) → (m == n) ≡ false

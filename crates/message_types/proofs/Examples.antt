@@ -3,7 +3,7 @@ use Rattle.std.proofs.Common.{◌≡◌, ℕ, true, false, List, [], ◌∷◌, 
 use Rattle.std.specs.Prelude.{codes}
 use Rattle.std.specs.Fmt.{digits}
 use Rattle.syntax_tree.specs.Plain.{equal}
-use Rattle.syntax_tree.specs.Placed.{Constant, literal_constant, int, boolean, scalar, array, Var, Expr, literal, truth, variable, call, no_exprs, exprs, no_operands, operand, row, whole, part, Stmt, assign, put, no_stmts, stmts, function, Routine, Decl, device, routine, process, periodic, Prog}
+use Rattle.syntax_tree.specs.Placed.{Constant, literal_constant, int, boolean, scalar, array, Var, Expr, literal, truth, variable, call, no_exprs, exprs, no_operands, operand, row, whole, part, Stmt, assign, put, no_stmts, stmts, function, Routine, device, routine, process, periodic, Prog}
 use Rattle.syntax_tree.specs.declared.place.Place.{Place}
 use Rattle.message_types.specs.Told.{type_sentence}
 

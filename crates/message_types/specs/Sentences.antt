@@ -1,5 +1,5 @@
 -- The sentence of each mismatch.
-use Rattle.std.specs.Prelude.{ℕ, List, [], ◌++◌, Option, codes, decimal, slice_get, unwrap_or}
+use Rattle.std.specs.Prelude.{ℕ, List, [], ◌++◌, codes, decimal, slice_get, unwrap_or}
 use Rattle.message_text.specs.Words.{quoted}
 use Rattle.syntax.specs.Spellings.{keywords, signs}
 use Rattle.syntax.specs.Words.{Word, named, number, keyword, sign}

@@ -13,7 +13,8 @@ ghost use Rattle.message_types.specs.Told.{type_sentence};
 /// A mismatch is found exactly where the rule for types and numbers of arguments fails: in an
 /// expression, in one of which a sort is wanted, and in a statement.
 pub fn mismatches_are_failures()
-    ensures expressions { (named : Named) (e : Expr Place) → is_none (mismatch named e) ≡ agrees named e }
+    ensures expressions { (named : Named) (e : Expr Place) →
+        is_none (mismatch named e) ≡ agrees named e }
     ensures wanted { (named : Named) (spot : Spot) (s : Sort) (e : Expr Place) →
         is_none (unfit named spot s e) ≡ is_of named s e }
     ensures statements { (named : Named) (s : Stmt Place) →

@@ -5,10 +5,11 @@
 //! that has more or fewer arguments than its routine has parameters; or the array that stands
 //! without an index, or the name that is no array and stands with one.
 //!
-//! `specs/Mismatches.antt` finds the first of these in an expression, a statement and a result, over
+//! `specs/Mismatches.antt` finds the first of these in an expression, a statement and a result, by
 //! the sorts of `static_types`; `specs/Sentences.antt` says it, and `specs/Told.antt` of which part
-//! of a program it is said. `type_sentence` makes exactly that sentence, or tells that there is none.
-//! That something is found exactly where the rule fails is a law (`laws`).
+//! of a program it is said. `type_sentence` makes exactly that sentence, or tells that there is
+//! none. Two laws (`laws`): a mismatch is found exactly where the rule fails, and there is a
+//! sentence exactly for the places at which it does.
 #![tactic(auto)]
 
 mod expr;

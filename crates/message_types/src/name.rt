@@ -24,7 +24,8 @@ fn name_at(list: &[Routine], place: Place) -> Option<&[u8]>
 /// The same in one declaration.
 #[tactic(auto, using(crate::proofs::Naming::name_append))]
 fn name_in(decl: &Declaration, place: Place) -> Option<&[u8]>
-    ensures { (rest : List (SpecDecl SpecPlace)) → name_found (routines (placed_decl decl.now ∷ rest)) place ≡
+    ensures { (rest : List (SpecDecl SpecPlace)) →
+        name_found (routines (placed_decl decl.now ∷ rest)) place ≡
         option_or (option_copied result) (name_found (routines rest) place) }
 {
     match decl {

@@ -85,7 +85,8 @@ fn add_spot(text: &mut Text, spot: Spot<'_>) -> Result<(), AllocError>
 
 /// Puts the sort that is wanted, and the one that is found.
 fn add_sorts(text: &mut Text, wanted: Sort, found: Sort) -> Result<(), AllocError>
-    ensures { OnOk result (text.new ≡ text.old ++ wanted_found (words_of_sort wanted) (words_of_sort found)) }
+    ensures { OnOk result (text.new ≡ text.old ++
+        wanted_found (words_of_sort wanted) (words_of_sort found)) }
 {
     text.extend(b": wanted ")?;
     text.extend(sort_words(wanted))?;

@@ -1,7 +1,7 @@
 //! The sorts of names and expressions, and tests of one thing.
 
 ghost use Rattle.std.specs.Prelude.{◌≡◌};
-ghost use Rattle.syntax_tree.specs.Placed.{placed, placed_expr, placed_operands, placed_param, placed_exprs, op_of};
+ghost use Rattle.syntax_tree.specs.Placed.{placed, placed_expr, placed_operands, op_of};
 ghost use Rattle.static_declarations.specs.Things.{named_at};
 ghost use Rattle.static_declarations.specs.Sorts.{gives as sort_given};
 ghost use Rattle.static_types.specs.Sorts.{word_sort as sort_of_word, element_sort as sort_of_element, answer_sort as sort_of_answer, is_array as names_array, row_sort as sort_of_row, sort as sort_of_expr};

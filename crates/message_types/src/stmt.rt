@@ -7,14 +7,14 @@ ghost use Rattle.static_declarations.specs.Things.{named_at};
 ghost use Rattle.static_declarations.specs.declared.sort.Sort.TheVariants as sort_is;
 ghost use Rattle.static_types.specs.Sorts.{answer_sort as sort_of_answer};
 ghost use Rattle.static_types.specs.Types.{target_sort as sort_of_target};
-ghost use Rattle.message_types.specs.Mismatches.{differ as differ_at, got_into, misassigned as is_misassigned, mismatch as mismatch_in, stmt_mismatch as mismatch_in_stmt, target_mismatch as mismatch_in_target, target_name};
+ghost use Rattle.message_types.specs.Mismatches.{differ as differ_at, got_into, put_to, misassigned as is_misassigned, mismatch as mismatch_in, stmt_mismatch as mismatch_in_stmt, target_mismatch as mismatch_in_target, target_name, unfit as is_unfit};
 ghost use Rattle.message_types.specs.Seen.{seen};
 
 use crate::expr::{call_mismatch, element_mismatch, mismatch, unfit};
 use crate::mismatch::{Mismatch, Spot, first};
 use crate::sorts::{answer_sort, differ, element_sort, sort, used_whole, word_sort};
 use static_declarations::{Declarations, Sort};
-use syntax_tree::{Expr, Place, Ref, Stmt};
+use syntax_tree::{Expr, Name, Place, Ref, Stmt};
 
 fn name_of(target: &Ref) -> &[u8]
     ensures { result.now ≡ target_name (placed_ref target.now) }
@@ -128,6 +128,19 @@ fn get_mismatch<'p>(declarations: &Declarations<'_>, target: &'p Ref) -> Option<
     )
 }
 
+/// The first mismatch in what is put to a device.
+fn put_mismatch<'p>(
+    declarations: &Declarations<'_>,
+    device: &'p Name,
+    value: &'p Expr,
+) -> Option<Mismatch<'p>>
+    ensures { seen result ≡ is_unfit (named_at (placed declarations.now)) (put_to device.now)
+        sort_is.Number (placed_expr value.now) }
+{
+    let spot = Spot::PutTo(device.as_bytes());
+    unfit(declarations, spot, Sort::Number, value)
+}
+
 /// The first mismatch in a statement, those in it aside.
 pub(crate) fn stmt_mismatch<'p>(
     declarations: &Declarations<'_>,
@@ -170,14 +183,7 @@ pub(crate) fn stmt_mismatch<'p>(
         Stmt::ExitWhen { test, .. } => unfit(declarations, Spot::ExitWhen, Sort::Truth, test),
         Stmt::Assert { test, .. } => unfit(declarations, Spot::Assert, Sort::Truth, test),
         Stmt::Get { target, .. } => get_mismatch(declarations, target),
-        Stmt::Put { device, value, .. } => {
-            unfit(
-                declarations,
-                Spot::PutTo(device.as_bytes()),
-                Sort::Number,
-                value,
-            )
-        }
+        Stmt::Put { device, value, .. } => put_mismatch(declarations, device, value),
         Stmt::For { .. }
         | Stmt::Wait { .. }
         | Stmt::Signal { .. }

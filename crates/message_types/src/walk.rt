@@ -129,7 +129,8 @@ fn look_at_result<'p>(
     ensures { let g = placed declarations.now in (more : List Part) →
         after g place (seen known.new) more ≡
         after g place (seen known.old)
-        (answer_parts name (optional placed_scalar kind.now) (optional placed_expr value.now) more) }
+        (answer_parts name (optional placed_scalar kind.now)
+        (optional placed_expr value.now) more) }
 {
     if let (Some(kind), Some(value)) = (kind, value) {
         if known.is_none() && name == place {

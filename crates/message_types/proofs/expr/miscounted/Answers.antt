@@ -1,4 +1,4 @@
-use Rattle.std.proofs.Common.{◌≡◌, ◌+◌, length, map, sym, ap, ◌∙◌, Some}
+use Rattle.std.proofs.Common.{map, sym, ◌∙◌, Some}
 use Rattle.std.proofs.lemmas.List.{length-map}
 use Rattle.syntax_tree.specs.Placed.{placed_exprs, placed_param}
 use Rattle.message_types.specs.Mismatches.{counts_differ}
