@@ -1,0 +1,4 @@
+pub mod Mismatches
+pub mod Sentences
+pub mod Told
+pub mod Seen
