@@ -1,0 +1,131 @@
+-- What is told of names in three programs.
+use Rattle.std.proofs.Common.{◌≡◌, ℕ, true, false, List, [], ◌∷◌, Some, None, refl}
+use Rattle.std.specs.Prelude.{codes}
+use Rattle.std.specs.Fmt.{digits}
+use Rattle.message_text.specs.Nearest.{distance, one_more}
+use Rattle.message_text.specs.Shown.{show}
+use Rattle.syntax_tree.specs.Placed.{Constant, literal_constant, named_constant, int, scalar, perform, put, loop, literal, variable, no_exprs, Stmts, stmts, no_stmts, procedure, Decl, device, monitor, process, periodic, Prog}
+use Rattle.syntax_tree.specs.declared.place.Place.{Place}
+use Rattle.message_names.specs.Told.{name_sentence, name_notes}
+
+abbrev at : (line col : ℕ) → Place
+at line col = record { line = line; col = col }
+
+-- a number that stands at the place
+abbrev number : Place → ℕ → Constant Place
+number place n = literal_constant place false n place
+
+abbrev program : List (Decl Place) → (close_place : Place) → Prog Place
+program ds close_place = record { name = codes "a"; place = at 1 9; decls = ds; close = codes "a"; close_place = close_place }
+
+-- a process in the third line, with a variable in the fourth
+abbrev task : Stmts Place → (close : List ℕ) (close_place : Place) → Decl Place
+task body close close_place = process (record {
+  name = codes "p";
+  place = at 3 9;
+  activation = periodic (number (at 3 28) 100) None None;
+  vars = record { name = codes "x"; place = at 4 5; kind = scalar int } ∷ [];
+  routines = [];
+  body = body;
+  handler = None;
+  close = close;
+  close_place = close_place;
+})
+
+-- ---- a device of another spelling
+
+abbrev spelled_text : List ℕ
+spelled_text = codes "program a\ndevice d : out\nprocess p : periodic frame 100\nvar x : int\nbegin\nput D 1\nend p\nend a\n"
+
+abbrev spelled : Prog Place
+spelled = program (device (codes "d") (at 2 8) true ∷ task (stmts (put (at 6 1) (codes "D") (at 6 5) (literal (at 6 7) 1)) no_stmts) (codes "p") (at 7 5) ∷ []) (at 8 5)
+
+pub spelled_sentence : name_sentence spelled 20 (at 6 5) ≡ Some (codes "`D` is declared nowhere in reach")
+unfolding name_sentence digits
+spelled_sentence = refl
+
+pub spelled_notes : name_notes spelled_text spelled 20 (at 6 5) ≡ codes "        = the nearest name in reach is `d`:\n      2 | device d : out\n        |        ^\n"
+unfolding name_notes distance one_more show digits
+spelled_notes = refl
+
+-- ---- a bound that is no number, and a loop's variable behind the loop
+
+abbrev looped_text : List ℕ
+looped_text = codes "program a\ndevice d : out\nprocess p : periodic frame 100\nvar x : int\nbegin\nfor i : 1 .. x do put d i end for\nput d i\nend p\nend a\n"
+
+abbrev looped : Prog Place
+looped = program (device (codes "d") (at 2 8) true ∷ task (stmts (loop (at 6 1) (codes "i") (at 6 5) (number (at 6 9) 1) (named_constant (at 6 14) false (codes "x") (at 6 14))
+    (stmts (put (at 6 19) (codes "d") (at 6 23) (variable (at 6 25) (codes "i"))) no_stmts))
+    (stmts (put (at 7 1) (codes "d") (at 7 5) (variable (at 7 7) (codes "i"))) no_stmts)) (codes "p") (at 8 5) ∷ []) (at 9 5)
+
+pub bound_sentence : name_sentence looped 22 (at 6 14) ≡ Some (codes "`x` is a variable; wanted is a constant")
+unfolding name_sentence digits
+bound_sentence = refl
+
+pub bound_notes : name_notes looped_text looped 22 (at 6 14)
+    ≡ codes "        = it is declared here:\n      4 | var x : int\n        |     ^\n        = this number is fixed in the text; `exit when` ends a loop earlier\n"
+unfolding name_notes distance one_more show digits
+bound_notes = refl
+
+pub behind_notes : name_notes looped_text looped 20 (at 7 7)
+    ≡ codes "        = a loop variable of that name is out of reach here:\n      6 | for i : 1 .. x do put d i end for\n        |     ^\n"
+unfolding name_notes distance one_more show digits
+behind_notes = refl
+
+-- within the loop the variable is meant
+pub within_sentence : name_sentence looped 22 (at 6 25) ≡ Some (codes "`i` is a loop variable; wanted is a variable or a constant")
+unfolding name_sentence digits
+within_sentence = refl
+
+-- ---- a name that is declared twice, an entry without its monitor, and a closing name that differs
+
+abbrev closed_text : List ℕ
+closed_text =
+    codes "program a\ndevice x : out\nprocess p : periodic frame 100\nvar x : int\nbegin\ntick()\nend q\nmonitor m\nentry procedure tick() begin end tick\nend m\nend a\n"
+
+abbrev tick : Decl Place
+tick = monitor (record {
+  name = codes "m";
+  place = at 8 9;
+  members = [];
+  entries = record {
+    kind = procedure;
+    name = codes "tick";
+    place = at 9 17;
+    params = [];
+    result = None;
+    vars = [];
+    body = no_stmts;
+    value = None;
+    close = codes "tick";
+    close_place = at 9 34;
+  } ∷ [];
+  close = codes "m";
+  close_place = at 10 5;
+})
+
+abbrev closed : Prog Place
+closed = program (device (codes "x") (at 2 8) true ∷ task (stmts (perform (at 6 1) (codes "tick") no_exprs) no_stmts) (codes "q") (at 7 5) ∷ tick ∷ []) (at 11 5)
+
+pub twice_sentence : name_sentence closed 21 (at 4 5) ≡ Some (codes "`x` is declared already")
+unfolding name_sentence digits
+twice_sentence = refl
+
+pub twice_notes : name_notes closed_text closed 21 (at 4 5)
+    ≡ codes "        = the other one is a device; give one of them another name:\n      2 | device x : out\n        |        ^\n"
+unfolding name_notes distance one_more show digits
+twice_notes = refl
+
+pub entry_notes : name_notes closed_text closed 20 (at 6 1)
+    ≡ codes "        = write `m.tick` for the entry:\n      9 | entry procedure tick() begin end tick\n        |                 ^^^^\n"
+unfolding name_notes distance one_more show digits
+entry_notes = refl
+
+pub closing_sentence : name_sentence closed 23 (at 7 5) ≡ Some (codes "`q` closes nothing; wanted is `p`")
+unfolding name_sentence digits
+closing_sentence = refl
+
+pub closing_notes : name_notes closed_text closed 23 (at 7 5)
+    ≡ codes "        = the name behind `end` is that of:\n      3 | process p : periodic frame 100\n        |         ^\n"
+unfolding name_notes distance one_more show digits
+closing_notes = refl
