@@ -1,15 +1,16 @@
-use Rattle.std.proofs.Common.{◌≡◌}
+use Rattle.std.proofs.Common.{◌≡◌, ◌++◌, List, Some, ap, sym, ◌∙◌}
+use Rattle.std.specs.Prelude.{option_map}
+use Rattle.message_names.specs.Mentions.{Mention}
+use Rattle.message_names.specs.Reach.{mention_at}
+use Rattle.message_names.specs.Seen.{found, mention_of}
+use Rattle.message_names.specs.Told.{name_sentence, sentence_of}
 use Rattle.message_names.proofs.told.name_sentence.Goals as goal
 
 pub returns : goal.returns
+unfolding name_sentence
 returns c =
-    let a = c.in_ok-mentions.ensures in
-    let b = c.mention_at.ensures in
-    let d = c.in-Some.is in
-    let e = c.in-Some.mention-is in
-    let f = c.in_ok-add_sentence.ensures in
-    let h = c.new-sentence.ensures in
-    let i = c.in_ok-mentions.is in
-    let j = c.mentions-2.view_is in
-    let k = c.in_ok-add_sentence.is in
-    ?
+    let listed = c.in_ok-mentions.mentions in
+    let put = c.in_ok-add_sentence.ensures ∙ ap (λ l. l ++ sentence_of c.args.number listed (mention_of c.in-Some.mention)) c.new-sentence.ensures in
+    let at = sym (ap found c.in-Some.is) ∙ c.mention_at.ensures in
+    ap Some put ∙ ap (option_map (sentence_of c.args.number listed)) at
+    ∙ ap (λ (ms : List Mention). option_map (sentence_of c.args.number ms) (mention_at c.args.place ms)) c.in_ok-mentions.ensures
