@@ -1,5 +1,5 @@
 -- What a name may mean where it stands, and which of that is meant.
-use Rattle.std.specs.Prelude.{ℕ, Bool, true, false, not, ◌&&◌, ◌||◌, List, [], ◌∷◌, Option, Some, None, is_some, find, filter, fold, bytes_eq, nat_eq, nat_lt, map, if◌then◌else◌}
+use Rattle.std.specs.Prelude.{Bool, true, false, not, ◌&&◌, ◌||◌, List, [], Option, Some, None, is_some, find, filter, fold, bytes_eq, nat_eq, nat_lt, map, if◌then◌else◌}
 use Rattle.std.specs.Option.{option_map_or}
 use Rattle.message_text.specs.Nearest.{nearest}
 use Rattle.syntax_tree.specs.Plain.{Name}

@@ -1,5 +1,5 @@
 use Rattle.std.proofs.Common.{◌≡◌, ◌++◌, drop}
-use Rattle.syntax_tree.specs.Placed.{placed_expr, placed_exprs, placed_operands}
+use Rattle.syntax_tree.specs.Placed.{placed_exprs, placed_operands}
 use Rattle.message_names.specs.Mentions.{exprs_mentions, operands_mentions}
 use Rattle.message_names.proofs.expressions.+expr.Given as goal
 

@@ -1,5 +1,5 @@
 use Rattle.std.proofs.Common.{◌≡◌, ◌++◌, drop}
-use Rattle.syntax_tree.specs.Placed.{placed_stmt, placed_stmts}
+use Rattle.syntax_tree.specs.Placed.{placed_stmts}
 use Rattle.message_names.specs.Mentions.{stmts_mentions}
 use Rattle.message_names.proofs.statements.+stmt.Given as goal
 

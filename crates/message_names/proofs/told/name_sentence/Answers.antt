@@ -1,4 +1,4 @@
-use Rattle.std.proofs.Common.{◌≡◌, ◌++◌, List, Some, ap, sym, ◌∙◌}
+use Rattle.std.proofs.Common.{◌++◌, List, Some, ap, sym, ◌∙◌}
 use Rattle.std.specs.Prelude.{option_map}
 use Rattle.message_names.specs.Mentions.{Mention}
 use Rattle.message_names.specs.Reach.{mention_at}
