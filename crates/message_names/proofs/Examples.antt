@@ -1,10 +1,10 @@
--- What is told of names in three programs.
+-- What is told of names in four programs.
 use Rattle.std.proofs.Common.{◌≡◌, ℕ, true, false, List, [], ◌∷◌, Some, None, refl}
 use Rattle.std.specs.Prelude.{codes}
 use Rattle.std.specs.Fmt.{digits}
 use Rattle.message_text.specs.Nearest.{distance, one_more}
 use Rattle.message_text.specs.Shown.{show}
-use Rattle.syntax_tree.specs.Placed.{Constant, literal_constant, named_constant, int, scalar, perform, put, loop, literal, variable, no_exprs, Stmts, stmts, no_stmts, procedure, Decl, device, monitor, process, periodic, Prog}
+use Rattle.syntax_tree.specs.Placed.{Constant, literal_constant, named_constant, int, scalar, Var, Member, variable_member, perform, perform_entry, put, loop, literal, variable, no_exprs, Stmts, stmts, no_stmts, procedure, Decl, device, monitor, process, periodic, Prog}
 use Rattle.syntax_tree.specs.declared.place.Place.{Place}
 use Rattle.message_names.specs.Told.{name_sentence, name_notes}
 
@@ -18,17 +18,47 @@ number place n = literal_constant place false n place
 abbrev program : List (Decl Place) → (close_place : Place) → Prog Place
 program ds close_place = record { name = codes "a"; place = at 1 9; decls = ds; close = codes "a"; close_place = close_place }
 
--- a process in the third line, with a variable in the fourth
-abbrev task : Stmts Place → (close : List ℕ) (close_place : Place) → Decl Place
-task body close close_place = process (record {
+-- a variable at this place
+abbrev var_at : (name : List ℕ) → Place → Var Place
+var_at name place = record { name = name; place = place; kind = scalar int }
+
+-- a process in this line
+abbrev task_in : (line : ℕ) → List (Var Place) → Stmts Place → (close : List ℕ) (close_place : Place) → Decl Place
+task_in line vars body close close_place = process (record {
   name = codes "p";
-  place = at 3 9;
-  activation = periodic (number (at 3 28) 100) None None;
-  vars = record { name = codes "x"; place = at 4 5; kind = scalar int } ∷ [];
+  place = at line 9;
+  activation = periodic (number (at line 28) 100) None None;
+  vars = vars;
   routines = [];
   body = body;
   handler = None;
   close = close;
+  close_place = close_place;
+})
+
+-- one in the third line, with a variable in the fourth
+abbrev task : Stmts Place → (close : List ℕ) (close_place : Place) → Decl Place
+task body close close_place = task_in 3 (var_at (codes "x") (at 4 5) ∷ []) body close close_place
+
+-- a monitor at this place
+abbrev monitor_at : (place : Place) → List (Member Place) → (entry close_entry close_place : Place) → Decl Place
+monitor_at place members entry close_entry close_place = monitor (record {
+  name = codes "m";
+  place = place;
+  members = members;
+  entries = record {
+    kind = procedure;
+    name = codes "tick";
+    place = entry;
+    params = [];
+    result = None;
+    vars = [];
+    body = no_stmts;
+    value = None;
+    close = codes "tick";
+    close_place = close_entry;
+  } ∷ [];
+  close = codes "m";
   close_place = close_place;
 })
 
@@ -83,29 +113,8 @@ abbrev closed_text : List ℕ
 closed_text =
     codes "program a\ndevice x : out\nprocess p : periodic frame 100\nvar x : int\nbegin\ntick()\nend q\nmonitor m\nentry procedure tick() begin end tick\nend m\nend a\n"
 
-abbrev tick : Decl Place
-tick = monitor (record {
-  name = codes "m";
-  place = at 8 9;
-  members = [];
-  entries = record {
-    kind = procedure;
-    name = codes "tick";
-    place = at 9 17;
-    params = [];
-    result = None;
-    vars = [];
-    body = no_stmts;
-    value = None;
-    close = codes "tick";
-    close_place = at 9 34;
-  } ∷ [];
-  close = codes "m";
-  close_place = at 10 5;
-})
-
 abbrev closed : Prog Place
-closed = program (device (codes "x") (at 2 8) true ∷ task (stmts (perform (at 6 1) (codes "tick") no_exprs) no_stmts) (codes "q") (at 7 5) ∷ tick ∷ []) (at 11 5)
+closed = program (device (codes "x") (at 2 8) true ∷ task (stmts (perform (at 6 1) (codes "tick") no_exprs) no_stmts) (codes "q") (at 7 5) ∷ monitor_at (at 8 9) [] (at 9 17) (at 9 34) (at 10 5) ∷ []) (at 11 5)
 
 pub twice_sentence : name_sentence closed 21 (at 4 5) ≡ Some (codes "`x` is declared already")
 unfolding name_sentence digits
@@ -129,3 +138,33 @@ pub closing_notes : name_notes closed_text closed 23 (at 7 5)
     ≡ codes "        = the name behind `end` is that of:\n      3 | process p : periodic frame 100\n        |         ^\n"
 unfolding name_notes distance one_more show digits
 closing_notes = refl
+
+-- ---- names behind that of a monitor, and one with nothing near
+
+abbrev behind_text : List ℕ
+behind_text =
+    codes "program a\nmonitor m\nvar n : int\nentry procedure tick() begin end tick\nend m\nprocess p : periodic frame 100\nbegin\nm.tock()\nm.n()\ngo_on()\nend p\nend a\n"
+
+abbrev behind : Prog Place
+behind = program (monitor_at (at 2 9) (variable_member (var_at (codes "n") (at 3 5)) ∷ []) (at 4 17) (at 4 34) (at 5 5) ∷ task_in 6 []
+    (stmts (perform_entry (at 8 1) (codes "m") (codes "tock") (at 8 3) no_exprs)
+    (stmts (perform_entry (at 9 1) (codes "m") (codes "n") (at 9 3) no_exprs)
+    (stmts (perform (at 10 1) (codes "go_on") no_exprs) no_stmts))) (codes "p") (at 11 5) ∷ []) (at 12 5)
+
+pub behind_sentence : name_sentence behind 20 (at 8 3) ≡ Some (codes "the monitor `m` has no entry `tock`")
+unfolding name_sentence digits
+behind_sentence = refl
+
+pub tock_notes : name_notes behind_text behind 20 (at 8 3)
+    ≡ codes "        = the nearest name in reach is `tick`:\n      4 | entry procedure tick() begin end tick\n        |                 ^^^^\n"
+unfolding name_notes distance one_more show digits
+tock_notes = refl
+
+pub member_notes : name_notes behind_text behind 20 (at 9 3)
+    ≡ codes "        = a variable of that name is out of reach here:\n      3 | var n : int\n        |     ^\n"
+unfolding name_notes distance one_more show digits
+member_notes = refl
+
+pub far_notes : name_notes behind_text behind 20 (at 10 1) ≡ codes "        = declare it, or correct the name\n"
+unfolding name_notes distance one_more show digits
+far_notes = refl

@@ -5,6 +5,7 @@ ghost use Rattle.message_names.specs.Reach.{declares_name, first_declared, inner
 ghost use Rattle.message_names.specs.Seen.{found, mention_of};
 ghost use Rattle.message_names.specs.Told.{closed, name_of};
 
+use crate::errors::tri;
 use crate::mentions::{Mention, Mentions};
 use crate::role::{Role, What, declared, monitor_before, scope_begin};
 use crate::sight::{Sight, before, is_seen};
@@ -182,7 +183,7 @@ fn add_offered<'a>(
 {
     for mention in mentions.as_slice() {
         if is_offered(sight, place, mention) {
-            offers.push(*mention)?;
+            tri!(offers.push(*mention));
         }
     }
     Ok(())
@@ -197,12 +198,8 @@ pub(crate) fn offered<'a>(
     ensures { IfOk result (λ offers. offers ≡ offered mentions.now (mention_of mention.now)) }
 {
     let mut offers = Mentions::new(alloc);
-    add_offered(
-        &mut offers,
-        mentions,
-        sight_of(mentions, mention.role),
-        mention.place,
-    )?;
+    let sight = sight_of(mentions, mention.role);
+    tri!(add_offered(&mut offers, mentions, sight, mention.place));
     Ok(offers)
 }
 
@@ -222,7 +219,9 @@ fn names<'a>(alloc: Global, mentions: &Mentions<'a>) -> Result<Vec<&'a [u8]>, Al
 fn named<'a>(mentions: &Mentions<'a>, name: Option<&[u8]>) -> Option<Mention<'a>>
     ensures { found result ≡ named (option_map (λ n. n.now) name.entry) mentions.now }
 {
-    let name = name?;
+    let Some(name) = name else {
+        return None;
+    };
     for mention in mentions.as_slice() {
         if mention.name == name {
             return Some(*mention);
@@ -239,7 +238,7 @@ pub(crate) fn nearest_of<'a>(
 ) -> Result<Option<Mention<'a>>, AllocError>
     ensures { IfOk result (λ near. found near ≡ nearest_of word.now mentions.now) }
 {
-    let names = names(alloc, mentions)?;
-    let near = nearest(alloc, word, names.as_slice())?;
+    let names = tri!(names(alloc, mentions));
+    let near = tri!(nearest(alloc, word, names.as_slice()));
     Ok(named(mentions, near))
 }

@@ -4,6 +4,7 @@ ghost use Rattle.std.specs.Prelude.{◌≡◌, ◌++◌, OnOk, map};
 ghost use Rattle.message_names.specs.Seen.{found, mention_of};
 ghost use Rattle.message_names.specs.Told.{constant_note, elsewhere, is_bare_entry, misused_notes, nearest_note, notes_of, pointed, pointed_if, taken_notes, undeclared_notes};
 
+use crate::errors::tri;
 use crate::lookup::{closed, first_declared, meaning, name_at, nearest_of, offered};
 use crate::mentions::{Mention, Mentions};
 use crate::role::{Role, declared, is_entry, monitor_before, scope_begin};
@@ -22,7 +23,7 @@ fn add_pointed(
     ensures { OnOk result (text.new ≡ text.old ++
         pointed source.now (map (λ part. part.now) parts.now) (mention_of mention.now)) }
 {
-    add_note(text, parts)?;
+    tri!(add_note(text, parts));
     add_show(
         text,
         source,
@@ -115,8 +116,8 @@ fn add_undeclared(
     match first {
         Some(first) => add_elsewhere(text, source, mentions, mention.role, &first),
         None => {
-            let offers = offered(alloc, mentions, mention)?;
-            let near = nearest_of(alloc, mention.name, &offers)?;
+            let offers = tri!(offered(alloc, mentions, mention));
+            let near = tri!(nearest_of(alloc, mention.name, &offers));
             add_nearest(text, source, near)
         }
     }
@@ -157,7 +158,8 @@ fn add_misused(
     ensures { OnOk result (text.new ≡ text.old ++
         misused_notes source.now role (found declaration.entry)) }
 {
-    add_pointed_if(text, source, &[b"it is declared here:"], declaration)?;
+    let parts: [&[u8]; 1] = [b"it is declared here:"];
+    tri!(add_pointed_if(text, source, &parts, declaration));
     add_constant_note(text, role)
 }
 

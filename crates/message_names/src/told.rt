@@ -5,6 +5,7 @@ ghost use Rattle.syntax_tree.specs.Placed.{placed};
 ghost use Rattle.message_names.specs.Told.{name_notes, name_sentence};
 
 use crate::declarations::mentions;
+use crate::errors::tri;
 use crate::lookup::mention_at;
 use crate::notes::add_notes;
 use crate::sentences::add_sentence;
@@ -24,12 +25,12 @@ pub fn name_sentence(
 ) -> Result<Option<Text>, AllocError>
     ensures { IfOk result (λ told. told ≡ name_sentence (placed program.now) number place) }
 {
-    let mentions = mentions(alloc, program)?;
+    let mentions = tri!(mentions(alloc, program));
     let Some(mention) = mention_at(&mentions, place) else {
         return Ok(None);
     };
     let mut sentence = Text::new(alloc);
-    add_sentence(&mut sentence, number, &mentions, &mention)?;
+    tri!(add_sentence(&mut sentence, number, &mentions, &mention));
     Ok(Some(sentence))
 }
 
@@ -47,10 +48,10 @@ pub fn name_notes(
     ensures { IfOk result (λ notes.
         notes ≡ name_notes text.now (placed program.now) number place) }
 {
-    let mentions = mentions(alloc, program)?;
+    let mentions = tri!(mentions(alloc, program));
     let mut notes = Text::new(alloc);
     if let Some(mention) = mention_at(&mentions, place) {
-        add_notes(alloc, &mut notes, text, number, &mentions, &mention)?;
+        tri!(add_notes(alloc, &mut notes, text, number, &mentions, &mention));
     }
     Ok(notes)
 }

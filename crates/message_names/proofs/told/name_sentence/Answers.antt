@@ -9,8 +9,8 @@ use Rattle.message_names.proofs.told.name_sentence.Goals as goal
 pub returns : goal.returns
 unfolding name_sentence
 returns c =
-    let listed = c.in_ok-mentions.mentions in
-    let put = c.in_ok-add_sentence.ensures ∙ ap (λ l. l ++ sentence_of c.args.number listed (mention_of c.in-Some.mention)) c.new-sentence.ensures in
+    let listed = c.in-Ok.it in
+    let put = c.in-Ok-add_sentence.ensures ∙ ap (λ l. l ++ sentence_of c.args.number listed (mention_of c.in-Some.mention)) c.new-sentence.ensures in
     let at = sym (ap found c.in-Some.is) ∙ c.mention_at.ensures in
     ap Some put ∙ ap (option_map (sentence_of c.args.number listed)) at
-    ∙ ap (λ (ms : List Mention). option_map (sentence_of c.args.number ms) (mention_at c.args.place ms)) c.in_ok-mentions.ensures
+    ∙ ap (λ (ms : List Mention). option_map (sentence_of c.args.number ms) (mention_at c.args.place ms)) c.in-Ok.ensures
