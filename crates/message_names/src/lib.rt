@@ -5,8 +5,8 @@
 //!
 //! `specs/Mentions.antt` lists each name of a program with what it does there, each declaration
 //! with the places that it reaches; `specs/Reach.antt` says which of them a name means;
-//! `specs/Told.antt` says it in words. `name_sentence` and `name_notes` make exactly those; the only
-//! error is want of memory.
+//! `specs/Told.antt` says it in words. `name_sentence` and `name_notes` make exactly those; the
+//! only error is want of memory.
 #![tactic(auto)]
 
 mod declarations;
