@@ -39,7 +39,8 @@ pub(crate) fn bounds<'a>(
 
 /// The type of a word.
 pub(crate) fn scalar<'a>(mentions: &mut Mentions<'a>, kind: &'a Scalar) -> Result<(), AllocError>
-    ensures { OnOk result (mentions.new ≡ mentions.old ++ scalar_mentions (placed_scalar kind.now)) }
+    ensures { OnOk result (mentions.new ≡ mentions.old ++
+        scalar_mentions (placed_scalar kind.now)) }
 {
     match kind {
         Scalar::Int | Scalar::Boolean => Ok(()),
