@@ -1,0 +1,4 @@
+pub mod Examples
+pub mod Joined
+pub mod Loops
+pub mod Steps

@@ -1,0 +1,16 @@
+use Rattle.std.proofs.Common.{◌++◌, refl, arith, map}
+use Rattle.std.specs.Prelude.{flat_map}
+use Rattle.syntax_tree.specs.Placed.{placed_member}
+use Rattle.message_names.specs.Mentions.{member_mentions}
+use Rattle.message_names.proofs.Steps.{step, finish}
+use Rattle.message_names.proofs.declarations.members.Goals as goal
+
+pub loop-one-preserved : goal.loop-one-preserved
+loop-one-preserved c =
+    step (λ xs. flat_map (member_mentions c.args.scope) (map placed_member xs)) (c.args.mentions.now ++ flat_map (member_mentions c.args.scope) (map placed_member c.args.list.now)) (λ x. member_mentions c.args.scope (placed_member x)) (λ x xs. refl)
+    c.args.list.now c.loop-one.one-index c.one-item.result c.loop-one.mentions c.member.new.mentions (omega arith) c.one-item.is c.in-Ok.ensures c.loop-one.invariant
+
+pub returns : goal.returns
+returns c =
+    finish (λ xs. flat_map (member_mentions c.args.scope) (map placed_member xs)) (c.args.mentions.now ++ flat_map (member_mentions c.args.scope) (map placed_member c.args.list.now)) refl
+    c.args.list.now c.loop-one.one-index c.loop-one.mentions (omega arith) c.loop-one.invariant

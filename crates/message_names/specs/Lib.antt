@@ -1,0 +1,4 @@
+pub mod Mentions
+pub mod Reach
+pub mod Seen
+pub mod Told

@@ -1,0 +1,25 @@
+//! What a person is told of a name that is wrong: of a fault of the rules for names, E20 to E23.
+//!
+//! The family Messages (`message_text`): the sentence says what the name is, or that it is declared
+//! nowhere in reach; the notes show other declarations, such as the nearest name.
+//!
+//! `specs/Mentions.antt` lists each name of a program with what it does there, each declaration
+//! with the places that it reaches; `specs/Reach.antt` says which of them a name means;
+//! `specs/Told.antt` says it in words. `name_sentence` and `name_notes` make exactly those; the
+//! only error is want of memory.
+#![tactic(auto)]
+
+mod declarations;
+mod errors;
+mod expressions;
+mod lookup;
+mod mentions;
+mod notes;
+mod role;
+mod sentences;
+mod sight;
+mod statements;
+mod told;
+mod words;
+
+pub use told::{name_notes, name_sentence};
