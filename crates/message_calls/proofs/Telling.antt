@@ -1,15 +1,13 @@
 -- Where there is a sentence.
-use Rattle.std.proofs.Common.{◌≡◌, ◌⊎◌, inl, inr, ◌&&◌, ◌++◌, ◌∷◌, List, [], ℕ, Bool, true, false, cond, Option, Some, None, option_map, find, refl, sym, ap, ◌∙◌, subst, arith}
+use Rattle.std.proofs.Common.{◌≡◌, ◌⊎◌, inl, inr, ◌&&◌, ◌∷◌, List, [], ℕ, Bool, true, false, cond, Option, Some, None, option_map, find, refl, sym, ap, ◌∙◌, subst, arith, true≢false}
 use Rattle.std.specs.Prelude.{◌↔◌, Contains}
 use Rattle.std.specs.Option.{is_some}
 use Rattle.std.proofs.lemmas.Bool.Decides.{nat_tests}
 use Rattle.std.proofs.lemmas.List.Elements.{Contains-append_right}
 use Rattle.base.proofs.Members.{at_front, none_in, front_or_behind}
-use Rattle.syntax_tree.specs.Placed.{Process, Prog}
+use Rattle.syntax_tree.specs.Placed.{Handler, Process, Prog}
 use Rattle.syntax_tree.specs.Parts.{same_place, routines, processes}
 use Rattle.syntax_tree.specs.declared.place.Place.{Place}
-use Rattle.static_names.specs.Occurrences.{names, declared_at}
-use Rattle.static_calls.specs.Calls.{routine_calls}
 use Rattle.static_calls.specs.Reaching.{Calls, Reaches, by_call, by_calls, ReachesItself, HandlerWaits, ComesTo, ComesBackBy, IsWayBack}
 use Rattle.message_calls.specs.Told.{IsRoundTold, IsCallTold, of_round, of_handler, of_other, is_handled_at, handler_told, round_sentence, routine_name, handler_sentence}
 
@@ -31,11 +29,8 @@ comes-back g place callee c = record { one = c.caller; listed = c.listed; is = c
     by (inl same) = by_call (subst (Calls g place) same call)
     by (inr reaches) = by_calls call reaches
 
-none-is : {X : Type 0} → is_some {X} None ≡ true → ⊥
-none-is e = cc
-
 told-way : (g : Prog Place) (place : Place) (way : Option Place) → IsWayBack g place way → ReachesItself g place ↔ (is_some way ≡ true)
-told-way g place None none = (λ r. absurd (none r), λ e. absurd (none-is e))
+told-way g place None none = (λ r. absurd (none r), λ e. absurd (true≢false (sym e)))
 told-way g place (Some callee) c = (λ r. refl, λ e. comes-back g place callee c)
 
 some-map : {X Y : Type 0} (f : X → Y) (o : Option X) → is_some (option_map f o) ≡ is_some o
@@ -44,7 +39,7 @@ some-map f (Some x) = refl
 
 round-told : (g : Prog Place) (place : Place) (said : Option (List ℕ)) → IsRoundTold g place said → ReachesItself g place ↔ (is_some said ≡ true)
 round-told g place said t =
-    let same : is_some said ≡ is_some t.callee = ap is_some t.is ∙ some-map (λ p. round_sentence (routine_name g place) (routine_name g p)) t.callee in
+    let same : is_some said ≡ is_some t.callee = ap is_some t.is ∙ some-map (λ (p : Place). round_sentence (routine_name g place) (routine_name g p)) t.callee in
     let way = told-way g place t.callee t.way in
     (λ r. same ∙ way.0 r, λ e. way.1 (sym same ∙ e))
 
@@ -64,13 +59,14 @@ found place (q ∷ ps) p listed is = by (is_handled_at place q) refl (front_or_b
   where
     by : (b : Bool) → is_handled_at place q ≡ b → (q ≡ p) ⊎ Contains ps p → (Contains ps p → is_some (find (is_handled_at place) ps) ≡ true) → is_some (cond b (Some q) (find (is_handled_at place) ps)) ≡ true
     by true at either rest = refl
-    by false at (inl same) rest = sym at ∙ ap (is_handled_at place) same ∙ is
+    by false at (inl same) rest = absurd (true≢false (sym (sym at ∙ ap (is_handled_at place) same ∙ is)))
     by false at (inr there) rest = rest there
 
 handled : (g : Prog Place) (place : Place) → HandlerWaits g place → is_some (handler_told g place) ≡ true
 handled g place w =
-    some-map (λ p. handler_sentence p.name) (find (is_handled_at place) (processes g.decls))
-    ∙ found place (processes g.decls) w.one w.listed (ap (λ q. same_place q place && is_some w.one.handler) w.is ∙ ap (λ h. same_place place place && is_some h) w.has ∙ ap (λ b. b && true) (same-refl place))
+    some-map (λ (p : Process Place). handler_sentence p.name) (find (is_handled_at place) (processes g.decls))
+    ∙ found place (processes g.decls) w.one w.listed
+    (ap (λ (h : Option (Handler Place)). is_some h && same_place w.one.place place) w.has ∙ ap (λ (q : Place). same_place q place) w.is ∙ same-refl place)
 
 pub tells-handlers : (g : Prog Place) (place : Place) (said : Option (List ℕ)) → IsCallTold g 35 place said → HandlerWaits g place → is_some said ≡ true
 tells-handlers g place said (of_round e t) w = absurd (omega (arith, e))

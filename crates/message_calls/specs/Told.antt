@@ -27,9 +27,9 @@ pub record IsRoundTold (g : Prog Place) (place : Place) (said : Option (List ℕ
   pub way : IsWayBack g place callee
   pub is : said ≡ option_map (λ p. round_sentence (routine_name g place) (routine_name g p)) callee
 
--- the name of the process stands at the place, and it has a handler
+-- the process has a handler, and its name stands at the place
 abbrev pub is_handled_at : Place → Process Place → Bool
-is_handled_at place p = same_place p.place place && is_some p.handler
+is_handled_at place p = is_some p.handler && same_place p.place place
 
 -- what is said of the process at the place that has a handler; nothing where none has
 abbrev pub handler_told : Prog Place → Place → Option (List ℕ)

@@ -1,15 +1,14 @@
 //! The sentence for a rule for calls that fails at a place.
 
-ghost use Rattle.std.specs.Prelude.{◌≡◌, ◌++◌, IfOk, OnOk, find, is_some, map, option_map};
+ghost use Rattle.std.specs.Prelude.{◌≡◌, ◌++◌, IfOk, OnOk, find, map, option_map};
 ghost use Rattle.syntax_tree.specs.Parts.{processes};
 ghost use Rattle.syntax_tree.specs.Placed.{placed, placed_decl, placed_process};
-ghost use Rattle.message_calls.specs.Told.{IsCallTold, IsRoundTold, handler_sentence, handler_told, is_handled_at, round_sentence};
+ghost use Rattle.message_calls.specs.Told.{IsCallTold, IsRoundTold, handler_sentence, handler_told, is_handled_at, round_sentence, routine_name};
 
 use message_conduct::routine_name;
 use message_text::add_quoted;
 use static_calls::way_back;
 use static_declarations::Declarations;
-use static_rule::rule;
 use std::alloc::{AllocError, Global};
 use syntax_tree::{Declaration, Place, Process, Text};
 
@@ -31,7 +30,28 @@ fn add_handler(text: &mut Text, process: &[u8]) -> Result<(), AllocError>
     text.extend(b" reaches a `wait`")
 }
 
-/// The sentence for the routine at the place that reaches itself.
+/// The sentence for the routine at the place that reaches itself, first by its call of the callee.
+fn round_text(
+    alloc: Global,
+    declarations: &Declarations<'_>,
+    place: Place,
+    callee: Place,
+) -> Result<Text, AllocError>
+    ensures { IfOk result (λ said. said ≡ round_sentence
+        (routine_name (placed declarations.now) place)
+        (routine_name (placed declarations.now) callee)) }
+{
+    let decls = declarations.program().decls.as_slice();
+    let mut sentence = Text::new(alloc);
+    add_round(
+        &mut sentence,
+        routine_name(place, decls),
+        routine_name(callee, decls),
+    )?;
+    Ok(sentence)
+}
+
+/// The sentence for the routine at the place that reaches itself, if one does.
 fn round_told(
     alloc: Global,
     declarations: &Declarations<'_>,
@@ -42,21 +62,18 @@ fn round_told(
     let Some(callee) = way_back(alloc, declarations, place)? else {
         return Ok(None);
     };
-    let decls = declarations.program().decls.as_slice();
-    let mut sentence = Text::new(alloc);
-    add_round(
-        &mut sentence,
-        routine_name(place, decls),
-        routine_name(callee, decls),
-    )?;
+    let sentence = round_text(alloc, declarations, place, callee)?;
     Ok(Some(sentence))
 }
 
-/// Whether the name of the process stands at the place, and it has a handler.
+/// Whether the process has a handler, and its name stands at the place.
 fn is_handled_at(place: Place, process: &Process) -> bool
     ensures { result ≡ is_handled_at place (placed_process process.now) }
 {
-    process.place == place && process.handler.is_some()
+    match &process.handler {
+        Some(_) => process.place == place,
+        None => false,
+    }
 }
 
 /// The process whose name stands at the place, and that has a handler.
@@ -103,8 +120,8 @@ pub fn call_sentence(
     ensures { IfOk result (λ said. IsCallTold (placed declarations.now) number place said) }
 {
     match number {
-        rule::RECURSION => round_told(alloc, declarations, place),
-        rule::WRONG_HANDLER => handler_told(alloc, declarations, place),
+        31 => round_told(alloc, declarations, place),
+        35 => handler_told(alloc, declarations, place),
         _ => Ok(None),
     }
 }

@@ -2,7 +2,7 @@
 
 ghost use Rattle.std.specs.Prelude.{◌≡◌, IfOk, IfSome, None, unwrap_or};
 ghost use Rattle.front_end.specs.Source.{IsTreeOf};
-ghost use Rattle.message_program.specs.Program.{IsRuleTold, rule_message, rule_remark, word_sentence};
+ghost use Rattle.message_program.specs.Program.{IsRuleTold, is_said_alone, rule_message, rule_remark, word_sentence};
 ghost use Rattle.static_names.specs.Resolved.{IsNamed, IsRead};
 ghost use Rattle.syntax_tree.specs.Placed.{Prog as SpecProg, placed};
 ghost use Rattle.syntax_tree.specs.declared.place.Place.{Place as SpecPlace};
@@ -13,7 +13,6 @@ use crate::place_words::bytes_at;
 use crate::said::said;
 use front_end::{SourceFault, one_tree, read_tree};
 use static_names::{NameFault, ResolvedProgram, name};
-use static_rule::rule;
 use std::alloc::{AllocError, Global};
 use syntax_tree::{Place, Program, Text};
 
@@ -56,11 +55,18 @@ fn program(alloc: Global, text: &[u8]) -> Result<Option<ResolvedProgram>, AllocE
     resolved(alloc, tree)
 }
 
+/// Whether the note of the rule is left out where the sentence has names.
+fn is_said_alone(number: u8) -> bool
+    ensures { result ≡ is_said_alone number }
+{
+    matches!(number, 34 | 38)
+}
+
 /// What can be done, where there is this sentence.
 fn rule_remark(number: u8, said: &Option<Text>, bytes: &[u8]) -> &'static str
     ensures { result.now ≡ rule_remark number said.now bytes.now }
 {
-    if matches!(number, rule::MISPLACED | rule::WRONG_DIRECTION) && said.is_some() {
+    if is_said_alone(number) && said.is_some() {
         return "";
     }
     remark(number, bytes)
