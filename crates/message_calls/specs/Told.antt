@@ -10,11 +10,11 @@ use Rattle.static_calls.specs.Reaching.{IsWayBack}
 use Rattle.message_conduct.specs.Sentences.{name_at}
 
 -- a routine that reaches itself, and the first that it calls by which it does
-abbrev pub round_sentence : (caller callee : Name) → List ℕ
+unfoldable pub round_sentence : (caller callee : Name) → List ℕ
 round_sentence caller callee = quoted caller ++ (codes " reaches itself through its call of " ++ quoted callee)
 
 -- a process whose handler reaches a wait
-abbrev pub handler_sentence : (process : Name) → List ℕ
+unfoldable pub handler_sentence : (process : Name) → List ℕ
 handler_sentence process = codes "the handler of " ++ (quoted process ++ codes " reaches a `wait`")
 
 -- the name of the routine whose name stands at the place

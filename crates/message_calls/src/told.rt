@@ -1,6 +1,7 @@
 //! The sentence for a rule for calls that fails at a place.
 
 ghost use Rattle.std.specs.Prelude.{◌≡◌, ◌++◌, IfOk, OnOk, find, map, option_map};
+ghost use Rattle.message_text.specs.Words.{quoted};
 ghost use Rattle.syntax_tree.specs.Parts.{processes};
 ghost use Rattle.syntax_tree.specs.Placed.{placed, placed_decl, placed_process};
 ghost use Rattle.message_calls.specs.Told.{IsCallTold, IsRoundTold, handler_sentence, handler_told, is_handled_at, round_sentence, routine_name};
@@ -12,22 +13,43 @@ use static_declarations::Declarations;
 use std::alloc::{AllocError, Global};
 use syntax_tree::{Declaration, Place, Process, Text};
 
+/// Puts two names with words between them.
+fn add_names(text: &mut Text, one: &[u8], words: &[u8], other: &[u8]) -> Result<(), AllocError>
+    ensures { OnOk result (text.new ≡ text.old ++
+        (quoted one.now ++ (words.now ++ quoted other.now))) }
+{
+    add_quoted(text, one)?;
+    text.extend(words)?;
+    add_quoted(text, other)
+}
+
+/// Puts a name among some words.
+fn add_among(text: &mut Text, before: &[u8], name: &[u8], behind: &[u8]) -> Result<(), AllocError>
+    ensures { OnOk result (text.new ≡ text.old ++
+        (before.now ++ (quoted name.now ++ behind.now))) }
+{
+    text.extend(before)?;
+    add_quoted(text, name)?;
+    text.extend(behind)
+}
+
 /// Puts that a routine reaches itself, and by which call.
 fn add_round(text: &mut Text, caller: &[u8], callee: &[u8]) -> Result<(), AllocError>
     ensures { OnOk result (text.new ≡ text.old ++ round_sentence caller.now callee.now) }
 {
-    add_quoted(text, caller)?;
-    text.extend(b" reaches itself through its call of ")?;
-    add_quoted(text, callee)
+    add_names(
+        text,
+        caller,
+        b" reaches itself through its call of ",
+        callee,
+    )
 }
 
 /// Puts that the handler of a process reaches a wait.
 fn add_handler(text: &mut Text, process: &[u8]) -> Result<(), AllocError>
     ensures { OnOk result (text.new ≡ text.old ++ handler_sentence process.now) }
 {
-    text.extend(b"the handler of ")?;
-    add_quoted(text, process)?;
-    text.extend(b" reaches a `wait`")
+    add_among(text, b"the handler of ", process, b" reaches a `wait`")
 }
 
 /// The sentence for the routine at the place that reaches itself, first by its call of the callee.
@@ -91,7 +113,16 @@ fn handled_at<'a>(place: Place, list: &'a [Declaration]) -> Option<&'a Process>
     None
 }
 
-/// The sentence for the process at the place that has a handler.
+/// The sentence for a process that has a handler.
+fn handler_text(alloc: Global, process: &Process) -> Result<Text, AllocError>
+    ensures { IfOk result (λ said. said ≡ handler_sentence (placed_process process.now).name) }
+{
+    let mut sentence = Text::new(alloc);
+    add_handler(&mut sentence, process.name.as_bytes())?;
+    Ok(sentence)
+}
+
+/// The sentence for the process at the place that has a handler, if one has.
 fn handler_told(
     alloc: Global,
     declarations: &Declarations<'_>,
@@ -102,8 +133,7 @@ fn handler_told(
     let Some(process) = handled_at(place, declarations.program().decls.as_slice()) else {
         return Ok(None);
     };
-    let mut sentence = Text::new(alloc);
-    add_handler(&mut sentence, process.name.as_bytes())?;
+    let sentence = handler_text(alloc, process)?;
     Ok(Some(sentence))
 }
 

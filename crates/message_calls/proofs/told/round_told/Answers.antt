@@ -8,7 +8,7 @@ pub returns-in_default : goal.returns-in_default
 returns-in_default c =
     record {
       callee = None;
-      way = subst (λ (o : Option Place). IsWayBack (placed c.args.declarations.now) c.args.place o) c.in_default.is c.in_ok-way_back.ensures;
+      way = subst (λ (o : Option Place). IsWayBack (placed c.args.declarations.now) c.args.place o) c.in_default.is c.in_ok-callee.ensures;
       is = refl;
     }
 
@@ -16,6 +16,6 @@ pub returns : goal.returns
 returns c =
     record {
       callee = Some c.in-Some.callee;
-      way = subst (λ (o : Option Place). IsWayBack (placed c.args.declarations.now) c.args.place o) c.in-Some.is c.in_ok-way_back.ensures;
+      way = subst (λ (o : Option Place). IsWayBack (placed c.args.declarations.now) c.args.place o) c.in-Some.is c.in_ok-callee.ensures;
       is = ap Some c.in_ok-sentence.ensures;
     }
