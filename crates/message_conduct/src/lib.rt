@@ -20,4 +20,5 @@ mod told;
 mod walk;
 
 pub use laws::{finds_each, tells_each};
+pub use sentences::routine_name;
 pub use told::conduct_sentence;

@@ -46,7 +46,7 @@ fn name_in<'a>(place: Place, decl: &'a Declaration) -> Option<&'a Name>
 }
 
 /// The same of all routines; nothing where there is none.
-fn routine_name(place: Place, list: &[Declaration]) -> &[u8]
+pub fn routine_name(place: Place, list: &[Declaration]) -> &[u8]
     ensures { result.now ≡ unwrap_or (name_at place (routines (map placed_decl list.now))) [] }
 {
     for decl in list {

@@ -1,5 +1,5 @@
 -- The message for a text that is no program.
-use Rattle.std.specs.Prelude.{◌≡◌, ◌≢◌, ℕ, ◌<◌, ◌≤◌, ◌++◌, ◌==◌, List, [], ◌∷◌, codes, decimal, length, max, take, Option, if◌then◌else◌}
+use Rattle.std.specs.Prelude.{◌≡◌, ◌≢◌, ℕ, ◌<◌, ◌≤◌, ◌++◌, ◌==◌, ◌||◌, ◌&&◌, Bool, List, [], ◌∷◌, codes, decimal, length, max, take, Option, Some, None, is_some, if◌then◌else◌}
 use Rattle.std.specs.Option.{unwrap_or}
 use Rattle.message_text.specs.Shown.{show}
 use Rattle.message_text.specs.Words.{head, note, quoted}
@@ -9,6 +9,9 @@ use Rattle.message_program.specs.Word.{bytes_at, word_at}
 use Rattle.message_expected.specs.Expected.{IsExpectedSet, before, front}
 use Rattle.message_unexpected.specs.Unexpected.{unexpected_notes}
 use Rattle.message_expected.specs.declared.kinds.Kind.{Kind}
+use Rattle.message_calls.specs.Told.{IsCallTold}
+use Rattle.message_conduct.specs.Conduct.{conduct_sentence}
+use Rattle.message_names.specs.Told.{name_notes, name_sentence}
 use Rattle.message_rules.specs.Findings as findings
 use Rattle.front_end.specs.Source.{IsTreeOf}
 use Rattle.static_names.specs.Resolved.{IsNamed}
@@ -104,20 +107,61 @@ pub record UnexpectedTold (file text : List ℕ) (place : Place) (toks : List To
 abbrev pub IsUnexpectedTold : (file text : List ℕ) (place : Place) (message : List ℕ) → Type 0
 IsUnexpectedTold file text place message = (toks : List Token) → tokens text toks → UnexpectedTold file text place toks message
 
+-- ---- a fault of a name
+
+-- the message with the sentence that names what is wrong, where there is one, and with these notes
+abbrev pub name_message : (file text : List ℕ) (number : ℕ) (place : Place) (said : Option (List ℕ)) (notes : List ℕ) → List ℕ
+name_message file text number place None notes = word_message file text number place
+name_message file text number place (Some sentence) notes = begun file text number place sentence ++ notes
+
+-- so it is of a tree
+abbrev pub tree_name_message : (file text : List ℕ) (number : ℕ) (place : Place) → Prog Place → List ℕ
+tree_name_message file text number place g = name_message file text number place (name_sentence g number place) (name_notes text g number place)
+
+-- the rule is one for names
+abbrev pub IsNameRule : (number : ℕ) → Type 0
+IsNameRule number = (20 ≤ number) × (number ≤ 23)
+
 -- ---- a fault of a rule
+
+-- the sentence that there is, else one that is so
+abbrev pub OrElse : Option (List ℕ) → (Option (List ℕ) → Type 0) → Option (List ℕ) → Type 0
+OrElse None IsSo said = IsSo said
+OrElse (Some sentence) IsSo said = said ≡ Some sentence
+
+-- what is said, with the rule's numbers and names, where a static rule fails: the first that there
+-- is of a number, of what stands where it may not, and of a call
+abbrev pub IsSaid : Prog Place → (number : ℕ) → Place → Option (List ℕ) → Type 0
+IsSaid g number place = OrElse (findings.rule_sentence g number place) (OrElse (conduct_sentence g number place) (IsCallTold g number place))
+
+-- the rules whose note is left out where the sentence has names
+abbrev pub is_said_alone : (number : ℕ) → Bool
+is_said_alone number = number == 34 || number == 38
+
+-- what can be done
+abbrev pub rule_remark : (number : ℕ) (said : Option (List ℕ)) (bytes : List ℕ) → List ℕ
+rule_remark number said bytes = if is_said_alone number && is_some said then [] else remark number bytes
 
 -- the message with the sentence that has the rule's numbers and names, where there is one
 abbrev pub rule_message : (file text : List ℕ) (number : ℕ) (place : Place) (said : Option (List ℕ)) → List ℕ
-rule_message file text number place said = told file text number place (unwrap_or said (word_sentence text number place))
+rule_message file text number place said =
+    begun file text number place (unwrap_or said (word_sentence text number place)) ++ note_of (rule_remark number said (bytes_at text place))
+
+-- so it is of a tree
+pub record IsRuleTold (file text : List ℕ) (number : ℕ) (place : Place) (g : Prog Place) (message : List ℕ) : Type 0 where
+  pub said : Option (List ℕ)
+  pub is_said : IsSaid g number place said
+  pub is : message ≡ rule_message file text number place said
 
 -- ---- the message
 
 -- by the number of the rule: where it is the grammar, with the notes by the text's tokens; where it
--- is a static rule, with its sentence for the text's tree
+-- is a rule for names or another static rule, with its sentence for the text's tree
 pub data IsFaultTold (file text : List ℕ) (number : ℕ) (place : Place) (message : List ℕ) : Type 0 where
-  of_word : number ≢ 10 → number < 30 → message ≡ word_message file text number place → IsFaultTold file text number place message
+  of_word : number ≢ 10 → ¬ IsNameRule number → number < 30 → message ≡ word_message file text number place → IsFaultTold file text number place message
   of_grammar : number ≡ 10 → IsUnexpectedTold file text place message → IsFaultTold file text number place message
-  of_rule : 30 ≤ number → ((g : Prog Place) → IsTreeOf text g → IsNamed g → message ≡ rule_message file text number place (findings.rule_sentence g number place)) → IsFaultTold file text number place message
+  of_name : IsNameRule number → ((g : Prog Place) → IsTreeOf text g → message ≡ tree_name_message file text number place g) → IsFaultTold file text number place message
+  of_rule : 30 ≤ number → ((g : Prog Place) → IsTreeOf text g → IsNamed g → IsRuleTold file text number place g message) → IsFaultTold file text number place message
 
 -- the message for a text that is no program, or that of a program that is too large: the number of
 -- the rule that fails first, and where

@@ -5,9 +5,10 @@
 //!
 //! `specs/Word.antt` says which word stands at a place, `specs/Rules.antt` has the sentence and the
 //! note of each rule, and `specs/Hints.antt` what is said of bytes that begin no word.
-//! `specs/Program.antt` puts them together, with all notes where the grammar fails
-//! (`message_expected`, `message_unexpected`), and with the sentence that has numbers and names where a rule for numbers
-//! does (`message_rules`).
+//! `specs/Program.antt` puts them together: with all notes where the grammar fails
+//! (`message_expected`, `message_unexpected`); with the sentence and the notes that name what is
+//! wrong where a rule for names does (`message_names`); and with the sentence that has numbers and
+//! names where another static rule does (`message_rules`, `message_conduct`, `message_calls`).
 //!
 //! `program_message` and `long_message` make exactly these messages; the only error is want of
 //! memory.
@@ -16,10 +17,12 @@
 mod grammar;
 mod hint_rows;
 mod messages;
+mod names;
 mod notes;
 mod place_words;
 mod rule_rows;
 mod rules;
+mod said;
 mod sentences;
 mod told;
 

@@ -5,6 +5,7 @@ ghost use Rattle.message_program.specs.Program.{IsFaultTold, IsProgramMessage};
 
 use crate::grammar::grammar_message;
 use crate::messages::{long_message, word_message};
+use crate::names::name_message;
 use crate::rules::rule_message;
 use std::alloc::{AllocError, Global};
 use syntax_tree::{Place, Text};
@@ -24,6 +25,7 @@ fn fault_message(
 {
     match number {
         10 => grammar_message(alloc, file, text, place),
+        20..=23 => name_message(alloc, file, text, number, place),
         30.. => rule_message(alloc, file, text, number, place),
         _ => word_message(alloc, file, text, number, place),
     }
@@ -31,7 +33,7 @@ fn fault_message(
 
 /// The message for a text that is no program, or that of a program that is too large: the number of
 /// the rule that fails first, and where. Where it is the grammar (10), the text is lexed again, and
-/// parsed once for each kind of word; where it is a static rule (30 and above), it is read again.
+/// parsed once for each kind of word; where it is a static rule (20 and above), it is read again.
 ///
 /// The only error is want of memory.
 pub fn program_message(

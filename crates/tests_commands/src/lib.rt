@@ -13,6 +13,8 @@ mod devices;
 #[cfg(test)]
 mod earliest;
 #[cfg(test)]
+mod faults;
+#[cfg(test)]
 mod messages;
 #[cfg(test)]
 mod stops;

@@ -72,19 +72,6 @@ K: overhead in ticks, 0 to 1000; 0 where it is not given
         line: "check P",
         given: &[(
             "P",
-            "program a\ndevice d : out\nprocess p : periodic frame 100\nvar x : int\nbegin\nput D 1\nend p\nend a\n",
-        )],
-        failures: NO_FAILURES,
-        told: "P:6:5: E20: `D` is declared nowhere in reach
-      6 | put D 1
-        |     ^
-        = declare it, or correct the name
-",
-    },
-    Row {
-        line: "check P",
-        given: &[(
-            "P",
             "program a\ndevice d : out\nprocess p : periodic frame 100\nvar x : int\nbegin\nx = 1\nend p\nend a\n",
         )],
         failures: NO_FAILURES,
@@ -112,18 +99,6 @@ K: overhead in ticks, 0 to 1000; 0 where it is not given
       6 | x := (7 % 3)
         |      ^
         = `%` made the rest of line 6 a comment; the remainder is `mod`
-",
-    },
-    Row {
-        line: "check P",
-        given: &[(
-            "P",
-            "program a\ndevice d : out\nprocess p : periodic frame 100\nvar x : int\nbegin\nput d true\nend p\nend a\n",
-        )],
-        failures: NO_FAILURES,
-        told: "P:6:1: E30: types or numbers of arguments do not agree
-      6 | put d true
-        | ^^^
 ",
     },
     Row {
@@ -195,7 +170,7 @@ rte: `rte why P 1` takes the bounds apart; `rte fit P 1` tells what would fit
 ];
 
 /// Just this is told.
-fn is_told(line: &str, message: &str, want: &str) -> Result<(), Fail> {
+pub(crate) fn is_told(line: &str, message: &str, want: &str) -> Result<(), Fail> {
     if message == want {
         return Ok(());
     }
