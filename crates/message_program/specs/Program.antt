@@ -12,6 +12,7 @@ use Rattle.message_expected.specs.declared.kinds.Kind.{Kind}
 use Rattle.message_calls.specs.Told.{IsCallTold}
 use Rattle.message_conduct.specs.Conduct.{conduct_sentence}
 use Rattle.message_names.specs.Told.{name_notes, name_sentence}
+use Rattle.message_types.specs.Told.{type_sentence}
 use Rattle.message_rules.specs.Findings as findings
 use Rattle.front_end.specs.Source.{IsTreeOf}
 use Rattle.static_names.specs.Resolved.{IsNamed}
@@ -129,10 +130,15 @@ abbrev pub OrElse : Option (List ℕ) → (Option (List ℕ) → Type 0) → Opt
 OrElse None IsSo said = IsSo said
 OrElse (Some sentence) IsSo said = said ≡ Some sentence
 
--- what is said, with the rule's numbers and names, where a static rule fails: the first that there
--- is of a number, of what stands where it may not, and of a call
+-- what is said of statements and calls: the first that there is of what does not agree, of what
+-- stands where it may not, and of a call
+abbrev pub IsSaidOfTexts : Prog Place → (number : ℕ) → Place → Option (List ℕ) → Type 0
+IsSaidOfTexts g number place = OrElse (type_sentence g number place) (OrElse (conduct_sentence g number place) (IsCallTold g number place))
+
+-- what is said, with the rule's numbers and names, where a static rule fails: of a number, where
+-- there is something, else of statements and calls
 abbrev pub IsSaid : Prog Place → (number : ℕ) → Place → Option (List ℕ) → Type 0
-IsSaid g number place = OrElse (findings.rule_sentence g number place) (OrElse (conduct_sentence g number place) (IsCallTold g number place))
+IsSaid g number place = OrElse (findings.rule_sentence g number place) (IsSaidOfTexts g number place)
 
 -- the rules whose note is left out where the sentence has names
 abbrev pub is_said_alone : (number : ℕ) → Bool

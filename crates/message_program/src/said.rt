@@ -4,11 +4,13 @@ ghost use Rattle.std.specs.Prelude.{IfOk};
 ghost use Rattle.message_calls.specs.Told.{IsCallTold};
 ghost use Rattle.message_conduct.specs.Conduct.{conduct_sentence};
 ghost use Rattle.message_program.specs.Program.{IsSaid, OrElse};
+ghost use Rattle.message_types.specs.Told.{type_sentence};
 ghost use Rattle.syntax_tree.specs.Placed.{placed};
 
 use message_calls::call_sentence;
 use message_conduct::conduct_sentence;
 use message_rules::rule_sentence;
+use message_types::type_sentence;
 use static_declarations::Declarations;
 use static_names::ResolvedProgram;
 use std::alloc::{AllocError, Global};
@@ -30,7 +32,24 @@ fn said_of_statements(
     call_sentence(alloc, declarations, number, place)
 }
 
-/// What is said of a number, and else of statements.
+/// What is said of what does not agree, and else of what stands where it may not, and of a call.
+fn said_of_types(
+    alloc: Global,
+    declarations: &Declarations<'_>,
+    number: u8,
+    place: Place,
+) -> Result<Option<Text>, AllocError>
+    ensures { IfOk result (λ said. OrElse (type_sentence (placed declarations.now) number place)
+        (OrElse (conduct_sentence (placed declarations.now) number place)
+        (IsCallTold (placed declarations.now) number place)) said) }
+{
+    if let Some(sentence) = type_sentence(alloc, declarations, number, place)? {
+        return Ok(Some(sentence));
+    }
+    said_of_statements(alloc, declarations, number, place)
+}
+
+/// What is said of a number, and else of types, statements and calls.
 pub(crate) fn said(
     alloc: Global,
     program: &ResolvedProgram,
@@ -43,5 +62,5 @@ pub(crate) fn said(
         return Ok(Some(sentence));
     }
     let declarations = Declarations::new(alloc, program)?;
-    said_of_statements(alloc, &declarations, number, place)
+    said_of_types(alloc, &declarations, number, place)
 }
