@@ -7,13 +7,17 @@
 //! they would come. `specs/Reasons.antt` says which `Reason` is that of the events from a
 //! configuration on, the first that applies. An event that a program does is a `SourceEvent`
 //! (`specs/Events.antt`): its numbers are as wide as the configuration in code has them, and a log's
-//! are not. The definitions alone stand here, with what follows from them in `proofs/`: the
-//! start event that is due next stands at one tick (`Next`), the missing ones are found one by one
-//! (`Listing`), and of ready processes one is the first (`Firsts`).
+//! are not. A `Finding` is a verdict with the reason (`specs/Findings.antt`).
+//!
+//! The definitions alone stand here, with what follows from them in `proofs/`: the start event that
+//! is due next is one event (`Next`), the missing ones begin with it (`Listing`), of ready processes
+//! one is the first (`Firsts`), and what is found is what is judged (`Judging`).
 #![tactic(auto)]
 
 mod event;
+mod finding;
 mod reason;
 
 pub use event::{SourceAct, SourceEvent};
+pub use finding::Finding;
 pub use reason::Reason;
