@@ -11,9 +11,9 @@ ghost use Rattle.replay_accept.specs.Running.{AreRules, program_of};
 ghost use Rattle.replay_reason_spec.specs.Reasons.{ActsNext};
 
 use replay_accept::Rules;
+use replay_calls::EvalContext;
 use replay_next::next_action;
 use replay_state::{Activity, Config, NextAction};
-use replay_calls::EvalContext;
 use std::alloc::AllocError;
 
 /// Whether it is work since a release.
