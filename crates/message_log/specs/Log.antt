@@ -1,4 +1,4 @@
--- The messages for a text that is no log of a program, and for a log that is of no run.
+-- The messages for a text that is no log of a program.
 use Rattle.std.specs.Prelude.{ℕ, Bool, ◌++◌, ◌&&◌, not, List, [], ◌∷◌, Option, Some, None, length, bytes_eq, codes, find, map, nat_le, nat_lt, if◌then◌else◌}
 use Rattle.std.specs.List.{list_all, list_any}
 use Rattle.text_fields.specs.LineFields.{is_digit, is_numeral}
@@ -110,8 +110,3 @@ fault_message file text names Memory = []
 unfoldable pub log_message : (file text : List ℕ) (names : ImageNames) (fault : LogFault) → List ℕ
 log_message file text names fault =
     if nat_lt 67108864 (length text) then long_message file else fault_message file text names fault
-
--- the message for a log that is that of no run, from this line on
-unfoldable pub refused_message : (file text : List ℕ) (line : ℕ) → List ℕ
-refused_message file text line =
-    told_line file text line (codes "L3") (codes "the log is no run of the program from this line on")

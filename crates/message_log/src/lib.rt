@@ -3,15 +3,20 @@
 //! The family Messages: what a call that fails tells the one who made it. A line of a log that is
 //! the text of no event is shown, with the first of its words that is wrong, or with the form that
 //! a line of its event has. A log that is that of no run of the program is told by its first line
-//! that is of none.
+//! that is of none, and by the reason (`replay_reason_spec`), with the lines of the events that
+//! are missing, due next or allowed.
 //!
-//! `specs/Log.antt` has the table of the events and defines the messages, and each call makes
-//! exactly its message. The only error is want of memory.
+//! `specs/Log.antt` has the table of the events and defines the messages for texts that are no
+//! logs, `specs/Refused.antt` the one for a log that is of no run, and each call makes exactly its
+//! message. The only error is want of memory.
 #![tactic(auto)]
 
+mod event_line;
 mod messages;
 mod reasons;
+mod refused;
 mod table;
 mod ticks;
 
-pub use messages::{log_message, long_message, refused_message};
+pub use messages::{log_message, long_message};
+pub use refused::refused_message;

@@ -2,7 +2,7 @@
 
 ghost use Rattle.std.specs.Prelude.{◌≡◌, IfOk};
 ghost use Rattle.message_log.specs.Log.{fault_message, line_message, log_message, long_message};
-ghost use Rattle.message_log.specs.Log.{refused_message, told_line};
+ghost use Rattle.message_log.specs.Log.{told_line};
 
 use crate::reasons::reason;
 use event_log::LogFault;
@@ -26,7 +26,7 @@ pub fn long_message(alloc: Global, file: &str) -> Result<Text, AllocError>
 }
 
 /// What is wrong with a line, and the line.
-fn told_line(
+pub(crate) fn told_line(
     alloc: Global,
     file: &str,
     source: &[u8],
@@ -100,19 +100,4 @@ pub fn log_message(
         return long_message(alloc, file);
     }
     fault_message(alloc, file, text, names, fault)
-}
-
-/// The message for a log that is that of no run of a program, from this line on: the file and the
-/// line, and the line itself.
-#[tactic(auto, unfolding(crate::specs::Log::refused_message))]
-pub fn refused_message(
-    alloc: Global,
-    file: &str,
-    text: &[u8],
-    line: u32,
-) -> Result<Text, AllocError>
-    ensures { IfOk result (λ message. message ≡ refused_message file.now text.now line) }
-{
-    let sentence = b"the log is no run of the program from this line on";
-    told_line(alloc, file, text, line as usize, b"L3", sentence)
 }

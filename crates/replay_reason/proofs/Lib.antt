@@ -1,0 +1,5 @@
+mod Finding
+mod Following
+mod Readiness
+mod Starting
+mod Telling

@@ -1,0 +1,4 @@
+pub mod Next
+pub mod Listing
+pub mod Firsts
+pub mod Judging

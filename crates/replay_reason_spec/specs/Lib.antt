@@ -1,0 +1,4 @@
+pub mod Events
+pub mod Missing
+pub mod Reasons
+pub mod Findings
