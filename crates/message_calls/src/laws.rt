@@ -4,7 +4,7 @@ ghost use Rattle.message_calls.specs.Laws.{TellsRounds, TellsHandlers};
 
 /// A sentence is there exactly where a routine reaches itself, and wherever a handler reaches a
 /// wait.
-pub fn tells_each()
+pub fn tells_calls()
     ensures rounds { TellsRounds }
     ensures handlers { TellsHandlers }
 {}

@@ -1,5 +1,5 @@
 use Rattle.message_calls.proofs.Telling.{tells-rounds, tells-handlers}
-use Rattle.message_calls.proofs.laws.tells_each.Goals as goal
+use Rattle.message_calls.proofs.laws.tells_calls.Goals as goal
 
 pub returns-clause-rounds : goal.returns-clause-rounds
 returns-clause-rounds c g place said told = tells-rounds g place said told
