@@ -22,8 +22,8 @@ use Rattle.sched_sections.specs.Sections.{bounds_text}
 use Rattle.sched_sections.proofs.Tasks as sections
 use Rattle.sched_program.specs.Tasks.{AreTasksOf}
 use Rattle.sched_program.proofs.Levels.{rank_low, rank_high}
-use Rattle.sched_why.specs.Blockers.{IsBlockerOf}
-use Rattle.sched_why.specs.Levels.{order, IsLevelOf, IsWhyText}
+use Rattle.sched_program.specs.Blockers.{IsBlockerOf}
+use Rattle.sched_program.specs.Levels.{order, IsLevelOf, IsWhyText}
 use Rattle.compile.specs.Steps.{IsRanked}
 use Rattle.analysis_command.specs.Analysed.{AreLevels}
 use Rattle.analysis_command.specs.Told.{IsJudged}

@@ -21,14 +21,14 @@ use Rattle.codegen_law.proofs.Rows.{placed, program_texts, text_at, text_same}
 use Rattle.codegen_law.proofs.NumberedLemmas.{text_listed, listed_text}
 use Rattle.codegen_law.proofs.SoundLemmas.{are_numbered}
 use Rattle.sched_program.specs.Tasks.{process_comes_to, IsLowerStay, IsBlock}
-use Rattle.sched_why.specs.Blockers.{entry_of, place_in}
+use Rattle.sched_program.specs.Blockers.{entry_of, place_in}
 use Rattle.built_tasks_law.specs.Calls.{RoutinesCallTheirTexts, ProcessesCallTheirTexts}
 use Rattle.built_tasks_law.specs.Ranks.{RanksAreOfTheMeaning, CeilingsAreOfTheMeaning}
 use Rattle.built_tasks_law.specs.Touches.{process_comes_to_one}
 use Rattle.built_tasks_law.proofs.Whole.{as_many_routines}
 use Rattle.built_tasks_law.proofs.Comes.{Goal, process_goal, process_comes}
-use Rattle.code_goals.specs.declared.nearest.Reached.{Reached}
-use Rattle.code_goals.specs.Goals.{calls_at, earliest_of, IsFirst, IsFirstReached}
+use Rattle.code_names.specs.declared.nearest.Reached.{Reached}
+use Rattle.code_names.specs.Goals.{calls_at, earliest_of, IsFirst, IsFirstReached}
 use Rattle.analysis_command.specs.declared.graph.CallGraph.{CallGraph}
 use Rattle.analysis_command.specs.Graphs.{IsCallGraph, IsImageOfText}
 use Rattle.analysis_command.specs.Found.{IsFoundOf, IsBlockerAt, FoundIsTheBlocker}

@@ -23,8 +23,8 @@ use Rattle.command_answers.specs.Acting.{puts}
 use Rattle.command_answers.specs.Acts.{outcome_of}
 use Rattle.command_answers.proofs.Coming.{outcome_of_puts}
 use Rattle.sched_program.specs.Tasks.{IsInTime, IsNotInTime}
-use Rattle.sched_why.specs.Fits.{IsFitText}
-use Rattle.sched_why.specs.Levels.{IsWhyText}
+use Rattle.sched_program.specs.Fits.{IsFitText}
+use Rattle.sched_program.specs.Levels.{IsWhyText}
 
 -- ---- `why`
 

@@ -16,8 +16,8 @@ use Rattle.sched_fit.specs.declared.rows.ProcessFit.{ProcessFit}
 use Rattle.sched_fit.specs.Rows.{IsFitOf}
 use Rattle.sched_program.specs.Tasks.{AreTasksOf}
 use Rattle.sched_program.specs.Once.{TasksAreOne}
-use Rattle.sched_why.specs.Fits.{IsFitText}
-use Rattle.sched_why.specs.WhyLaw.{OverheadsAreAdded, OverheadsThatFitAreOfTheText}
+use Rattle.sched_program.specs.Fits.{IsFitText}
+use Rattle.sched_program.specs.WhyLaw.{OverheadsAreAdded, OverheadsThatFitAreOfTheText}
 use Rattle.built_tasks_law.specs.Tasks.{RanksAreOfTheText, TasksAreOfTheText}
 use Rattle.compile.specs.Steps.{IsRanked}
 use Rattle.analysis_command.specs.Fitted.{CanFit, IsFitOfImage}

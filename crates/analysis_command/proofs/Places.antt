@@ -20,9 +20,9 @@ use Rattle.code_names.specs.declared.text.RoutineOwner.TheVariants as owner_is
 use Rattle.code_names.specs.declared.text.Body.{Body}
 use Rattle.code_names.specs.Texts.{is_text, owner_of, text_index, text_of, texts_of}
 use Rattle.code_names.specs.Parts.{all_texts}
-use Rattle.sched_why.specs.Blockers.{place_in}
-use Rattle.code_goals.specs.declared.nearest.Reached.{Reached}
-use Rattle.code_goals.specs.Goals.{calls_at, earliest_of, AreFirstPlaces, IsFirst}
+use Rattle.sched_program.specs.Blockers.{place_in}
+use Rattle.code_names.specs.declared.nearest.Reached.{Reached}
+use Rattle.code_names.specs.Goals.{calls_at, earliest_of, AreFirstPlaces, IsFirst}
 use Rattle.analysis_command.specs.declared.graph.CallGraph.{CallGraph}
 use Rattle.analysis_command.specs.Found.{IsFoundOf}
 use Rattle.analysis_command.specs.Goals.{low_ceiling, goal_of, is_goal, goal_place, AreGoals}

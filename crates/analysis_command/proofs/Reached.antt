@@ -26,13 +26,13 @@ use Rattle.codegen_law.proofs.NameNumbers.{IsText, text_named}
 use Rattle.codegen_law.proofs.NumberedLemmas.{listed_text}
 use Rattle.codegen_law.proofs.SoundLemmas.{are_numbered, below, below_all, well_formed_programs_are_sound}
 use Rattle.sched_program.specs.Tasks.{some_called, process_calls}
-use Rattle.sched_why.specs.Blockers.{place_in}
+use Rattle.sched_program.specs.Blockers.{place_in}
 use Rattle.built_tasks_law.specs.Calls.{by_number, RoutinesCallTheirTexts, ProcessesCallTheirTexts}
 use Rattle.built_tasks_law.specs.Ranks.{CeilingsAreOfTheMeaning}
 use Rattle.built_tasks_law.specs.Touches.{comes_to_one, process_comes_to_one}
 use Rattle.built_tasks_law.proofs.Lists.{called_alike}
 use Rattle.built_tasks_law.proofs.Tests.{or_both, or_false}
-use Rattle.code_goals.specs.Goals.{earlier, place_at, earliest_of, calls_at, AreFirstPlaces}
+use Rattle.code_names.specs.Goals.{earlier, place_at, earliest_of, calls_at, AreFirstPlaces}
 use Rattle.analysis_command.specs.Goals.{low_ceiling, goal_of, is_goal, AreGoals}
 use Rattle.analysis_command.specs.Graphs.{IsImageOfText}
 

@@ -15,12 +15,12 @@ use Rattle.image.specs.Raw.{image_of, process_of}
 use Rattle.valid_image.specs.Tasks.{tasks_of}
 use Rattle.valid_image.specs.Times.{rank_fault}
 use Rattle.code_measures.proofs.Valid.{no_rank_fault}
-use Rattle.checked_law.specs.Ready.{CheckedProgramsAreReady}
-use Rattle.checked_law.specs.Small.{GeneratedCodeIsCode}
+use Rattle.built_image_law.specs.Ready.{CheckedProgramsAreReady}
+use Rattle.built_image_law.specs.Small.{GeneratedCodeIsCode}
 use Rattle.static_semantics.specs.Static.{IsChecked}
 use Rattle.sched_response.specs.Demand.{AreTasks}
 use Rattle.sched_program.proofs.Levels.{rank_low, rank_high}
-use Rattle.sched_why.specs.Levels.{order}
+use Rattle.sched_program.specs.Levels.{order}
 use Rattle.loader.proofs.InOrder.{are_tasks, tasks_long}
 use Rattle.built_tasks_law.specs.Tasks.{RanksAreOfTheText}
 use Rattle.compile.specs.Steps.{IsRanked}

@@ -7,8 +7,8 @@ use Rattle.source_semantics.specs.Names.{processes}
 use Rattle.image.specs.declared.raw.RawImage.{RawImage}
 use Rattle.image.specs.Raw.{image_of, process_of}
 use Rattle.valid_image.specs.Tasks.{tasks_of}
-use Rattle.checked_law.specs.Ready.{CheckedProgramsAreReady}
-use Rattle.checked_law.specs.Small.{GeneratedCodeIsCode}
+use Rattle.built_image_law.specs.Ready.{CheckedProgramsAreReady}
+use Rattle.built_image_law.specs.Small.{GeneratedCodeIsCode}
 use Rattle.built_tasks_law.specs.Ranks.{RanksAreOfTheMeaning}
 use Rattle.static_semantics.specs.Static.{IsChecked}
 use Rattle.sched_program.specs.Tasks.{AreTasksOf}

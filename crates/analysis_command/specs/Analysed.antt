@@ -11,7 +11,7 @@ use Rattle.sched_table.specs.Table.{IsBoundAt}
 use Rattle.sched_sections.specs.declared.levels.Level.{Level}
 use Rattle.sched_sections.specs.Levels.{level_at}
 use Rattle.sched_program.specs.Tasks.{AreTasksOf}
-use Rattle.sched_why.specs.Blockers.{IsBlockerOf}
+use Rattle.sched_program.specs.Blockers.{IsBlockerOf}
 use Rattle.compile.specs.Steps.{IsRanked}
 use Rattle.analysis_command.specs.declared.graph.CallGraph.{CallGraph}
 use Rattle.analysis_command.specs.Graphs.{IsCallGraph, IsImageOfText}

@@ -7,9 +7,9 @@ use Rattle.machine_semantics.specs.Image.{Image}
 use Rattle.code_spec.specs.Numbering.{texts_from}
 use Rattle.sched_program.specs.Tasks.{IsLowerStay, IsBlock}
 use Rattle.sched_sections.specs.declared.levels.Blocker.{Blocker}
-use Rattle.sched_why.specs.Blockers.{entry_of, place_in, IsBlocker}
-use Rattle.code_goals.specs.declared.nearest.Reached.{Reached}
-use Rattle.code_goals.specs.Goals.{calls_at, earliest_of, AreFirstPlaces, IsFirst}
+use Rattle.sched_program.specs.Blockers.{entry_of, place_in, IsBlocker}
+use Rattle.code_names.specs.declared.nearest.Reached.{Reached}
+use Rattle.code_names.specs.Goals.{calls_at, earliest_of, AreFirstPlaces, IsFirst}
 use Rattle.analysis_command.specs.declared.graph.CallGraph.{CallGraph}
 use Rattle.analysis_command.specs.Graphs.{IsCallGraph, IsImageOfText}
 use Rattle.analysis_command.specs.Goals.{AreGoals}

@@ -1,7 +1,7 @@
 -- The entries that can make a block, as an image has them.
 use Rattle.std.specs.Prelude.{◌≡◌, ◌<◌, ◌&&◌, ℕ, Bool, false, cond, List, Option, Some, None, length, nat_eq, nat_le, slice_get, slice_index}
 use Rattle.machine_semantics.specs.Image.{Image, Monitor, Routine}
-use Rattle.code_goals.specs.Goals.{place_at}
+use Rattle.code_names.specs.Goals.{place_at}
 
 -- the monitor is there, and its ceiling is at most the rank
 abbrev pub low_ceiling : Option Monitor → (held_up : ℕ) → Bool

@@ -8,9 +8,9 @@ use Rattle.code_spec.specs.Numbering.{numbered}
 use Rattle.code_spec.specs.Compiled.{IsCodeOf}
 use Rattle.code_measures.specs.Declared.{Declares}
 use Rattle.code_measures.specs.Whole.{HasRanks}
-use Rattle.wellformed.specs.WellFormed.{IsWellFormed}
+use Rattle.static_semantics.specs.WellFormed.{IsWellFormed}
 use Rattle.codegen_law.specs.Ruled.{NamesApart}
-use Rattle.sched_why.specs.Blockers.{place_in}
+use Rattle.sched_program.specs.Blockers.{place_in}
 use Rattle.analysis_command.specs.declared.graph.CallGraph.{CallGraph}
 
 -- the processes in the order of ranks

@@ -4,8 +4,8 @@ use Rattle.syntax_tree.specs.declared.place.Place.{Place}
 use Rattle.syntax_tree.specs.Placed.{Prog, plain}
 use Rattle.syntax_tree.specs.Plain.{Program}
 use Rattle.sched_program.specs.Tasks.{IsInTime, IsNotInTime}
-use Rattle.sched_why.specs.Fits.{IsFitText}
-use Rattle.sched_why.specs.Levels.{IsWhyText}
+use Rattle.sched_program.specs.Fits.{IsFitText}
+use Rattle.sched_program.specs.Levels.{IsWhyText}
 use Rattle.command_due.specs.Source.{IsWritten}
 use Rattle.compile.specs.Build.{IsLateOf}
 use Rattle.compile.specs.declared.built.LateProgram.{LateProgram}

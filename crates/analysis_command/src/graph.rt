@@ -5,7 +5,7 @@ ghost use Rattle.syntax_tree.specs.Placed.{placed, plain};
 ghost use Rattle.image.specs.Raw.{image_of};
 ghost use Rattle.code_spec.specs.Numbering.{numbered, place_among};
 ghost use Rattle.code_names.specs.Texts.{text_of, texts_of};
-ghost use Rattle.sched_why.specs.Blockers.{place_in};
+ghost use Rattle.sched_program.specs.Blockers.{place_in};
 ghost use Rattle.loader_code.specs.Owned.{AreCalls};
 ghost use Rattle.analysis_command.specs.Graphs.{AreRanked, IsCallGraph};
 

@@ -9,8 +9,8 @@ ghost use Rattle.analysis_command.specs.Analysed.{AreLevels, IsAnalysed, IsLevel
 use crate::{CallGraph, blocker, call_graph};
 use built_tasks_law::ranks_and_ceilings::ranks_are_of_the_meaning;
 use built_tasks_law::tasks_of_text::tasks_are_of_the_text;
-use checked_law::generated_within_limits::generated_code_is_code;
-use checked_law::premises_of_laws::checked_programs_are_ready;
+use built_image_law::generated_within_limits::generated_code_is_code;
+use built_image_law::premises_of_laws::checked_programs_are_ready;
 use code_names::Numbering;
 use image::RawImage;
 use loader::{task_at, task_set};

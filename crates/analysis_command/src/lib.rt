@@ -1,11 +1,11 @@
 //! `why` and `fit`: the bounds of a program taken apart, and what fits.
 //!
-//! `sched_why` says which text takes the bounds of a program apart (`IsWhyText`), and which tells
-//! what fits (`IsFitText`), both by its text alone. `prepare_why` and `prepare_fit` read a text,
-//! judge it, and make the act that puts these: the levels of the program by its image, the entry
-//! and the process that make each block (`code_goals` finds the first goal that calls come to), and
-//! what fits by `sched_fit`. Of a text that is refused, and of a program that `why` finds late, a
-//! person is told the message that `command_refusals` says.
+//! `sched_program` says which text takes the bounds of a program apart (`IsWhyText`), and which
+//! tells what fits (`IsFitText`), both by its text alone. `prepare_why` and `prepare_fit` read a
+//! text, judge it, and make the act that puts these: the levels of the program by its image, the
+//! entry and the process that make each block (`code_names` finds the first goal that calls come
+//! to), and what fits by `sched_fit`. Of a text that is refused, and of a program that `why` finds
+//! late, a person is told the message that `command_refusals` says.
 #![tactic(auto)]
 
 mod acts;

@@ -5,7 +5,7 @@ ghost use Rattle.syntax_tree.specs.Placed.{placed, plain};
 ghost use Rattle.image.specs.Raw.{image_of};
 ghost use Rattle.loader_code.specs.Owned.{AreCalls};
 ghost use Rattle.sched_program.specs.Tasks.{IsBlock};
-ghost use Rattle.sched_why.specs.Blockers.{IsBlockerOf};
+ghost use Rattle.sched_program.specs.Blockers.{IsBlockerOf};
 ghost use Rattle.analysis_command.specs.Graphs.{IsCallGraph, IsImageOfText};
 ghost use Rattle.analysis_command.specs.Found.{IsFoundOf};
 
@@ -13,8 +13,7 @@ use crate::found_law::what_is_found_is_the_blocker;
 use crate::goals::goals;
 use crate::graph::CallGraph;
 use crate::naming::named_blocker;
-use code_goals::{Reached, first_places, first_reached};
-use code_names::Numbering;
+use code_names::{Numbering, Reached, first_places, first_reached};
 use image::RawImage;
 use sched_sections::Blocker;
 use std::alloc::{AllocError, Global};

@@ -1,3 +1,4 @@
 pub mod Mnemonics
 pub mod TreeText
 pub mod Text
+pub mod Operands

@@ -2,7 +2,7 @@
 use Rattle.std.specs.Prelude.{ℕ, suc, ◌++◌, List, [], ◌∷◌, cond, Option, Some, None, map, filter_map}
 use Rattle.syntax_tree.specs.Plain.{Name, Monitor, Process, Declaration, device, Program}
 use Rattle.source_semantics.specs.Names.{processes, monitors, conditions_of, event_in, frame_of}
-use Rattle.wellformed.specs.WellFormed.{is_event_of}
+use Rattle.static_semantics.specs.WellFormed.{is_event_of}
 use Rattle.image.specs.declared.names.ImageNames.{ImageNames}
 use Rattle.image.specs.declared.names.ConditionName.{ConditionName}
 use Rattle.image.specs.declared.names.DeviceName.{DeviceName}

@@ -5,7 +5,7 @@ use Rattle.std.proofs.lemmas.Bool.Decides.{nat_tests}
 use Rattle.base.specs.Words.{within}
 use Rattle.syntax_tree.specs.Plain.{Constant, Trigger, periodic, at_event, Program}
 use Rattle.source_semantics.specs.Names.{as_count, constant_value, count_value, frame_of, deadline_or, deadline_of}
-use Rattle.wellformed.specs.WellFormed.{DeadlineFits, ActivationFits}
+use Rattle.static_semantics.specs.WellFormed.{DeadlineFits, ActivationFits}
 
 not_below : (low high n : ℕ) → int_le (pos low) (pos n) && int_le (pos n) (pos high) ≡ true → low ≤ n
 not_below low high n is = grind (arith, nat_tests, is)

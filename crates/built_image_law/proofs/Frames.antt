@@ -11,7 +11,7 @@ use Rattle.machine_semantics.specs.Image as image
 use Rattle.image.specs.declared.names.EventName.{EventName}
 use Rattle.code_spec.specs.Compiled.{IsReleased}
 use Rattle.codegen_law.proofs.NameNumbers.{name_same, name_is}
-use Rattle.wellformed.specs.WellFormed.{ActivationFits, ProcessFits, IsWellFormed, is_event_of}
+use Rattle.static_semantics.specs.WellFormed.{ActivationFits, ProcessFits, IsWellFormed, is_event_of}
 use Rattle.codegen_law.proofs.Counts.{one_low}
 use Rattle.script.specs.Scripts as script
 use Rattle.built_image.specs.Named.{frame_released, named_event, names_of}

@@ -15,7 +15,7 @@ use Rattle.valid_image.specs.Valid.{HasHandler, HasLimits, IsInLimits}
 use Rattle.code_spec.specs.Compiled.{inserted, ascending, EmitsHandler, EmitsProcesses, IsCodeOf}
 use Rattle.code_cost_spec.specs.Levels.{stack_of_process}
 use Rattle.code_measures.specs.Declared.{DeclaresProcess}
-use Rattle.wellformed.specs.WellFormed.{ProcessFits, IsWellFormed}
+use Rattle.static_semantics.specs.WellFormed.{ProcessFits, IsWellFormed}
 use Rattle.built_image.specs.Built.{IsShaped}
 use Rattle.command_due.specs.Source.{IsWritten}
 use Rattle.built_image_law.proofs.Texts.{Emitted, emitted}

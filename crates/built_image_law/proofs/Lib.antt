@@ -22,3 +22,16 @@ pub mod Activations
 pub mod Joined
 pub mod Tokens
 pub mod Short
+pub mod QuietLemmas
+pub mod Differ
+pub mod Standing
+pub mod Shared
+pub mod Apart
+pub mod Walk
+pub mod Leads
+pub mod Handlers
+pub mod CheckedJoined
+pub mod GeneratedLemmas
+pub mod GeneratedRunsJoined
+pub mod checked_lawTexts
+pub mod SmallLemmas

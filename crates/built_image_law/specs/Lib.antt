@@ -5,3 +5,8 @@ pub mod Once
 pub mod Suits
 pub mod Limits
 pub mod Short
+pub mod Quiet
+pub mod Ready
+pub mod Generated
+pub mod Runs
+pub mod Small

@@ -10,7 +10,7 @@ use Rattle.image.specs.Named.{NamedImage}
 use Rattle.valid_image.specs.Times.{needed_block}
 use Rattle.valid_image.specs.Valid.{HasOwner, HasLimits}
 use Rattle.code_spec.specs.Compiled.{IsCodeOf}
-use Rattle.wellformed.specs.WellFormed.{IsWellFormed}
+use Rattle.static_semantics.specs.WellFormed.{IsWellFormed}
 use Rattle.code_cost_spec.specs.Levels.{stack_of_process}
 use Rattle.code_measures.specs.Declared.{Declares}
 use Rattle.front_end.specs.Source.{IsTreeOf}

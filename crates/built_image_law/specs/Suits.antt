@@ -3,7 +3,7 @@ use Rattle.std.specs.Prelude.{ℕ, List}
 use Rattle.syntax_tree.specs.Plain.{Program}
 use Rattle.machine_semantics.specs.Image.{Image}
 use Rattle.code_spec.specs.Compiled.{IsCodeOf}
-use Rattle.wellformed.specs.WellFormed.{IsWellFormed}
+use Rattle.static_semantics.specs.WellFormed.{IsWellFormed}
 use Rattle.code_lifting.specs.Compiled.{IsFrom}
 use Rattle.sched_timing.specs.Timed.{RespectsFrames}
 use Rattle.script.specs.declared.script.ScriptLine.{ScriptLine}

@@ -19,7 +19,7 @@ use Rattle.code_cost_spec.specs.Levels.{stay_of_entry}
 use Rattle.code_measures.specs.Declared.{Declares}
 use Rattle.code_measures.specs.Whole.{HasRanks}
 use Rattle.code_lifting.proofs.Words.{same_length}
-use Rattle.wellformed.specs.WellFormed.{IsWellFormed}
+use Rattle.static_semantics.specs.WellFormed.{IsWellFormed}
 use Rattle.codegen_law.specs.Ruled.{NamesApart}
 use Rattle.codegen_law.specs.Numbered.{AreNumbered}
 use Rattle.codegen_law.proofs.NameNumbers.{text_named, IsText}

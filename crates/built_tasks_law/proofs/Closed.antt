@@ -7,10 +7,10 @@ use Rattle.syntax_tree.specs.Plain.{Name, Answers, Routine, Process, Program}
 use Rattle.source_semantics.specs.Names.{monitor_number}
 use Rattle.code_spec.specs.Layout.{Owner, by_program, by_process, by_monitor, home_of}
 use Rattle.code_spec.specs.Numbering.{Text, Called, calls_routine, calls_entry, called_text, stmts_calls, answers_calls, routine_calls, routine_in, entry_in}
-use Rattle.code_simulation_spec.specs.Proper.{found_of}
-use Rattle.wellformed.specs.Here.{is_monitor, is_function_at, in_routine}
-use Rattle.wellformed.specs.Statements.{may_call}
-use Rattle.wellformed.specs.WellFormed.{IsWellFormed}
+use Rattle.code_spec.specs.Proper.{found_of}
+use Rattle.static_semantics.specs.Here.{is_monitor, is_function_at, in_routine}
+use Rattle.static_semantics.specs.Statements.{may_call}
+use Rattle.static_semantics.specs.WellFormed.{IsWellFormed}
 use Rattle.codegen_law.proofs.NameNumbers.{IsText, called_is_text}
 use Rattle.codegen_law.specs.Ruled.{NamesApart}
 use Rattle.codegen_law.proofs.Mirror.{OwnerKnown}

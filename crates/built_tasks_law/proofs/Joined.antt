@@ -1,7 +1,7 @@
 -- What is made of a checked program is its image.
 use Rattle.std.proofs.Common.{◌∙◌}
 use Rattle.syntax_tree.specs.Placed.{plain}
-use Rattle.checked_law.specs.Ready.{CheckedProgramsAreReady}
+use Rattle.built_image_law.specs.Ready.{CheckedProgramsAreReady}
 use Rattle.built_tasks_law.specs.Ranks.{RanksAreOfTheMeaning, CeilingsAreOfTheMeaning}
 use Rattle.built_tasks_law.specs.Images.{CheckedCodeIsAnImage, CheckedImagesAreImages}
 

@@ -12,7 +12,7 @@ use Rattle.machine_semantics.specs.Image.{Image, Process}
 use Rattle.sched_response.specs.declared.tasks.Task.{Task}
 use Rattle.sched_response.specs.Demand.{Solves, IsBound}
 use Rattle.valid_image.specs.Tasks.{tasks_of}
-use Rattle.checked_law.specs.Small.{KeepsSizes}
+use Rattle.built_image_law.specs.Small.{KeepsSizes}
 use Rattle.static_semantics.specs.Static.{IsChecked}
 use Rattle.built_image.specs.Built.{IsShaped, IsTimely, IsLate}
 use Rattle.sched_program.specs.Tasks.{AreTasksOf, IsInTime, IsNotInTime, IsBoundOf}

@@ -7,7 +7,7 @@ use Rattle.source_semantics.specs.Names.{named, routines, monitors, processes, m
 use Rattle.source_semantics.specs.Run.{of_program, of_process, or_else, entry_name, routine_named}
 use Rattle.code_spec.specs.Layout.{Owner, by_program, by_process, by_monitor, home_of}
 use Rattle.code_spec.specs.Numbering.{Text, routine_of, process_routines, routine_in, entry_of, entry_in}
-use Rattle.code_simulation_spec.specs.Proper.{found_of}
+use Rattle.code_spec.specs.Proper.{found_of}
 use Rattle.codegen_law.proofs.NameNumbers.{of_list}
 use Rattle.codegen_law.specs.Ruled.{NamesApart}
 use Rattle.built_tasks_law.specs.Touches.{is_entry_of}

@@ -12,7 +12,7 @@ use Rattle.valid_image.specs.Times.{is_some}
 use Rattle.code_spec.specs.Layout.{Owner, by_program, by_process, by_monitor}
 use Rattle.code_spec.specs.Numbering.{Text, called_text, routine_calls, numbered, number_of}
 use Rattle.code_spec.specs.Compiled.{kind_number, owner_number, IsRoutine, IsCodeOf}
-use Rattle.wellformed.specs.WellFormed.{IsWellFormed}
+use Rattle.static_semantics.specs.WellFormed.{IsWellFormed}
 use Rattle.codegen_law.specs.Ruled.{NamesApart}
 use Rattle.code_measures.specs.Declared.{IsBelow}
 use Rattle.code_measures.proofs.Firsts.{row_is, rows_before}

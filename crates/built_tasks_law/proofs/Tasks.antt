@@ -22,9 +22,9 @@ use Rattle.code_measures.specs.Declared.{Declares}
 use Rattle.code_measures.specs.Whole.{HasRanks}
 use Rattle.code_measures.proofs.Valid.{no_rank_fault}
 use Rattle.codegen_law.proofs.Rows.{process_of}
-use Rattle.wellformed.specs.WellFormed.{IsWellFormed}
-use Rattle.checked_law.specs.Ready.{CheckedProgramsAreReady}
-use Rattle.checked_law.specs.Small.{GeneratedCodeIsCode}
+use Rattle.static_semantics.specs.WellFormed.{IsWellFormed}
+use Rattle.built_image_law.specs.Ready.{CheckedProgramsAreReady}
+use Rattle.built_image_law.specs.Small.{GeneratedCodeIsCode}
 use Rattle.sched_program.specs.Tasks.{with_dispatches, IsBlock, IsTaskOf}
 use Rattle.sched_program.proofs.Levels.{rank_high}
 use Rattle.built_tasks_law.specs.Ranks.{RanksAreOfTheMeaning}

@@ -8,7 +8,7 @@ use Rattle.code_spec.specs.Layout.{Owner, by_process}
 use Rattle.code_spec.specs.Numbering.{Text, called_text, stmts_calls, answers_calls, numbered, number_of}
 use Rattle.code_spec.specs.Compiled.{routine_scope, process_scope}
 use Rattle.code_measures.specs.Sound.{SoundHandler}
-use Rattle.wellformed.specs.WellFormed.{IsWellFormed}
+use Rattle.static_semantics.specs.WellFormed.{IsWellFormed}
 use Rattle.codegen_law.specs.Ruled.{NamesApart}
 use Rattle.code_measures.specs.Declared.{IsBelow}
 use Rattle.codegen_law.proofs.SoundLemmas.{well_formed_programs_are_sound}

@@ -6,7 +6,7 @@ use Rattle.code_spec.specs.Compiled.{IsCodeOf}
 use Rattle.static_semantics.specs.Static.{IsChecked}
 use Rattle.code_measures.specs.Whole.{HasRanks}
 use Rattle.code_lifting.specs.Image.{IsImageOf, whole}
-use Rattle.checked_law.specs.Ready.{IsImageMade}
+use Rattle.built_image_law.specs.Ready.{IsImageMade}
 
 -- The law: the code of a checked program, with the ranks and ceilings that validity asks, is an
 -- image of the program.

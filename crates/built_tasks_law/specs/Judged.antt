@@ -5,7 +5,7 @@ use Rattle.syntax_tree.specs.declared.place.Place.{Place}
 use Rattle.machine_semantics.specs.Image.{Image, Process}
 use Rattle.image.specs.Named.{NamedImage}
 use Rattle.static_semantics.specs.Static.{IsChecked}
-use Rattle.checked_law.specs.Small.{KeepsSizes}
+use Rattle.built_image_law.specs.Small.{KeepsSizes}
 use Rattle.built_image.specs.Built.{IsShaped, IsBuilt, IsTimely, IsLate}
 use Rattle.sched_program.specs.Tasks.{IsInTime, IsNotInTime, IsBoundOf}
 

@@ -5,7 +5,7 @@ use Rattle.source_semantics.specs.Ranks.{rank, ceiling}
 use Rattle.machine_semantics.specs.Image.{Image}
 use Rattle.valid_image.specs.Times.{rank_of, ceiling_of}
 use Rattle.code_spec.specs.Compiled.{IsCodeOf}
-use Rattle.wellformed.specs.WellFormed.{IsWellFormed}
+use Rattle.static_semantics.specs.WellFormed.{IsWellFormed}
 use Rattle.codegen_law.specs.Ruled.{NamesApart}
 
 -- The law: the rank that validity asks of a process is that of the meaning.

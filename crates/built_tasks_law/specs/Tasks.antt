@@ -8,12 +8,12 @@ use Rattle.machine_semantics.specs.Image.{Image, Process}
 use Rattle.valid_image.specs.Tasks.{tasks_of}
 use Rattle.valid_image.specs.Times.{needed_block}
 use Rattle.code_spec.specs.Compiled.{IsCodeOf}
-use Rattle.wellformed.specs.WellFormed.{IsWellFormed}
+use Rattle.static_semantics.specs.WellFormed.{IsWellFormed}
 use Rattle.codegen_law.specs.Ruled.{NamesApart}
 use Rattle.code_measures.specs.Declared.{Declares}
 use Rattle.code_measures.specs.Whole.{HasRanks}
 use Rattle.static_semantics.specs.Static.{IsChecked}
-use Rattle.checked_law.specs.Small.{KeepsSizes}
+use Rattle.built_image_law.specs.Small.{KeepsSizes}
 use Rattle.built_image.specs.Built.{IsShaped}
 use Rattle.sched_program.specs.Tasks.{IsBlock, AreTasksOf}
 

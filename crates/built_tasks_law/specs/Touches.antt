@@ -8,7 +8,7 @@ use Rattle.valid_image.specs.Times.{enters}
 use Rattle.code_spec.specs.Layout.{Owner, by_program, by_process, by_monitor}
 use Rattle.code_spec.specs.Numbering.{Text, called_text, routine_calls}
 use Rattle.code_spec.specs.Compiled.{IsCodeOf}
-use Rattle.wellformed.specs.WellFormed.{IsWellFormed}
+use Rattle.static_semantics.specs.WellFormed.{IsWellFormed}
 use Rattle.codegen_law.specs.Ruled.{NamesApart}
 use Rattle.sched_program.specs.Tasks.{some_called, process_calls}
 

@@ -9,7 +9,7 @@
 ghost use Rattle.built_tasks_law.specs.Images.{CheckedCodeIsAnImage, CheckedImagesAreImages};
 
 use crate::ranks_and_ceilings::{ceilings_are_of_the_meaning, ranks_are_of_the_meaning};
-use checked_law::premises_of_laws::checked_programs_are_ready;
+use built_image_law::premises_of_laws::checked_programs_are_ready;
 
 /// An image that is the code of a checked program, with the ranks and ceilings that validity asks,
 /// is its image.

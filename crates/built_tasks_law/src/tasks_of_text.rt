@@ -10,8 +10,8 @@ ghost use Rattle.built_tasks_law.specs.Tasks.{BlocksAreOfTheText, RanksAreOfTheT
 
 use crate::calls_in_code::{processes_call_their_texts, routines_call_their_texts};
 use crate::ranks_and_ceilings::{ceilings_are_of_the_meaning, ranks_are_of_the_meaning};
-use checked_law::generated_within_limits::generated_code_is_code;
-use checked_law::premises_of_laws::checked_programs_are_ready;
+use built_image_law::generated_within_limits::generated_code_is_code;
+use built_image_law::premises_of_laws::checked_programs_are_ready;
 
 /// The block that validity needs for a rank is that of the text.
 pub fn blocks_are_of_the_text()

@@ -12,7 +12,7 @@ use Rattle.machine_semantics.specs.Image.{Image}
 use Rattle.valid_image.specs.Fault.{or_else}
 use Rattle.valid_image.specs.Operands.{Area, Whose, in_area as word_in, is_between, ends_in, bad, bad_array}
 use Rattle.code_spec.specs.Layout.{size_of, shape_of, Place, in_frame, Area as KindOfArea, Spot, Scope, in_area, place_named, outer_spot, spot_of}
-use Rattle.wellformed.specs.WellFormed.{ScalarFits, KindFits, VarFits, ParamFits}
+use Rattle.static_semantics.specs.WellFormed.{ScalarFits, KindFits, VarFits, ParamFits}
 use Rattle.built_valid_law.specs.Lies.{ShapeLies, InOrder, AllLie, area_of, SpotLies}
 use Rattle.built_valid_law.specs.Areas.{VariablesLie, ParametersLie, TurnsAreFew}
 use Rattle.built_valid_law.proofs.Spans.{Span, span}

@@ -1,8 +1,8 @@
 -- What is built is made.
 use Rattle.syntax_tree.specs.Placed.{plain}
 use Rattle.code_spec.specs.Compiled.{IsCodeOf}
-use Rattle.checked_law.specs.Ready.{CheckedProgramsAreReady}
-use Rattle.checked_law.specs.Runs.{CheckedCodeIsCode}
+use Rattle.built_image_law.specs.Ready.{CheckedProgramsAreReady}
+use Rattle.built_image_law.specs.Runs.{CheckedCodeIsCode}
 use Rattle.built_valid_law.specs.Made.{BuiltImagesAreMade, LeastBoundsAreBounds, WordsAreFew}
 
 pub built_images_are_made : CheckedProgramsAreReady → CheckedCodeIsCode → LeastBoundsAreBounds → WordsAreFew → BuiltImagesAreMade

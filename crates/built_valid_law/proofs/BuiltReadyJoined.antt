@@ -9,11 +9,11 @@ use Rattle.valid_image_law.specs.ValidLaw.{ValidMeetsPremises}
 use Rattle.vm_law.specs.Operands.{ValidOperandsAreThere}
 use Rattle.code_cost_spec.specs.Levels.{code_length}
 use Rattle.code_measures.specs.Whole.{CodeHasItsLength}
-use Rattle.checked_law.specs.Ready as checked_of
-use Rattle.checked_law.specs.Ready.{CheckedProgramsAreReady, IsImageMade}
+use Rattle.built_image_law.specs.Ready as checked_of
+use Rattle.built_image_law.specs.Ready.{CheckedProgramsAreReady, IsImageMade}
 use Rattle.built_valid_law.specs.Checked.{CheckedImagesAreValid}
-use Rattle.checked_law.specs.Runs.{IsSmallEnough}
-use Rattle.checked_law.specs.Small.{ProgramsThatKeepSizesAreSmall}
+use Rattle.built_image_law.specs.Runs.{IsSmallEnough}
+use Rattle.built_image_law.specs.Small.{ProgramsThatKeepSizesAreSmall}
 use Rattle.built_image.specs.Built.{IsBuilt}
 use Rattle.built_image.specs.Named.{names_of}
 use Rattle.built_valid_law.specs.Made.{BuiltImagesAreMade}

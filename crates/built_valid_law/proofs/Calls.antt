@@ -12,9 +12,9 @@ use Rattle.valid_image.specs.Operands.{Whose, is_open, is_open_some, may_be_insi
 use Rattle.code_spec.specs.Layout.{Owner, by_program, by_process, by_monitor, home_of}
 use Rattle.code_spec.specs.Numbering.{Text, routine_of, process_routines, routine_in, entry_of, entry_in, Called, calls_routine, calls_entry, called_text, stmts_calls, answers_calls, routine_calls, number_of}
 use Rattle.code_spec.specs.Compiled.{kind_number, owner_number, IsCodeOf}
-use Rattle.wellformed.specs.Here.{in_routine}
-use Rattle.wellformed.specs.Statements.{may_call as calls_more}
-use Rattle.wellformed.specs.WellFormed.{IsWellFormed}
+use Rattle.static_semantics.specs.Here.{in_routine}
+use Rattle.static_semantics.specs.Statements.{may_call as calls_more}
+use Rattle.static_semantics.specs.WellFormed.{IsWellFormed}
 use Rattle.codegen_law.proofs.NameNumbers.{IsText, of_list, called_is_text}
 use Rattle.codegen_law.specs.Ruled.{NamesApart}
 use Rattle.codegen_law.specs.Numbered.{CallsText}

@@ -10,7 +10,7 @@ use Rattle.image.specs.declared.names.ConditionName.{ConditionName}
 use Rattle.code_spec.specs.Numbering.{numbered}
 use Rattle.code_spec.specs.Compiled.{IsCodeOf, device_direction}
 use Rattle.code_lifting.proofs.Words.{same_length, conditions_are as places_of_conditions}
-use Rattle.wellformed.specs.WellFormed.{CountsFit}
+use Rattle.static_semantics.specs.WellFormed.{CountsFit}
 use Rattle.built_image.specs.Named.{named_conditions, named_device, named_event}
 use Rattle.built_image_law.proofs.Joined.{as_many}
 use Rattle.built_valid_law.proofs.Owning.{routines_counted}

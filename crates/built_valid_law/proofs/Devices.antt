@@ -9,7 +9,7 @@ use Rattle.static_names.specs.Occurrences.{declares, names, entries_at, closes, 
 use Rattle.static_names.specs.Resolved.{IsRead, IsNamed}
 use Rattle.static_semantics.specs.Places.{NamesFound}
 use Rattle.wellformed_law.proofs.Members.{In, in-contains, contains-in}
-use Rattle.checked_law.proofs.Differ.{DeclsDiffer, decls_differ}
+use Rattle.built_image_law.proofs.Differ.{DeclsDiffer, decls_differ}
 use Rattle.built_valid_law.specs.Checked.{CheckedDevicesGoOneWay}
 use Rattle.static_names.proofs.Scopes.{same-refl}
 

@@ -12,7 +12,7 @@ use Rattle.base.specs.Words.{within}
 use Rattle.syntax_tree.specs.Plain.{Constant, literal_constant, Program}
 use Rattle.source_semantics.specs.Names.{as_count, constant_value, count_value}
 use Rattle.code_spec.specs.Compiled.{ascending, inserted}
-use Rattle.wellformed.specs.WellFormed.{Differ, IsHandled}
+use Rattle.static_semantics.specs.WellFormed.{Differ, IsHandled}
 
 -- ---- in ascending order they are as many
 

@@ -14,7 +14,7 @@ use Rattle.valid_image.specs.Operands.{Area, Whose, in_area, is_between, bad, ba
 use Rattle.code_spec.specs.Layout.{Shape, single, array, Area as KindOfArea, in_frame, in_process, in_monitor, Spot, Scope, spot_of, outer_spot}
 use Rattle.code_spec.specs.Numbering.{Text, routine_in, number_of}
 use Rattle.code_spec.specs.Code.{load, load_at, store, store_at, op_instr, load_name, load_shape, load_element, constant_named, range_code, call_code, code_of, row_code, args_code, range_of_spot, store_spot, store_shape, store_element, index_code, store_code, ref_name, put_code}
-use Rattle.wellformed.specs.WellFormed.{ParamFits}
+use Rattle.static_semantics.specs.WellFormed.{ParamFits}
 use Rattle.code_measures.specs.Sound.{SoundExpr, SoundRow, SoundArgs, SoundIndex}
 use Rattle.built_valid_law.specs.Lies.{ShapeLies, InOrder, AllLie, area_of, SpotLies}
 use Rattle.built_valid_law.proofs.AreasLemmas.{scalar_order, spot_lies, none_bad}

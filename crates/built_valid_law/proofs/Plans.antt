@@ -11,8 +11,8 @@ use Rattle.machine_semantics.specs.Image.{Image, Process, Routine, end_of}
 use Rattle.code_spec.specs.Compiled.{IsCodeOf, IsReleased}
 use Rattle.vm_law.specs.Operands.{AreThere, IsThere}
 use Rattle.vm_plan.specs.HasPlan.{CanRun, HasPlan}
-use Rattle.machine_safety_spec.specs.Safe.{Parts, ImageFits}
-use Rattle.machine_safety_spec.specs.Walk.{Where}
+use Rattle.machine_semantics.specs.Safe.{Parts, ImageFits}
+use Rattle.machine_semantics.specs.Walk.{Where}
 use Rattle.vm_state.specs.Plan.{HasNumbers}
 use Rattle.valid_image.specs.Valid.{HasLimits, Sizes, fault_of_part}
 use Rattle.valid_image_law.proofs.Passing.{params_fit}

@@ -15,7 +15,7 @@ use Rattle.code_spec.specs.Compiled.{EmitsHandler, IsCodeOf, ascending}
 use Rattle.valid_image.specs.Tables.{handler_found, handler_start, known}
 use Rattle.valid_image.specs.Valid.{IsValid, Shape}
 use Rattle.valid_image_law.proofs.Shapes.{ProcessShaped, RoutineShaped, process_shaped, routine_shaped}
-use Rattle.wellformed.specs.WellFormed.{IsWellFormed, OptionalFits, ProcessFits}
+use Rattle.static_semantics.specs.WellFormed.{IsWellFormed, OptionalFits, ProcessFits}
 use Rattle.built_image_law.specs.Short.{NamesAreShort}
 use Rattle.built_image.specs.Named.{names_of}
 use Rattle.built_image_law.proofs.Texts.{Emitted, emitted}

@@ -12,8 +12,8 @@ use Rattle.valid_image.specs.Operands.{Whose, no_words, words_of_process, words_
 use Rattle.code_spec.specs.Layout.{by_program, by_process, by_monitor, home_of, in_process, in_monitor, words_of, places_from, vars_of_process, process_places, monitor_vars, vars_of_monitor, monitor_base, monitor_places}
 use Rattle.code_spec.specs.Emits.{condition_of}
 use Rattle.code_spec.specs.Compiled.{EmitsProcess, EmitsProcesses, IsCodeOf, owner_number}
-use Rattle.wellformed.specs.Here.{conditions_here, monitor_conditions}
-use Rattle.wellformed.specs.WellFormed.{MonitorFits, IsWellFormed}
+use Rattle.static_semantics.specs.Here.{conditions_here, monitor_conditions}
+use Rattle.static_semantics.specs.WellFormed.{MonitorFits, IsWellFormed}
 use Rattle.codegen_law.specs.Ruled.{NamesApart}
 use Rattle.codegen_law.proofs.Tables.{condition_row}
 use Rattle.built_valid_law.specs.Lies.{AllLie}

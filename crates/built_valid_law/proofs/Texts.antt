@@ -14,9 +14,9 @@ use Rattle.code_spec.specs.Numbering.{Text, routine_in, entry_in}
 use Rattle.code_spec.specs.Code.{code_of, args_code, call_code, index_code, store_code, put_code}
 use Rattle.code_spec.specs.Emits.{inner, turns_of, condition_of, monitor_of}
 use Rattle.code_spec.specs.Compiled.{routine_scope, process_scope, enter_code}
-use Rattle.wellformed.specs.Here.{Here, own_of, conditions_here, in_routine}
-use Rattle.wellformed.specs.Statements.{Fits, AllFit}
-use Rattle.wellformed.specs.WellFormed.{ParamFits, VarFits, AnswersFit, RoutineFits, OptionalFits, ProcessFits}
+use Rattle.static_semantics.specs.Here.{Here, own_of, conditions_here, in_routine}
+use Rattle.static_semantics.specs.Statements.{Fits, AllFit}
+use Rattle.static_semantics.specs.WellFormed.{ParamFits, VarFits, AnswersFit, RoutineFits, OptionalFits, ProcessFits}
 use Rattle.code_measures.specs.Sound.{Sound, SoundAll, SoundAnswers, SoundRoutine, SoundHandler, SoundProcess}
 use Rattle.built_valid_law.specs.Lies.{AllLie}
 use Rattle.built_valid_law.proofs.AreasLemmas.{word_inside, scalar_order, variables_lie, parameters_lie, both_lie, turns_are_few, none_bad}

@@ -14,9 +14,9 @@ use Rattle.valid_image.specs.Operands.{Whose, is_open_some, may_be_inside, may_c
 use Rattle.code_spec.specs.Layout.{Owner, by_program, by_process, home_of, routine_words}
 use Rattle.code_spec.specs.Numbering.{Text, numbered, number_of}
 use Rattle.code_spec.specs.Compiled.{kind_number, IsCodeOf}
-use Rattle.wellformed.specs.Here.{in_routine}
-use Rattle.wellformed.specs.Statements.{may_call as calls_more}
-use Rattle.wellformed.specs.WellFormed.{IsWellFormed}
+use Rattle.static_semantics.specs.Here.{in_routine}
+use Rattle.static_semantics.specs.Statements.{may_call as calls_more}
+use Rattle.static_semantics.specs.WellFormed.{IsWellFormed}
 use Rattle.codegen_law.proofs.NameNumbers.{IsText}
 use Rattle.codegen_law.specs.Ruled.{NamesApart}
 use Rattle.codegen_law.specs.Numbered.{CallsText}

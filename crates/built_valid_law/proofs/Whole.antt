@@ -12,7 +12,7 @@ use Rattle.valid_image.specs.Operands.{Whose, whose_routine, whose_process, bad_
 use Rattle.code_spec.specs.Layout.{Owner, by_program, by_process, by_monitor, routine_words, frame_words}
 use Rattle.code_spec.specs.Numbering.{Text, Called, called_text, numbered, number_of}
 use Rattle.code_spec.specs.Compiled.{kind_number, owner_number, process_scope, IsRoutine, IsCodeOf}
-use Rattle.wellformed.specs.WellFormed.{OptionalFits, ProcessFits, IsWellFormed}
+use Rattle.static_semantics.specs.WellFormed.{OptionalFits, ProcessFits, IsWellFormed}
 use Rattle.codegen_law.proofs.NameNumbers.{IsText}
 use Rattle.codegen_law.specs.Ruled.{NamesApart}
 use Rattle.codegen_law.specs.Numbered.{CallsText}

@@ -9,7 +9,7 @@ use Rattle.machine_semantics.specs.Image as image
 use Rattle.valid_image.specs.Sizes.{words_over_all}
 use Rattle.code_spec.specs.Layout.{monitor_vars, words_of}
 use Rattle.code_spec.specs.Compiled.{AreMonitors, EmitsProcesses}
-use Rattle.wellformed.specs.WellFormed.{vars_words, words}
+use Rattle.static_semantics.specs.WellFormed.{vars_words, words}
 use Rattle.codegen_law.proofs.Counts.{words_same}
 use Rattle.built_valid_law.specs.Made.{WordsAreFew}
 

@@ -8,8 +8,8 @@ use Rattle.valid_image.specs.Operands.{Area, is_between}
 use Rattle.code_spec.specs.Layout.{words_of, monitor_vars, base_from, count, places_from, param_places}
 use Rattle.code_spec.specs.Emits.{turns_of}
 use Rattle.code_spec.specs.Compiled.{AreMonitors, device_direction}
-use Rattle.wellformed.specs.Statements.{AreTurns}
-use Rattle.wellformed.specs.WellFormed.{VarFits, ParamFits}
+use Rattle.static_semantics.specs.Statements.{AreTurns}
+use Rattle.static_semantics.specs.WellFormed.{VarFits, ParamFits}
 use Rattle.built_valid_law.specs.Lies.{AllLie}
 
 -- The law: variables one after the other lie in an area that has room for them.

@@ -7,7 +7,7 @@ use Rattle.valid_image.specs.Valid.{Operands, fault_of_part, IsValid}
 use Rattle.code_spec.specs.Compiled.{IsCodeOf}
 use Rattle.static_semantics.specs.Static.{IsChecked}
 use Rattle.built_valid_law.specs.Areas.{DevicesGoOneWay}
-use Rattle.checked_law.specs.Ready.{IsImageMade}
+use Rattle.built_image_law.specs.Ready.{IsImageMade}
 
 -- The law: devices of one name go one way.
 abbrev pub CheckedDevicesGoOneWay : Type 0

@@ -8,8 +8,8 @@ use Rattle.valid_image.specs.Operands.{Whose, is_own_monitor, is_own_condition, 
 use Rattle.code_spec.specs.Layout.{Owner, by_monitor, home_of, outer_spot}
 use Rattle.code_spec.specs.Numbering.{Text, number_of}
 use Rattle.code_spec.specs.Emits.{condition_of}
-use Rattle.wellformed.specs.Here.{conditions_here}
-use Rattle.wellformed.specs.WellFormed.{ParamFits}
+use Rattle.static_semantics.specs.Here.{conditions_here}
+use Rattle.static_semantics.specs.WellFormed.{ParamFits}
 use Rattle.built_valid_law.specs.Lies.{SpotLies}
 
 -- each operand of the instruction is in range

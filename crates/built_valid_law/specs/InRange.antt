@@ -4,7 +4,7 @@ use Rattle.syntax_tree.specs.Plain.{Program}
 use Rattle.machine_semantics.specs.Image.{Image}
 use Rattle.valid_image.specs.Valid.{Operands, fault_of_part}
 use Rattle.code_spec.specs.Compiled.{IsCodeOf}
-use Rattle.wellformed.specs.WellFormed.{IsWellFormed}
+use Rattle.static_semantics.specs.WellFormed.{IsWellFormed}
 use Rattle.codegen_law.specs.Ruled.{NamesApart}
 use Rattle.built_valid_law.specs.Areas.{DevicesGoOneWay}
 

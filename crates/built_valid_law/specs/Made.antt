@@ -8,10 +8,10 @@ use Rattle.machine_semantics.specs.Image.{Image, Process}
 use Rattle.image.specs.Named.{NamedImage}
 use Rattle.valid_image.specs.Sizes.{words_over_all}
 use Rattle.code_spec.specs.Compiled.{IsCodeOf}
-use Rattle.wellformed.specs.WellFormed.{IsWellFormed}
+use Rattle.static_semantics.specs.WellFormed.{IsWellFormed}
 use Rattle.code_measures.specs.Whole.{HasRanks, IsBound}
-use Rattle.checked_law.specs.Ready.{IsImageMade}
-use Rattle.checked_law.specs.Runs.{IsSmallEnough}
+use Rattle.built_image_law.specs.Ready.{IsImageMade}
+use Rattle.built_image_law.specs.Runs.{IsSmallEnough}
 use Rattle.built_image.specs.Built.{HasLeastBounds, IsBuilt}
 
 -- The law: least bounds are bounds, where ranks go by deadlines.

@@ -5,7 +5,7 @@ use Rattle.machine_semantics.specs.Image.{Image}
 use Rattle.valid_image.specs.Operands.{Whose}
 use Rattle.code_spec.specs.Layout.{by_process, home_of, routine_words, frame_words}
 use Rattle.code_spec.specs.Numbering.{Text}
-use Rattle.wellformed.specs.WellFormed.{RoutineFits, ProcessFits}
+use Rattle.static_semantics.specs.WellFormed.{RoutineFits, ProcessFits}
 use Rattle.code_measures.specs.Sound.{SoundRoutine, SoundProcess}
 use Rattle.built_valid_law.specs.Has.{RoutineHas, ProcessHas}
 use Rattle.built_valid_law.specs.Fine.{IsFine, MayCall, Stands}

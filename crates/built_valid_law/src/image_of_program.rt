@@ -1,15 +1,15 @@
 //! Laws: the image that is built of a checked program is made of it.
 //!
 //! `specs/Made.antt` has the laws: least bounds are bounds, words of a well-formed program are few,
-//! and so what `built_image` calls the image of a program is what `checked_law::premises_of_laws` asks of one. Nothing
-//! here can run.
+//! and so what `built_image` calls the image of a program is what
+//! `built_image_law::premises_of_laws` asks of one. Nothing here can run.
 //!
 //! The laws.
 
 ghost use Rattle.built_valid_law.specs.Made.{BuiltImagesAreMade, LeastBoundsAreBounds, WordsAreFew};
 
-use checked_law::premises_of_laws::checked_programs_are_ready;
-use checked_law::runs_of_generated::what_is_made_of_a_checked_program_is_its_code;
+use built_image_law::premises_of_laws::checked_programs_are_ready;
+use built_image_law::runs_of_generated::what_is_made_of_a_checked_program_is_its_code;
 
 /// The least bounds of an image with ranks by deadlines are its bounds.
 pub fn least_bounds_are_bounds()

@@ -8,7 +8,7 @@
 ghost use Rattle.built_valid_law.specs.Checked.{CheckedDevicesGoOneWay, CheckedOperandsAreInRange, CheckedImagesAreValid};
 
 use crate::operands_of_image::operands_are_in_range;
-use checked_law::premises_of_laws::{checked_images_are_made, checked_programs_are_ready};
+use built_image_law::premises_of_laws::{checked_images_are_made, checked_programs_are_ready};
 use code_measures::declared_images_valid::made_images_are_valid;
 use wellformed_law::names_are_found;
 

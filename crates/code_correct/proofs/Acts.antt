@@ -11,11 +11,11 @@ use Rattle.machine_semantics.specs.Effect.{Own}
 use Rattle.code_spec.specs.Layout.{Owner, by_program, by_process, by_monitor, home_of, Scope}
 use Rattle.code_spec.specs.Code.{code_of, index_code, put_code, ref_name}
 use Rattle.code_spec.specs.Emits.{IsLine, At, condition_of, monitor_of}
-use Rattle.code_simulation_spec.specs.Steps.{Words, stand, Runs, arrived}
-use Rattle.code_simulation_spec.specs.Memory.{Setting, site_of, AllApart, Before, Same, Fits, MayRun, Here}
-use Rattle.code_simulation_spec.specs.Proper.{ProperExpr, ProperIndex, ProperRef, ProperTarget, Waiting}
-use Rattle.code_simulation_spec.specs.Stands.{Point, point, there, Stands, index_on, target_code}
-use Rattle.code_simulation_spec.specs.Comes.{Reached, Acting, Does, IsAwaited, inside_after}
+use Rattle.code_spec.specs.Steps.{Words, stand, Runs, arrived}
+use Rattle.code_spec.specs.Memory.{Setting, site_of, AllApart, Before, Same, Fits, MayRun, Here}
+use Rattle.code_spec.specs.Proper.{ProperExpr, ProperIndex, ProperRef, ProperTarget, Waiting}
+use Rattle.code_spec.specs.Stands.{Point, point, there, Stands, index_on, target_code}
+use Rattle.code_spec.specs.Comes.{Reached, Acting, Does, IsAwaited, inside_after}
 use Rattle.code_correct.specs.Known.{AllThere, CallsCome}
 use Rattle.code_correct.proofs.Steps.{line_front, line_back, line_one, line_rest}
 use Rattle.code_correct.proofs.Expressions.{value_gets}

@@ -12,8 +12,8 @@ use Rattle.source_semantics.specs.Ranks.{uses_all, reached, monitors_of, include
 use Rattle.code_spec.specs.Layout.{Owner, by_program, by_process, by_monitor, home_of}
 use Rattle.code_spec.specs.Numbering.{Text, routine_in, entry_of, routine_calls, stmts_calls}
 use Rattle.code_spec.specs.Compiled.{routine_scope, process_scope, is_function, IsCodeOf}
-use Rattle.code_simulation_spec.specs.Memory.{Setting}
-use Rattle.code_simulation_spec.specs.Proper.{found_of, IsMine, Entry, Reaches, ProperAll}
+use Rattle.code_spec.specs.Memory.{Setting}
+use Rattle.code_spec.specs.Proper.{found_of, IsMine, Entry, Reaches, ProperAll}
 use Rattle.code_correct.specs.Known.{IsProper}
 use Rattle.code_spec.specs.Boundary.{Compiled}
 use Rattle.code_correct.specs.Process.{setting_of, ProperHandler}
@@ -21,9 +21,9 @@ use Rattle.code_correct.proofs.FaithfulLemmas.{emitted_is_faithful}
 use Rattle.code_correct.specs.Kept.{KeepsRules}
 use Rattle.codegen_law.proofs.NameNumbers.{found_there, monitor_there, of_list, or_true}
 use Rattle.code_correct.proofs.Emitted.{code_is_emitted}
-use Rattle.wellformed.specs.Here.{Here, own_of, is_function_at, in_routine, in_process}
-use Rattle.wellformed.specs.Statements.{AllFit}
-use Rattle.wellformed.specs.WellFormed.{IsWellFormed, RoutineFits, AnswersFit, ProcessFits, OptionalFits}
+use Rattle.static_semantics.specs.Here.{Here, own_of, is_function_at, in_routine, in_process}
+use Rattle.static_semantics.specs.Statements.{AllFit}
+use Rattle.static_semantics.specs.WellFormed.{IsWellFormed, RoutineFits, AnswersFit, ProcessFits, OptionalFits}
 use Rattle.codegen_law.specs.Ruled.{all_in, runs_of, NamesApart}
 use Rattle.code_correct.specs.Ruled.{ProgramIsFaithful}
 use Rattle.codegen_law.proofs.Mirror.{here_of, OwnerKnown, routine_at}

@@ -13,11 +13,11 @@ use Rattle.code_spec.specs.Layout.{Owner, by_program, by_process, by_monitor, ho
 use Rattle.code_spec.specs.Numbering.{Text, number_of}
 use Rattle.code_spec.specs.Emits.{IsLine, At}
 use Rattle.code_spec.specs.Compiled.{routine_scope, is_function, enter_code, EmitsEnd, EmitsRoutine}
-use Rattle.code_simulation_spec.specs.Steps.{Words, words, stand, Runs, arrived, moved}
-use Rattle.code_simulation_spec.specs.Memory.{Setting, site_of, Before, before_of, Same, Fits, MayRun, Here}
-use Rattle.code_simulation_spec.specs.Proper.{found_of, Callee, Reaches, IsOutside, ProperAnswers}
-use Rattle.code_simulation_spec.specs.Stands.{Point, point, Onward, there, Stands, Frame, IsEnd, Receives, innermost}
-use Rattle.code_simulation_spec.specs.Comes.{Reached, Acting, IsAwaited, inside_after, frame_after, bottom_of}
+use Rattle.code_spec.specs.Steps.{Words, words, stand, Runs, arrived, moved}
+use Rattle.code_spec.specs.Memory.{Setting, site_of, Before, before_of, Same, Fits, MayRun, Here}
+use Rattle.code_spec.specs.Proper.{found_of, Callee, Reaches, IsOutside, ProperAnswers}
+use Rattle.code_spec.specs.Stands.{Point, point, Onward, there, Stands, Frame, IsEnd, Receives, innermost}
+use Rattle.code_spec.specs.Comes.{Reached, Acting, IsAwaited, inside_after, frame_after, bottom_of}
 use Rattle.code_correct.specs.Known.{IsThere, CallsCome, HoldValues, GotAll, IsProper, HasCode}
 use Rattle.code_correct.proofs.Steps.{then_runs, others_left, line_one}
 use Rattle.code_correct.proofs.Frames.{new_locals, no_values, new_frame}

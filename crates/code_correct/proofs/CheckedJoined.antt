@@ -1,7 +1,7 @@
 -- The laws of a checked program, joined.
 use Rattle.syntax_tree.specs.Placed.{plain}
 use Rattle.code_correct.specs.Headline.{WellFormedProgramsRun}
-use Rattle.checked_law.specs.Ready.{CheckedProgramsAreReady}
+use Rattle.built_image_law.specs.Ready.{CheckedProgramsAreReady}
 use Rattle.code_correct.specs.Ready.{CheckedProgramsRun}
 
 pub programs_run : CheckedProgramsAreReady → WellFormedProgramsRun → CheckedProgramsRun

@@ -15,11 +15,11 @@ use Rattle.machine_semantics.specs.Effect.{Own}
 use Rattle.code_spec.specs.Layout.{Owner, by_program, by_process, by_monitor, Scope, routine_vars_words}
 use Rattle.code_spec.specs.Emits.{IsLine, At}
 use Rattle.code_spec.specs.Compiled.{routine_scope, is_function, enter_code, EmitsAnswer, EmitsEnd}
-use Rattle.code_simulation_spec.specs.Steps.{Words, stand, Runs, arrived}
-use Rattle.code_simulation_spec.specs.Memory.{Setting, site_of, Before, before_of, Same, Fits, FitsOthers, Here}
-use Rattle.code_simulation_spec.specs.Proper.{IsMine, ProperExpr, ProperAnswers}
-use Rattle.code_simulation_spec.specs.Stands.{point}
-use Rattle.code_simulation_spec.specs.Comes.{Raising, Got, Left, Reached}
+use Rattle.code_spec.specs.Steps.{Words, stand, Runs, arrived}
+use Rattle.code_spec.specs.Memory.{Setting, site_of, Before, before_of, Same, Fits, FitsOthers, Here}
+use Rattle.code_spec.specs.Proper.{IsMine, ProperExpr, ProperAnswers}
+use Rattle.code_spec.specs.Stands.{point}
+use Rattle.code_spec.specs.Comes.{Raising, Got, Left, Reached}
 use Rattle.code_correct.specs.Known.{Answered, CallsCome, IsProper, HasCode}
 use Rattle.code_correct.proofs.Steps.{then_runs, line_none}
 use Rattle.code_correct.proofs.Gets.{then_gets, range_gets}

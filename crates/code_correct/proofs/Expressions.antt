@@ -14,10 +14,10 @@ use Rattle.code_spec.specs.Layout.{Scope, home_of, spot_of, routine_places}
 use Rattle.code_spec.specs.Numbering.{Text, number_of}
 use Rattle.code_spec.specs.Code.{code_of, row_code, args_code, call_code, range_code, load_name, load_element, constant_named, op_instr}
 use Rattle.code_spec.specs.Emits.{IsLine, At}
-use Rattle.code_simulation_spec.specs.Steps.{Words, words, stand, Runs, arrived, moved}
-use Rattle.code_simulation_spec.specs.Memory.{Setting, site_of, Before, Fits, FitsOthers, Here}
-use Rattle.code_simulation_spec.specs.Proper.{found_of, ProperExpr, ProperRow, ProperArgs, Callee}
-use Rattle.code_simulation_spec.specs.Comes.{Got}
+use Rattle.code_spec.specs.Steps.{Words, words, stand, Runs, arrived, moved}
+use Rattle.code_spec.specs.Memory.{Setting, site_of, Before, Fits, FitsOthers, Here}
+use Rattle.code_spec.specs.Proper.{found_of, ProperExpr, ProperRow, ProperArgs, Callee}
+use Rattle.code_spec.specs.Comes.{Got}
 use Rattle.code_correct.specs.Known.{IsThere, AllThere, Answered, CallsCome, pushed, GotAll}
 use Rattle.code_correct.proofs.Steps.{then_runs, others_left, line_front, line_back, line_one, line_none, line_rest, told, answer_told, op_told, not_told}
 use Rattle.code_correct.proofs.Loads.{name_told, element_is_told, spot_pair}

@@ -13,10 +13,10 @@ use Rattle.machine_semantics.specs.State.{Operand, State, is_free, is_inside}
 use Rattle.machine_semantics.specs.Effect as table
 use Rattle.machine_semantics.specs.Effect.{Own, Outcome, Goes, Does, Signals, Broadcasts, Waits, Raises, Ends, Stuck, effect, is_none_waiting}
 use Rattle.code_spec.specs.Layout.{in_monitor}
-use Rattle.code_simulation_spec.specs.Steps.{SameInside, left_by, next_own, Runs, arrived, moved}
-use Rattle.code_simulation_spec.specs.Memory.{Order, Setting, Holds, opens_of, FitsOthers, inside_places}
-use Rattle.code_simulation_spec.specs.Stands.{innermost, Receives, StandsAll}
-use Rattle.code_simulation_spec.specs.Comes.{Raising, Ending, NextActs, NextComes, inside_after, frame_after}
+use Rattle.code_spec.specs.Steps.{SameInside, left_by, next_own, Runs, arrived, moved}
+use Rattle.code_spec.specs.Memory.{Order, Setting, Holds, opens_of, FitsOthers, inside_places}
+use Rattle.code_spec.specs.Stands.{innermost, Receives, StandsAll}
+use Rattle.code_spec.specs.Comes.{Raising, Ending, NextActs, NextComes, inside_after, frame_after}
 use Rattle.code_correct.proofs.Steps.{then_runs, others_left}
 use Rattle.code_correct.proofs.Layouts.{all_laid}
 use Rattle.code_correct.proofs.Next.{IsGiven, at_frame, next_comes}

@@ -10,7 +10,7 @@ use Rattle.machine_semantics.specs.Effect as table
 use Rattle.code_spec.specs.Layout.{single, size_of, shape_of, Place, places_from, param_places, words_of, count, loops, routine_places}
 use Rattle.code_spec.specs.Numbering.{Text}
 use Rattle.code_spec.specs.Compiled.{routine_scope}
-use Rattle.code_simulation_spec.specs.Memory.{HoldsHeld, Holds, KeptAll, FitsFrame}
+use Rattle.code_spec.specs.Memory.{HoldsHeld, Holds, KeptAll, FitsFrame}
 use Rattle.code_correct.specs.Known.{HoldValues, pushed}
 
 -- ---- words one after another

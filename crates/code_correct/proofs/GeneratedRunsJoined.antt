@@ -3,13 +3,13 @@ use Rattle.std.specs.Prelude.{◌≡◌, Some, slice_get}
 use Rattle.std.proofs.Common.{sym, subst}
 use Rattle.source_semantics.specs.Names.{processes}
 use Rattle.code_spec.specs.Compiled.{IsCodeOf}
-use Rattle.wellformed.specs.WellFormed.{IsWellFormed}
+use Rattle.static_semantics.specs.WellFormed.{IsWellFormed}
 use Rattle.codegen_law.specs.Ruled.{NamesApart}
 use Rattle.code_correct.specs.Ruled.{ProgramIsFaithful}
-use Rattle.checked_law.specs.Ready.{CheckedProgramsAreReady}
-use Rattle.checked_law.specs.Generated.{GeneratedIsCode}
+use Rattle.built_image_law.specs.Ready.{CheckedProgramsAreReady}
+use Rattle.built_image_law.specs.Generated.{GeneratedIsCode}
 use Rattle.code_correct.specs.Runs.{CheckedCodeIsFaithful}
-use Rattle.checked_law.proofs.GeneratedRunsJoined.{made_is_code}
+use Rattle.built_image_law.proofs.GeneratedRunsJoined.{made_is_code}
 
 pub made_is_faithful : CheckedProgramsAreReady → GeneratedIsCode → ProgramIsFaithful → CheckedCodeIsFaithful
 made_is_faithful ready code faithful g m c small holds at =

@@ -15,10 +15,10 @@ use Rattle.code_spec.specs.Numbering.{Text, number_of}
 use Rattle.code_spec.specs.Code.{range_code}
 use Rattle.code_spec.specs.Emits.{IsLine, At}
 use Rattle.code_spec.specs.Compiled.{routine_scope, is_function}
-use Rattle.code_simulation_spec.specs.Steps.{Words, words, stand, Runs, arrived, moved}
-use Rattle.code_simulation_spec.specs.Memory.{Setting, Before, before_of, Fits, MayRun, Here}
-use Rattle.code_simulation_spec.specs.Proper.{IsMine}
-use Rattle.code_simulation_spec.specs.Comes.{Raising, Got}
+use Rattle.code_spec.specs.Steps.{Words, words, stand, Runs, arrived, moved}
+use Rattle.code_spec.specs.Memory.{Setting, Before, before_of, Fits, MayRun, Here}
+use Rattle.code_spec.specs.Proper.{IsMine}
+use Rattle.code_spec.specs.Comes.{Raising, Got}
 use Rattle.code_correct.specs.Known.{IsThere, HoldValues, pushed}
 use Rattle.code_correct.proofs.Steps.{then_runs, fits_left, told, range_told, line_one, line_none}
 use Rattle.code_correct.proofs.Frames.{new_frame, new_locals, no_values, behind_params, taken, values_count}

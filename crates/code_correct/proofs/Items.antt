@@ -9,10 +9,10 @@ use Rattle.machine_semantics.specs.State.{Operand, Caller}
 use Rattle.machine_semantics.specs.Effect.{Own}
 use Rattle.code_spec.specs.Layout.{home_of, Scope}
 use Rattle.code_spec.specs.Emits.{inner}
-use Rattle.code_simulation_spec.specs.Steps.{Words, words, stand, Runs, arrived, moved}
-use Rattle.code_simulation_spec.specs.Memory.{Setting, Before, Fits}
-use Rattle.code_simulation_spec.specs.Stands.{Point, point, moved_to, holding, entered, Onward, there, jump, Calm, Stands, IsEnd, innermost, Receives, Inner, StandsAll}
-use Rattle.code_simulation_spec.specs.Comes.{Left, Reached, Acting, IsAwaited, inside_after, frame_after}
+use Rattle.code_spec.specs.Steps.{Words, words, stand, Runs, arrived, moved}
+use Rattle.code_spec.specs.Memory.{Setting, Before, Fits}
+use Rattle.code_spec.specs.Stands.{Point, point, moved_to, holding, entered, Onward, there, jump, Calm, Stands, IsEnd, innermost, Receives, Inner, StandsAll}
+use Rattle.code_spec.specs.Comes.{Left, Reached, Acting, IsAwaited, inside_after, frame_after}
 use Rattle.code_correct.proofs.Steps.{then_runs, fits_left}
 
 -- ---- jumps

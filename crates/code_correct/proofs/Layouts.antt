@@ -7,7 +7,7 @@ use Rattle.source_semantics.specs.Store.{range_of, kind_range}
 use Rattle.code_spec.specs.Layout.{single, size_of, shape_of, Place, places_from, param_places, words_of, count, loops, routine_vars_words, monitor_base, vars_of_process, vars_of_monitor}
 use Rattle.code_spec.specs.Numbering.{Text}
 use Rattle.code_spec.specs.Compiled.{routine_scope}
-use Rattle.code_simulation_spec.specs.Memory.{Setting, ApartFrom, AllApart, AllBelow, Room}
+use Rattle.code_spec.specs.Memory.{Setting, ApartFrom, AllApart, AllBelow, Room}
 use Rattle.code_correct.proofs.Stores.{Laid}
 
 abbrev AllAbove : ℕ → List Place → Type 0

@@ -12,9 +12,9 @@ use Rattle.machine_semantics.specs.Effect as table
 use Rattle.machine_semantics.specs.Effect.{Own, Outcome, Goes, Raises, Stuck, effect, is_reached}
 use Rattle.code_spec.specs.Layout.{Owner, by_program, by_process, by_monitor, home_of, Shape, single, array, Place, Area, in_frame, in_process, in_monitor, Spot, Scope, in_area, place_named, spot_of, outer_spot, process_places, monitor_places}
 use Rattle.code_spec.specs.Code.{load, load_at, load_name, load_shape, load_element}
-use Rattle.code_simulation_spec.specs.Steps.{Words, stand}
-use Rattle.code_simulation_spec.specs.Memory.{Setting, IsAt, HoldsHeld, HoldsSlot, Holds, opens_of, words_of, FitsOthers, Fits, Before, MayRun, Here, inside_places}
-use Rattle.code_simulation_spec.specs.Proper.{IsValue, IsArray}
+use Rattle.code_spec.specs.Steps.{Words, stand}
+use Rattle.code_spec.specs.Memory.{Setting, IsAt, HoldsHeld, HoldsSlot, Holds, opens_of, words_of, FitsOthers, Fits, Before, MayRun, Here, inside_places}
+use Rattle.code_spec.specs.Proper.{IsValue, IsArray}
 use Rattle.code_correct.proofs.Steps.{told}
 
 -- one word of an area

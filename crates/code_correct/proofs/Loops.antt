@@ -12,11 +12,11 @@ use Rattle.machine_semantics.specs.Effect as table
 use Rattle.machine_semantics.specs.Effect.{Own, Goes, effect}
 use Rattle.code_spec.specs.Layout.{single, Place, Scope}
 use Rattle.code_spec.specs.Emits.{Has, counter_place, inner}
-use Rattle.code_simulation_spec.specs.Steps.{Words, words, stand, Runs, arrived, moved}
-use Rattle.code_simulation_spec.specs.Memory.{Setting, HoldsHeld, ApartFrom, AllBelow, Room, FitsFrame, Fits, Before, Here}
-use Rattle.code_simulation_spec.specs.Proper.{CountsOn}
-use Rattle.code_simulation_spec.specs.Stands.{Point, point, there, count_code, Looping, Stands}
-use Rattle.code_simulation_spec.specs.Comes.{Reached}
+use Rattle.code_spec.specs.Steps.{Words, words, stand, Runs, arrived, moved}
+use Rattle.code_spec.specs.Memory.{Setting, HoldsHeld, ApartFrom, AllBelow, Room, FitsFrame, Fits, Before, Here}
+use Rattle.code_spec.specs.Proper.{CountsOn}
+use Rattle.code_spec.specs.Stands.{Point, point, there, count_code, Looping, Stands}
+use Rattle.code_spec.specs.Comes.{Reached}
 use Rattle.code_correct.proofs.Steps.{fits_left, told, answer_told}
 use Rattle.code_correct.proofs.Gets.{step_runs}
 use Rattle.code_correct.proofs.Stores.{others_stay, get_set_same}

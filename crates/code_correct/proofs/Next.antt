@@ -9,10 +9,10 @@ use Rattle.machine_semantics.specs.State.{Operand, Value, Counter, Caller, own_l
 use Rattle.machine_semantics.specs.Effect.{Own}
 use Rattle.code_spec.specs.Layout.{home_of, Scope}
 use Rattle.code_spec.specs.Emits.{At}
-use Rattle.code_simulation_spec.specs.Steps.{words, stand, Runs, arrived, moved}
-use Rattle.code_simulation_spec.specs.Memory.{Setting, Before, before_of, FitsOthers}
-use Rattle.code_simulation_spec.specs.Stands.{Point, point, Stands, Frame, IsEnd, innermost, Receives, Inner, StandsAll}
-use Rattle.code_simulation_spec.specs.Comes.{Raising, Left, Reached, Acting, IsAwaited, inside_after, frame_after, IsBottom, NextActs, Ending, NextComes}
+use Rattle.code_spec.specs.Steps.{words, stand, Runs, arrived, moved}
+use Rattle.code_spec.specs.Memory.{Setting, Before, before_of, FitsOthers}
+use Rattle.code_spec.specs.Stands.{Point, point, Stands, Frame, IsEnd, innermost, Receives, Inner, StandsAll}
+use Rattle.code_spec.specs.Comes.{Raising, Left, Reached, Acting, IsAwaited, inside_after, frame_after, IsBottom, NextActs, Ending, NextComes}
 use Rattle.code_correct.specs.Known.{HasCode}
 use Rattle.code_correct.proofs.Steps.{then_runs, others_left}
 use Rattle.code_correct.proofs.Stores.{Laid}

@@ -17,11 +17,11 @@ use Rattle.code_spec.specs.Layout.{loops, handler_loops, process_places, words_o
 use Rattle.code_spec.specs.Emits.{At, EmitsAll}
 use Rattle.code_spec.specs.Segments.{stmts_segs}
 use Rattle.code_spec.specs.Compiled.{process_scope, EmitsHandler, inserted, ascending}
-use Rattle.code_simulation_spec.specs.Steps.{Runs, arrived}
-use Rattle.code_simulation_spec.specs.Memory.{Order, Setting, Holds, Room, FitsOthers}
-use Rattle.code_simulation_spec.specs.Proper.{ProperAll}
-use Rattle.code_simulation_spec.specs.Stands.{point, there}
-use Rattle.code_simulation_spec.specs.Comes.{NextComes}
+use Rattle.code_spec.specs.Steps.{Runs, arrived}
+use Rattle.code_spec.specs.Memory.{Order, Setting, Holds, Room, FitsOthers}
+use Rattle.code_spec.specs.Proper.{ProperAll}
+use Rattle.code_spec.specs.Stands.{point, there}
+use Rattle.code_spec.specs.Comes.{NextComes}
 use Rattle.code_correct.proofs.Frames.{vars_hold}
 use Rattle.code_correct.proofs.Layouts.{all_laid}
 use Rattle.code_correct.proofs.Next.{next_comes, at_frame}

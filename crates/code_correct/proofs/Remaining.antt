@@ -13,11 +13,11 @@ use Rattle.machine_semantics.specs.State.{Operand, Value, Counter, own_locals}
 use Rattle.machine_semantics.specs.Effect.{Own}
 use Rattle.code_spec.specs.Layout.{home_of, Scope}
 use Rattle.code_spec.specs.Emits.{At, inner}
-use Rattle.code_simulation_spec.specs.Steps.{Words, stand, Runs, arrived}
-use Rattle.code_simulation_spec.specs.Memory.{Setting, site_of, Before, Same, Fits, Here}
-use Rattle.code_simulation_spec.specs.Stands.{Point, point, there, Doing, Looping, Turning, Storing, Entering, Leaving, Answering, Giving, Calm, Stands, Receives, index_on}
-use Rattle.code_simulation_spec.specs.Proper.{CountsOn}
-use Rattle.code_simulation_spec.specs.Comes.{Got, Left, Reached, Acting, Does, IsAwaited, inside_after}
+use Rattle.code_spec.specs.Steps.{Words, stand, Runs, arrived}
+use Rattle.code_spec.specs.Memory.{Setting, site_of, Before, Same, Fits, Here}
+use Rattle.code_spec.specs.Stands.{Point, point, there, Doing, Looping, Turning, Storing, Entering, Leaving, Answering, Giving, Calm, Stands, Receives, index_on}
+use Rattle.code_spec.specs.Proper.{CountsOn}
+use Rattle.code_spec.specs.Comes.{Got, Left, Reached, Acting, Does, IsAwaited, inside_after}
 use Rattle.code_correct.specs.Known.{CallsCome, HasCode}
 use Rattle.code_correct.proofs.Steps.{then_runs}
 use Rattle.code_correct.proofs.Stores.{Laid}

@@ -5,7 +5,7 @@ use Rattle.source_semantics.specs.Names.{routines}
 use Rattle.machine_semantics.specs.Image as image
 use Rattle.code_spec.specs.Numbering.{Text, is_among, texts_from, numbered, number_of}
 use Rattle.code_spec.specs.Compiled.{IsRoutine, EmitsRoutine, IsCodeOf}
-use Rattle.code_simulation_spec.specs.Memory.{Setting}
+use Rattle.code_spec.specs.Memory.{Setting}
 use Rattle.code_correct.specs.Known.{IsThere}
 use Rattle.codegen_law.specs.Kept.{NamesDiffer}
 use Rattle.codegen_law.proofs.NameNumbers.{IsText}

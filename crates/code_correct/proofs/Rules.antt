@@ -5,11 +5,11 @@ use Rattle.source_semantics.specs.Nesting.{StmtsBelow, AnswersBelow}
 use Rattle.source_semantics.specs.Ranks.{uses_all, reached}
 use Rattle.code_spec.specs.Numbering.{Text, stmts_calls, answers_calls, routine_calls}
 use Rattle.code_spec.specs.Compiled.{routine_scope}
-use Rattle.code_simulation_spec.specs.Memory.{Setting}
+use Rattle.code_spec.specs.Memory.{Setting}
 use Rattle.code_correct.specs.Known.{IsProper}
-use Rattle.wellformed.specs.Here.{own_of}
-use Rattle.wellformed.specs.Statements.{AllFit}
-use Rattle.wellformed.specs.WellFormed.{AnswersFit}
+use Rattle.static_semantics.specs.Here.{own_of}
+use Rattle.static_semantics.specs.Statements.{AllFit}
+use Rattle.static_semantics.specs.WellFormed.{AnswersFit}
 use Rattle.codegen_law.proofs.Mirror.{here_of}
 use Rattle.codegen_law.proofs.RuledTexts.{AgreeAll, agree_front, agree_back, Whole, Place, UsesIn, stmts_proper}
 use Rattle.codegen_law.proofs.Rules.{answers_below, answers_proper}

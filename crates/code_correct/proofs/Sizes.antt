@@ -12,8 +12,8 @@ use Rattle.code_spec.specs.Numbering.{Text, routine_in, entry_in, number_of}
 use Rattle.code_spec.specs.Code.{code_of, row_code, args_code, call_code, index_code, store_code, store_spot, store_element, store_shape, put_code, range_code, range_of_spot, ref_name}
 use Rattle.code_spec.specs.Emits.{IsLine, inner, Emits, EmitsAll, condition_of, turns_of}
 use Rattle.code_spec.specs.Segments.{line, call_segs, expr_segs, row_segs, args_segs, index_segs, put_segs, stmt_segs, stmts_segs}
-use Rattle.code_simulation_spec.specs.Memory.{Setting}
-use Rattle.code_simulation_spec.specs.Proper.{IsSingle, IsArray, IsFree, ProperRef, Proper, ProperAll}
+use Rattle.code_spec.specs.Memory.{Setting}
+use Rattle.code_spec.specs.Proper.{IsSingle, IsArray, IsFree, ProperRef, Proper, ProperAll}
 use Rattle.code_measures.proofs.Sizes.{line_size, alike_inner, Alike}
 use Rattle.code_measures.proofs.Lines.{length_both}
 

@@ -13,11 +13,11 @@ use Rattle.code_spec.specs.Layout.{Scope, loops_in, loops}
 use Rattle.code_spec.specs.Numbering.{Text, routine_in, entry_in, number_of}
 use Rattle.code_spec.specs.Code.{code_of, args_code, call_code, index_code, store_code, put_code, range_code, ref_name}
 use Rattle.code_spec.specs.Emits.{Has, IsLine, At, inner, condition_of, Emits, EmitsAll}
-use Rattle.code_simulation_spec.specs.Steps.{Words, stand, Runs, arrived}
-use Rattle.code_simulation_spec.specs.Memory.{Setting, site_of, Room, Before, Fits, Here}
-use Rattle.code_simulation_spec.specs.Proper.{ProperArgs, Proper, ProperAll, CallsEntry, Callee}
-use Rattle.code_simulation_spec.specs.Stands.{Point, point, there, jump, HasCounter, Looping, index_on, target_code}
-use Rattle.code_simulation_spec.specs.Comes.{Left, Reached, Acting}
+use Rattle.code_spec.specs.Steps.{Words, stand, Runs, arrived}
+use Rattle.code_spec.specs.Memory.{Setting, site_of, Room, Before, Fits, Here}
+use Rattle.code_spec.specs.Proper.{ProperArgs, Proper, ProperAll, CallsEntry, Callee}
+use Rattle.code_spec.specs.Stands.{Point, point, there, jump, HasCounter, Looping, index_on, target_code}
+use Rattle.code_spec.specs.Comes.{Left, Reached, Acting}
 use Rattle.code_correct.specs.Known.{CallsCome, GotAll, HasCode}
 use Rattle.code_correct.proofs.Steps.{then_runs, line_front, line_back, line_one}
 use Rattle.code_correct.proofs.Gets.{step_runs, raise_here}

@@ -14,8 +14,8 @@ use Rattle.machine_semantics.specs.Effect.{Own, Outcome, Goes, Raises, effect, a
 use Rattle.code_spec.specs.Layout.{Scope, Place, Shape, single, array}
 use Rattle.code_spec.specs.Code.{op_instr}
 use Rattle.code_spec.specs.Emits.{IsLine, At}
-use Rattle.code_simulation_spec.specs.Steps.{Words, words, stand, SameInside, Runs, arrived, moved}
-use Rattle.code_simulation_spec.specs.Memory.{Setting, HoldsHeld, Holds, FitsOthers, Fits, Before}
+use Rattle.code_spec.specs.Steps.{Words, words, stand, SameInside, Runs, arrived, moved}
+use Rattle.code_spec.specs.Memory.{Setting, HoldsHeld, Holds, FitsOthers, Fits, Before}
 use Rattle.code_measures.proofs.Lines.{has_second, has_first, length_both}
 
 -- ---- runs

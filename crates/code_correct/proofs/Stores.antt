@@ -8,8 +8,8 @@ use Rattle.source_semantics.specs.Store.{Held, one, many, Slot, Vars, slot_named
 use Rattle.source_semantics.specs.Run.{Memory, or_else, memory_after, with_own}
 use Rattle.machine_semantics.specs.Effect.{Own}
 use Rattle.code_spec.specs.Layout.{Owner, by_program, by_process, by_monitor, home_of, Shape, single, array, size_of, Place, Area, in_frame, in_process, in_monitor, Spot, Scope, in_area, place_named, spot_of, outer_spot, process_places, monitor_places}
-use Rattle.code_simulation_spec.specs.Steps.{Words}
-use Rattle.code_simulation_spec.specs.Memory.{Setting, IsAt, HoldsHeld, HoldsSlot, Holds, KeptAll, Apart, ApartFrom, AllApart, opens_of, words_of, with_words, Fits, Before, MayRun, Here, inside_places}
+use Rattle.code_spec.specs.Steps.{Words}
+use Rattle.code_spec.specs.Memory.{Setting, IsAt, HoldsHeld, HoldsSlot, Holds, KeptAll, Apart, ApartFrom, AllApart, opens_of, words_of, with_words, Fits, Before, MayRun, Here, inside_places}
 use Rattle.code_correct.proofs.Loads.{Pair, found_pair}
 
 pub get_set_same : (xs : List ℤ) (k : ℕ) (x y : ℤ) → slice_get xs k ≡ Some x → slice_get (slice_set xs k y) k ≡ Some y

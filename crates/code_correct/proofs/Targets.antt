@@ -14,11 +14,11 @@ use Rattle.machine_semantics.specs.Effect.{Own, Outcome, Goes, Raises, Stuck, ef
 use Rattle.code_spec.specs.Layout.{home_of, single, array, size_of, Area, in_frame, in_process, in_monitor, Spot, Scope, spot_of}
 use Rattle.code_spec.specs.Code.{store, store_at, store_shape, range_code, range_of_spot, store_spot, store_element}
 use Rattle.code_spec.specs.Emits.{IsLine, At}
-use Rattle.code_simulation_spec.specs.Steps.{Words, words, stand, Runs, arrived, moved}
-use Rattle.code_simulation_spec.specs.Memory.{Setting, IsAt, HoldsHeld, HoldsSlot, AllApart, opens_of, words_of, with_words, Same, Fits, Before, Here}
-use Rattle.code_simulation_spec.specs.Proper.{IsSingle, IsArray, IsFree, ProperTarget}
-use Rattle.code_simulation_spec.specs.Stands.{Point, point, index_on, target_code}
-use Rattle.code_simulation_spec.specs.Comes.{Got, Reached}
+use Rattle.code_spec.specs.Steps.{Words, words, stand, Runs, arrived, moved}
+use Rattle.code_spec.specs.Memory.{Setting, IsAt, HoldsHeld, HoldsSlot, AllApart, opens_of, words_of, with_words, Same, Fits, Before, Here}
+use Rattle.code_spec.specs.Proper.{IsSingle, IsArray, IsFree, ProperTarget}
+use Rattle.code_spec.specs.Stands.{Point, point, index_on, target_code}
+use Rattle.code_spec.specs.Comes.{Got, Reached}
 use Rattle.code_correct.proofs.Steps.{then_runs, fits_left, line_front, line_back, line_one}
 use Rattle.code_correct.proofs.Loads.{SpotPair, spot_pair}
 use Rattle.code_correct.proofs.Gets.{raise_here, range_gets}

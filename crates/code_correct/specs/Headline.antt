@@ -6,14 +6,14 @@ use Rattle.source_semantics.specs.Names.{processes}
 use Rattle.source_semantics.specs.Starts.{Script}
 use Rattle.source_semantics.specs.Source.{IsSourceRun}
 use Rattle.machine_semantics.specs.Run.{events}
-use Rattle.machine_safety_spec.specs.Walk.{Where}
-use Rattle.machine_safety_spec.specs.Safe.{Parts, ImageFits}
+use Rattle.machine_semantics.specs.Walk.{Where}
+use Rattle.machine_semantics.specs.Safe.{Parts, ImageFits}
 use Rattle.machine_semantics.specs.Image.{Process}
-use Rattle.code_simulation_spec.specs.Memory.{Order}
+use Rattle.code_spec.specs.Memory.{Order}
 use Rattle.codegen_law.specs.Kept.{NamesDiffer}
 use Rattle.code_correct.specs.Kept.{KeepsRules}
 use Rattle.code_correct.specs.Process.{setting_of}
-use Rattle.wellformed.specs.WellFormed.{IsWellFormed}
+use Rattle.static_semantics.specs.WellFormed.{IsWellFormed}
 use Rattle.codegen_law.specs.Ruled.{NamesApart}
 use Rattle.code_lifting.specs.Related.{Whole}
 use Rattle.code_lifting.specs.Compiled.{IsFrom, script_of}

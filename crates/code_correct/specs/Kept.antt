@@ -5,8 +5,8 @@ use Rattle.source_semantics.specs.Names.{routines, processes, routine_count}
 use Rattle.source_semantics.specs.Run.{routine_named}
 use Rattle.code_spec.specs.Numbering.{Text}
 use Rattle.code_spec.specs.Compiled.{process_scope, IsCodeOf}
-use Rattle.code_simulation_spec.specs.Memory.{Order, Setting}
-use Rattle.code_simulation_spec.specs.Proper.{found_of, IsMine, Entry, ProperAll}
+use Rattle.code_spec.specs.Memory.{Order, Setting}
+use Rattle.code_spec.specs.Proper.{found_of, IsMine, Entry, ProperAll}
 use Rattle.code_correct.specs.Known.{IsProper}
 use Rattle.code_spec.specs.Boundary.{Compiled}
 use Rattle.code_correct.specs.Process.{setting_of, ProperHandler, IsEmitted}

@@ -12,12 +12,12 @@ use Rattle.code_spec.specs.Layout.{Scope, count, routine_words}
 use Rattle.code_spec.specs.Numbering.{Text, number_of}
 use Rattle.code_spec.specs.Emits.{At}
 use Rattle.code_spec.specs.Compiled.{routine_scope, EmitsRoutine}
-use Rattle.code_simulation_spec.specs.Steps.{Words, stand, Runs}
-use Rattle.code_simulation_spec.specs.Memory.{Setting, Before, before_of, Fits, FitsOthers, Here}
+use Rattle.code_spec.specs.Steps.{Words, stand, Runs}
+use Rattle.code_spec.specs.Memory.{Setting, Before, before_of, Fits, FitsOthers, Here}
 use Rattle.source_semantics.specs.Names.{routine_count}
-use Rattle.code_simulation_spec.specs.Proper.{found_of, IsMine, Entry, ProperAll, ProperAnswers}
-use Rattle.code_simulation_spec.specs.Stands.{point}
-use Rattle.code_simulation_spec.specs.Comes.{Raising, Reached}
+use Rattle.code_spec.specs.Proper.{found_of, IsMine, Entry, ProperAll, ProperAnswers}
+use Rattle.code_spec.specs.Stands.{point}
+use Rattle.code_spec.specs.Comes.{Raising, Reached}
 
 -- the code of a routine stands in the image under its number
 pub record IsThere (e : Setting) (t : Text) : Type 0 where

@@ -6,10 +6,10 @@ use Rattle.source_semantics.specs.Store.{Vars}
 use Rattle.machine_semantics.specs.Effect.{Own}
 use Rattle.code_spec.specs.Layout.{in_process, in_monitor, process_places, monitor_places}
 use Rattle.code_spec.specs.Compiled.{process_scope, EmitsProcess}
-use Rattle.code_simulation_spec.specs.Steps.{Runs}
-use Rattle.code_simulation_spec.specs.Memory.{Order, Setting, Holds, opens_of}
-use Rattle.code_simulation_spec.specs.Proper.{ProperAll}
-use Rattle.code_simulation_spec.specs.Comes.{NextComes}
+use Rattle.code_spec.specs.Steps.{Runs}
+use Rattle.code_spec.specs.Memory.{Order, Setting, Holds, opens_of}
+use Rattle.code_spec.specs.Proper.{ProperAll}
+use Rattle.code_spec.specs.Comes.{NextComes}
 use Rattle.code_correct.specs.Known.{HasCode}
 use Rattle.code_spec.specs.Boundary.{Compiled, View, next_of, IsFaithful}
 

@@ -3,7 +3,7 @@ use Rattle.std.specs.Prelude.{◌≡◌, ℕ, Some, slice_get}
 use Rattle.syntax_tree.specs.Plain.{Name}
 use Rattle.source_semantics.specs.Names.{processes}
 use Rattle.code_spec.specs.Compiled.{IsCodeOf}
-use Rattle.wellformed.specs.WellFormed.{IsWellFormed}
+use Rattle.static_semantics.specs.WellFormed.{IsWellFormed}
 use Rattle.code_spec.specs.Boundary.{Compiled, IsFaithful}
 use Rattle.code_correct.specs.Process.{FreeHolds, RestHolds, StandsFor}
 use Rattle.codegen_law.specs.Ruled.{NamesApart, runs_of}

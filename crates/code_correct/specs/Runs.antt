@@ -7,7 +7,7 @@ use Rattle.machine_semantics.specs.Image as image
 use Rattle.code_spec.specs.Boundary.{Compiled, IsFaithful}
 use Rattle.code_correct.specs.Process.{FreeHolds, RestHolds, StandsFor}
 use Rattle.codegen_law.specs.Ruled.{runs_of}
-use Rattle.checked_law.specs.Runs.{HoldsMade, IsProcessOf, IsSmallEnough}
+use Rattle.built_image_law.specs.Runs.{HoldsMade, IsProcessOf, IsSmallEnough}
 
 -- The law: the code of each process does, step by step, what the meaning of programs says.
 abbrev pub CheckedCodeIsFaithful : Type 0

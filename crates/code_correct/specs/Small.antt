@@ -8,8 +8,8 @@ use Rattle.static_semantics.specs.Static.{IsChecked}
 use Rattle.code_spec.specs.Boundary.{Compiled, IsFaithful}
 use Rattle.code_correct.specs.Process.{FreeHolds, RestHolds, StandsFor}
 use Rattle.codegen_law.specs.Ruled.{runs_of}
-use Rattle.checked_law.specs.Runs.{HoldsMade, IsProcessOf}
-use Rattle.checked_law.specs.Small.{KeepsSizes}
+use Rattle.built_image_law.specs.Runs.{HoldsMade, IsProcessOf}
+use Rattle.built_image_law.specs.Small.{KeepsSizes}
 
 -- The law: in it the code of each process does, step by step, what the meaning of programs says.
 abbrev pub GeneratedCodeIsFaithful : Type 0

@@ -2,7 +2,7 @@
 
 ghost use Rattle.code_correct.specs.Small.{GeneratedCodeIsFaithful};
 
-use checked_law::generated_within_limits::programs_that_keep_sizes_are_small;
+use built_image_law::generated_within_limits::programs_that_keep_sizes_are_small;
 
 /// In it the code of each process does what its text says.
 pub fn generated_code_is_faithful()

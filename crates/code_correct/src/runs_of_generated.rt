@@ -6,7 +6,7 @@ ghost use Rattle.code_correct.specs.Runs.{CheckedCodeIsFaithful};
 pub fn what_is_made_of_a_checked_program_is_faithful()
     ensures { CheckedCodeIsFaithful }
 {
-    checked_law::premises_of_laws::checked_programs_are_ready();
-    checked_law::code_of_program::what_is_generated_is_code();
+    built_image_law::premises_of_laws::checked_programs_are_ready();
+    built_image_law::code_of_program::what_is_generated_is_code();
     crate::process_code_law::program_code_is_faithful();
 }

@@ -25,7 +25,7 @@ use Rattle.machine_semantics.specs.State as target
 use Rattle.machine_semantics.specs.Effect.{Own, Outcome, Goes, Does, Signals, Broadcasts, Waits, Raises, Ends, Stuck, is_none_waiting}
 use Rattle.machine_semantics.specs.Starts.{queue_of, raised}
 use Rattle.machine_semantics.specs.Tick.{Ticked, owned_of, settle}
-use Rattle.machine_safety_spec.specs.Queues.{times, AreQueued}
+use Rattle.machine_semantics.specs.Queues.{times, AreQueued}
 use Rattle.code_spec.specs.Boundary.{Compiled, View, view, kept, view_raised, job_raised, Stays, Enters, Leaves, Pauses, Fails, Finishes, Agrees}
 use Rattle.code_lifting.specs.Related.{Whole, Relations, own, inside_of, monitor_vars, view_of, Same, Related, IsSame}
 use Rattle.code_lifting.specs.Compiled.{IsCompiled}

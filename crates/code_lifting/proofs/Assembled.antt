@@ -14,7 +14,7 @@ use Rattle.machine_semantics.specs.Run as target
 use Rattle.code_spec.specs.Layout.{words_of, places_from, in_monitor, monitor_base, vars_of_monitor, monitor_places}
 use Rattle.code_spec.specs.Layout as layout
 use Rattle.code_spec.specs.Compiled.{IsReleased, EmitsProcess, EmitsProcesses}
-use Rattle.code_simulation_spec.specs.Memory.{Holds, opens_of}
+use Rattle.code_spec.specs.Memory.{Holds, opens_of}
 use Rattle.code_spec.specs.Boundary.{View, IsFaithful}
 use Rattle.code_lifting.specs.Related.{Whole, Relations}
 use Rattle.code_lifting.specs.Compiled.{IsTimed, IsProcessOf, IsCompiled}

@@ -17,7 +17,7 @@ use Rattle.machine_semantics.specs.State as target
 use Rattle.machine_semantics.specs.Effect.{Own}
 use Rattle.machine_semantics.specs.Tick.{owned_of}
 use Rattle.machine_semantics.specs.Tick as tick
-use Rattle.machine_safety_spec.specs.Queues.{times, waits_on}
+use Rattle.machine_semantics.specs.Queues.{times, waits_on}
 use Rattle.code_spec.specs.Boundary.{view, kept, SameOutside}
 use Rattle.code_lifting.specs.Related.{Whole, Relations, own, inside_of, monitor_vars, Same, Related}
 use Rattle.code_lifting.specs.Compiled.{IsCompiled}

@@ -23,7 +23,7 @@ use Rattle.machine_semantics.specs.State.{Thread, Idle, Ready, Waiting, State}
 use Rattle.machine_semantics.specs.State as target
 use Rattle.machine_semantics.specs.Starts.{Started, unchanged, followed, released, release, release_thread, raised, without, queue_of, time_out}
 use Rattle.machine_semantics.specs.Tick.{owned_of}
-use Rattle.machine_safety_spec.specs.Queues.{times}
+use Rattle.machine_semantics.specs.Queues.{times}
 use Rattle.code_spec.specs.Boundary.{view, job_raised, view_raised}
 use Rattle.code_lifting.specs.Related.{Whole, Relations, own, inside_of, Waits, Same, IsSame}
 use Rattle.code_lifting.specs.Compiled.{IsProcess, IsCompiled}

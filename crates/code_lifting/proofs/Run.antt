@@ -17,7 +17,7 @@ use Rattle.machine_semantics.specs.State.{Thread, Idle, Ready, Waiting, State, z
 use Rattle.machine_semantics.specs.Starts.{starts}
 use Rattle.machine_semantics.specs.Tick.{owned_of, pick, run_picked, tick}
 use Rattle.machine_semantics.specs.Run.{words_of, at_start, state_at, events_from, events}
-use Rattle.machine_safety_spec.specs.Queues.{waits_on, AreQueued}
+use Rattle.machine_semantics.specs.Queues.{waits_on, AreQueued}
 use Rattle.code_lifting.specs.Related.{Whole, Relations, inside_of, Same, IsSame}
 use Rattle.code_lifting.specs.Compiled.{IsProcessOf, IsCompiled, IsFrom, script_of, IsKept}
 use Rattle.code_lifting.proofs.Lists.{none_some}

@@ -16,7 +16,7 @@ use Rattle.machine_semantics.specs.State as target
 use Rattle.machine_semantics.specs.Effect.{Own, Outcome, Goes}
 use Rattle.machine_semantics.specs.Effect as effects
 use Rattle.machine_semantics.specs.Tick.{Candidate, Ticked, owned_of, settle, at_next, outcome, outcome_at, least, pick, run_picked, run_thread}
-use Rattle.machine_safety_spec.specs.Queues.{AreQueued}
+use Rattle.machine_semantics.specs.Queues.{AreQueued}
 use Rattle.code_spec.specs.Boundary.{Compiled, View, next_of, Agrees}
 use Rattle.code_lifting.specs.Related.{Whole, Relations, own, inside_of, monitor_vars, view_of, Same, IsSame}
 use Rattle.code_lifting.specs.Compiled.{IsCompiled}

@@ -18,7 +18,7 @@ use Rattle.machine_semantics.specs.Run as target
 use Rattle.code_spec.specs.Layout.{Shape, single, array, size_of, shape_of, Place, words_of, places_from, in_process, in_monitor, base_from, monitor_base, vars_of_monitor, monitor_places}
 use Rattle.code_spec.specs.Layout as layout
 use Rattle.code_spec.specs.Compiled.{AreMonitors, condition_monitors}
-use Rattle.code_simulation_spec.specs.Memory.{IsAt, HoldsHeld, Holds}
+use Rattle.code_spec.specs.Memory.{IsAt, HoldsHeld, Holds}
 
 -- ---- the monitors of the image and those of the text
 

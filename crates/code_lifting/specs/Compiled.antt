@@ -15,10 +15,10 @@ use Rattle.machine_semantics.specs.Starts.{starts}
 use Rattle.machine_semantics.specs.Tick.{tick}
 use Rattle.machine_semantics.specs.Run.{words_of, state_at}
 use Rattle.machine_semantics.specs.Image as target
-use Rattle.machine_safety_spec.specs.Walk.{Where}
-use Rattle.machine_safety_spec.specs.Safe.{Parts, ImageFits}
-use Rattle.machine_safety_spec.specs.Queues.{AreQueued}
-use Rattle.machine_safety_spec.specs.Whole.{HasNoOverrun}
+use Rattle.machine_semantics.specs.Walk.{Where}
+use Rattle.machine_semantics.specs.Safe.{Parts, ImageFits}
+use Rattle.machine_semantics.specs.Queues.{AreQueued}
+use Rattle.machine_semantics.specs.Whole.{HasNoOverrun}
 use Rattle.code_spec.specs.Boundary.{SameInside, IsFaithful}
 use Rattle.code_lifting.specs.Related.{Whole, Relations}
 

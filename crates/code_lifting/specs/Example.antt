@@ -4,7 +4,7 @@ use Rattle.source_semantics_law.specs.Example.{signalled_wait}
 use Rattle.source_semantics.specs.Starts.{Script}
 use Rattle.source_semantics.specs.Source.{IsSourceRun}
 use Rattle.machine_semantics.specs.Run.{events}
-use Rattle.machine_safety_spec.specs.Whole.{HasNoOverrun}
+use Rattle.machine_semantics.specs.Whole.{HasNoOverrun}
 use Rattle.machine_safety.specs.SmallImages.{waiter_and_signaller}
 use Rattle.code_lifting.specs.Related.{Whole}
 use Rattle.code_lifting.specs.Compiled.{IsFrom, script_of}

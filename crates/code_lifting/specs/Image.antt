@@ -8,13 +8,13 @@ use Rattle.source_semantics.specs.Ranks.{rank, ceiling}
 use Rattle.machine_semantics.specs.Image.{Image, Process, Monitor}
 use Rattle.code_spec.specs.Layout.{in_process, in_monitor, process_places, monitor_places}
 use Rattle.code_spec.specs.Compiled.{EmitsProcess, IsCodeOf}
-use Rattle.code_simulation_spec.specs.Memory.{Holds, opens_of}
+use Rattle.code_spec.specs.Memory.{Holds, opens_of}
 use Rattle.source_semantics.specs.Starts.{Script}
 use Rattle.source_semantics.specs.Source.{IsSourceRun}
 use Rattle.machine_semantics.specs.Run.{events}
-use Rattle.machine_safety_spec.specs.Walk.{Where}
-use Rattle.machine_safety_spec.specs.Safe.{Parts, ImageFits}
-use Rattle.machine_safety_spec.specs.Whole.{HasNoOverrun}
+use Rattle.machine_semantics.specs.Walk.{Where}
+use Rattle.machine_semantics.specs.Safe.{Parts, ImageFits}
+use Rattle.machine_semantics.specs.Whole.{HasNoOverrun}
 use Rattle.code_spec.specs.Boundary.{Compiled}
 use Rattle.code_spec.specs.Follows.{IsRight}
 use Rattle.code_lifting.specs.Related.{Whole}

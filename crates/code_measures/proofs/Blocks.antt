@@ -16,7 +16,7 @@ use Rattle.code_spec.specs.Layout.{Area, in_frame, in_process, in_monitor, Spot,
 use Rattle.code_spec.specs.Code.{store, store_at, store_spot, store_shape, store_element, index_code, store_code, put_code, range_code, range_of_spot, ref_name}
 use Rattle.code_spec.specs.Emits.{IsLine, At}
 use Rattle.code_spec.specs.Segments.{line, index_segs, put_segs}
-use Rattle.code_simulation_spec.specs.Proper.{IsArray, IsSingle}
+use Rattle.code_spec.specs.Proper.{IsArray, IsSingle}
 use Rattle.code_cost_spec.specs.Names.{Names, Calls, view_of, range_seen}
 use Rattle.code_cost_spec.specs.Costs.{run, check_ticks, store_ticks, put_ticks, index_cost}
 use Rattle.code_cost_spec.specs.Heights.{index_height, index_words}

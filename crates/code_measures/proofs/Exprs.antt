@@ -18,7 +18,7 @@ use Rattle.code_spec.specs.Numbering.{Text, routine_in, number_of}
 use Rattle.code_spec.specs.Code.{load, load_at, load_name, load_element, load_shape, constant_named, op_instr, range_code, code_of, row_code, args_code, call_code}
 use Rattle.code_spec.specs.Emits.{IsLine}
 use Rattle.code_spec.specs.Segments.{line, call_segs, expr_segs, row_segs, args_segs}
-use Rattle.code_simulation_spec.specs.Proper.{IsArray}
+use Rattle.code_spec.specs.Proper.{IsArray}
 use Rattle.code_cost_spec.specs.Names.{View, Names, Calls, view_of}
 use Rattle.code_cost_spec.specs.Costs.{run, load_ticks, element_ticks, check_ticks, call_cost, expr_cost, row_cost, args_cost}
 use Rattle.code_cost_spec.specs.Heights.{call_height, expr_height, row_height, args_height}

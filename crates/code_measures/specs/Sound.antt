@@ -8,7 +8,7 @@ use Rattle.code_spec.specs.Layout.{by_monitor, Spot, Scope, spot_of, routine_wor
 use Rattle.code_spec.specs.Numbering.{Text, routine_in, entry_in, number_of}
 use Rattle.code_spec.specs.Emits.{inner, turns_of}
 use Rattle.code_spec.specs.Compiled.{routine_scope, process_scope}
-use Rattle.code_simulation_spec.specs.Proper.{IsArray, IsSingle}
+use Rattle.code_spec.specs.Proper.{IsArray, IsSingle}
 use Rattle.valid_image.specs.Found.{Known}
 use Rattle.valid_image.specs.Tables.{count as count_of}
 use Rattle.code_cost_spec.specs.Names.{Calls}

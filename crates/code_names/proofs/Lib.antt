@@ -3,3 +3,4 @@ pub mod NumberingTable
 pub mod Listing
 pub mod Meaning
 pub mod Visiting
+pub mod Found

@@ -2,3 +2,4 @@ pub mod First
 pub mod Texts
 pub mod Calls
 pub mod Parts
+pub mod Goals

@@ -9,15 +9,19 @@
 mod calls;
 mod directory;
 mod name_list;
+mod nearest;
 mod numbering;
 mod order;
 mod parts;
+mod places;
 mod text;
 mod text_list;
 
 pub use calls::Called;
 pub use directory::Directory;
 pub use name_list::NameList;
+pub use nearest::{Reached, first_reached};
 pub use numbering::Numbering;
+pub use places::{calls_of, earliest, first_places};
 pub use text::{Body, RoutineOwner};
 pub use text_list::TextList;

@@ -6,3 +6,8 @@ pub mod Segments
 pub mod Compiled
 pub mod Boundary
 pub mod Follows
+pub mod Steps
+pub mod Memory
+pub mod Proper
+pub mod Stands
+pub mod Comes

@@ -11,7 +11,7 @@ use Rattle.code_spec.specs.Emits.{condition_of}
 use Rattle.code_cost_spec.specs.Names.{Names, inside}
 use Rattle.code_cost_spec.specs.Lengths.{stmt_length, stmts_length, handler_length}
 use Rattle.code_cost_spec.specs.Levels.{process_names, processes_length}
-use Rattle.wellformed.specs.WellFormed.{ConstantsFit, kind_size, vars_words}
+use Rattle.static_semantics.specs.WellFormed.{ConstantsFit, kind_size, vars_words}
 use Rattle.codegen_spec.specs.Told.{value_told}
 use Rattle.codegen_law.specs.MadeRightFits.{Fit}
 use Rattle.codegen_law.proofs.Words.{fit_low, word_fits}

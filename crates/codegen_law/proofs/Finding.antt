@@ -7,10 +7,10 @@ use Rattle.static_declarations.specs.declared.sort.Sort.{Sort}
 use Rattle.static_declarations.specs.declared.sort.Sort.TheVariants as sort_is
 use Rattle.source_semantics.specs.Run.{Found, routine_named, entry_named}
 use Rattle.code_spec.specs.Numbering.{Called, calls_entry, expr_calls, exprs_calls, row_calls, ref_calls, stmt_calls, stmts_calls, answers_calls}
-use Rattle.wellformed.specs.Here.{Here, in_loop, scalar_sort}
-use Rattle.wellformed.specs.Typed.{answer_sort, params_of, IsOf, IsRow, AreArguments, IsTarget}
-use Rattle.wellformed.specs.Statements.{Fits, AllFit, may_call}
-use Rattle.wellformed.specs.WellFormed.{AnswersFit}
+use Rattle.static_semantics.specs.Here.{Here, in_loop, scalar_sort}
+use Rattle.static_semantics.specs.Typed.{answer_sort, params_of, IsOf, IsRow, AreArguments, IsTarget}
+use Rattle.static_semantics.specs.Statements.{Fits, AllFit, may_call}
+use Rattle.static_semantics.specs.WellFormed.{AnswersFit}
 use Rattle.codegen_law.specs.Called.{AllCalled, FindsRoutine, FindsEntry, Finds, TextsCallWhatIsFound}
 
 -- ---- lists of calls

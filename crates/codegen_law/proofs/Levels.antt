@@ -10,9 +10,9 @@ use Rattle.source_semantics.specs.Run.{Home, of_program, of_process, of_monitor,
 use Rattle.source_semantics.specs.Nesting.{ExprBelow, ExprsBelow, OperandsBelow, RefBelow, StmtBelow, StmtsBelow, AnswersBelow, Levels}
 use Rattle.code_spec.specs.Layout.{Owner, by_program, by_process, by_monitor}
 use Rattle.code_spec.specs.Numbering.{Text, routine_of, process_routines, entry_of, Called, calls_routine, calls_entry, called_text, expr_calls, exprs_calls, row_calls, ref_calls, stmt_calls, stmts_calls, answers_calls, routine_calls}
-use Rattle.wellformed.specs.Here.{in_routine}
-use Rattle.wellformed.specs.Statements.{may_call}
-use Rattle.wellformed.specs.WellFormed.{IsWellFormed, RoutineFits}
+use Rattle.static_semantics.specs.Here.{in_routine}
+use Rattle.static_semantics.specs.Statements.{may_call}
+use Rattle.static_semantics.specs.WellFormed.{IsWellFormed, RoutineFits}
 use Rattle.codegen_law.proofs.NameNumbers.{found_name, IsText, of_list, called_is_text}
 use Rattle.codegen_law.specs.Ruled.{NamesApart}
 use Rattle.codegen_law.specs.Numbered.{texts, CallsText, AreLevels}

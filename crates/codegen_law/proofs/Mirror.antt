@@ -9,11 +9,11 @@ use Rattle.source_semantics.specs.Store.{range_of, kind_range}
 use Rattle.source_semantics.specs.Run.{or_else}
 use Rattle.code_spec.specs.Layout.{Owner, by_program, by_process, by_monitor, home_of, Shape, single, array, size_of, shape_of, Place, Area, in_frame, in_process, in_monitor, Spot, Scope, in_area, place_named, spot_of, outer_spot, places_from, param_places, monitor_base, vars_of_process, vars_of_monitor, routine_places, count}
 use Rattle.code_spec.specs.Code.{constant_named, range_of_spot}
-use Rattle.code_simulation_spec.specs.Memory.{Setting}
-use Rattle.code_simulation_spec.specs.Proper.{IsValue, IsArray, IsSingle, IsFree}
+use Rattle.code_spec.specs.Memory.{Setting}
+use Rattle.code_spec.specs.Proper.{IsValue, IsArray, IsSingle, IsFree}
 use Rattle.static_declarations.specs.declared.sort.Sort.{Sort}
 use Rattle.static_declarations.specs.declared.sort.Sort.TheVariants as sort_is
-use Rattle.wellformed.specs.Here.{Here, Meant, turn, own_variable, outer_variable, value, nothing, is_among, meant_constant, meant_outer, meant_own, var_named, meant, outer_vars, kind_sort, kind_element, word_sort, element_sort, is_assignable, scalar_sort, param_var, own_of, monitor_vars}
+use Rattle.static_semantics.specs.Here.{Here, Meant, turn, own_variable, outer_variable, value, nothing, is_among, meant_constant, meant_outer, meant_own, var_named, meant, outer_vars, kind_sort, kind_element, word_sort, element_sort, is_assignable, scalar_sort, param_var, own_of, monitor_vars}
 
 -- where a text stands, by the rules
 abbrev pub here_of : Setting → Scope → List Name → List Var → Here

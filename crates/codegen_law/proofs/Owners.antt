@@ -8,9 +8,9 @@ use Rattle.source_semantics.specs.Names.{named, routines, monitors, processes, m
 use Rattle.source_semantics.specs.Run.{Found, of_program, of_process, of_monitor, or_else, entry_name, routine_named, entry_named, entry_of as source_entry}
 use Rattle.code_spec.specs.Layout.{Owner, by_program, by_process, by_monitor, home_of}
 use Rattle.code_spec.specs.Numbering.{Text, routine_of, process_routines, routine_in, entry_of, entry_in, Called, calls_routine, calls_entry, routine_calls}
-use Rattle.code_simulation_spec.specs.Memory.{Setting}
-use Rattle.code_simulation_spec.specs.Proper.{found_of}
-use Rattle.wellformed.specs.WellFormed.{IsWellFormed, RoutineFits, ProcessFits}
+use Rattle.code_spec.specs.Memory.{Setting}
+use Rattle.code_spec.specs.Proper.{found_of}
+use Rattle.static_semantics.specs.WellFormed.{IsWellFormed, RoutineFits, ProcessFits}
 use Rattle.codegen_law.proofs.NameNumbers.{IsText, found_there, of_list}
 use Rattle.codegen_law.specs.Ruled.{AllOfProgram, NamesApart}
 use Rattle.codegen_law.proofs.Mirror.{OwnerKnown}

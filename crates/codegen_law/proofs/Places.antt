@@ -6,7 +6,7 @@ use Rattle.source_semantics.specs.Names.{constant_value}
 use Rattle.source_semantics.specs.Store.{range_of, kind_range}
 use Rattle.source_semantics.specs.Run.{or_else}
 use Rattle.code_spec.specs.Layout.{Place, size_of, shape_of, words_of, places_from, param_places, count, Area, in_frame, Spot, Scope, place_named, in_area, outer_spot, spot_of}
-use Rattle.wellformed.specs.WellFormed.{ScalarFits, KindFits, VarFits, ParamFits}
+use Rattle.static_semantics.specs.WellFormed.{ScalarFits, KindFits, VarFits, ParamFits}
 use Rattle.codegen_spec.specs.Told.{counter, within}
 use Rattle.codegen_law.specs.MadeRightFits.{Fit, ShapeFits, RangeFits, SpotFits}
 use Rattle.codegen_law.proofs.Words.{fit_low, word_fits, few_between}

@@ -12,8 +12,8 @@ use Rattle.machine_semantics.specs.Image as image
 use Rattle.code_spec.specs.Layout.{Owner, by_program, by_process, by_monitor, home_of}
 use Rattle.code_spec.specs.Numbering.{Text, same_owner, same_text, routine_of, process_routines, entry_of, is_among, visit, texts_of, texts_from, visit_texts, numbered, place_among, number_of}
 use Rattle.code_spec.specs.Compiled.{IsRoutine, EmitsRoutine, EmitsRoutines, EmitsProcess, EmitsProcesses}
-use Rattle.code_simulation_spec.specs.Memory.{Setting}
-use Rattle.code_simulation_spec.specs.Proper.{found_of, IsMine, Entry}
+use Rattle.code_spec.specs.Memory.{Setting}
+use Rattle.code_spec.specs.Proper.{found_of, IsMine, Entry}
 use Rattle.codegen_law.specs.Kept.{NamesDiffer}
 use Rattle.codegen_law.proofs.NameNumbers.{found_there, name_same, text_named, IsText, AllTexts, all_both, visit_texts_text, visit_texts_adds, owner_same, text_is, among_front, among_back, or_true, entry_text, of_list, monitor_there}
 

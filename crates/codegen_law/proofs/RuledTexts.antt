@@ -15,13 +15,13 @@ use Rattle.code_spec.specs.Layout.{Owner, by_program, by_process, by_monitor, ho
 use Rattle.code_spec.specs.Numbering.{Text, routine_in, entry_of, entry_in, Called, calls_routine, calls_entry, expr_calls, exprs_calls, row_calls, ref_calls, stmt_calls, stmts_calls}
 use Rattle.code_spec.specs.Code.{constant_named, range_of_spot, ref_name}
 use Rattle.code_spec.specs.Emits.{inner, condition_of}
-use Rattle.code_simulation_spec.specs.Memory.{Setting}
-use Rattle.code_simulation_spec.specs.Proper.{found_of, IsMine, Callee, Reaches, Entry, ProperExpr, ProperRow, ProperArgs, ProperIndex, ProperRef, CountsOn, IsOutside, MayAct, CallsEntry, Waiting, Proper, ProperAll}
+use Rattle.code_spec.specs.Memory.{Setting}
+use Rattle.code_spec.specs.Proper.{found_of, IsMine, Callee, Reaches, Entry, ProperExpr, ProperRow, ProperArgs, ProperIndex, ProperRef, CountsOn, IsOutside, MayAct, CallsEntry, Waiting, Proper, ProperAll}
 use Rattle.static_declarations.specs.declared.sort.Sort.{Sort}
 use Rattle.static_declarations.specs.declared.sort.Sort.TheVariants as sort_is
-use Rattle.wellformed.specs.Here.{meant, scalar_sort, conditions_here, monitor_conditions, is_monitor}
-use Rattle.wellformed.specs.Typed.{answer_sort, params_of, IsOf, IsRow, AreArguments, IsTarget}
-use Rattle.wellformed.specs.Statements.{AreTurns, may_call, Fits, AllFit}
+use Rattle.static_semantics.specs.Here.{meant, scalar_sort, conditions_here, monitor_conditions, is_monitor}
+use Rattle.static_semantics.specs.Typed.{answer_sort, params_of, IsOf, IsRow, AreArguments, IsTarget}
+use Rattle.static_semantics.specs.Statements.{AreTurns, may_call, Fits, AllFit}
 use Rattle.codegen_law.specs.Ruled.{all_in, runs_of}
 use Rattle.codegen_law.proofs.NameNumbers.{monitor_there}
 use Rattle.codegen_law.proofs.Mirror.{here_of, OwnAt, OwnerKnown, spot_meant, value_meant, array_meant, free_meant, single_meant, unranged_word, unranged_element}

@@ -10,14 +10,14 @@ use Rattle.source_semantics.specs.Nesting.{ExprBelow, ExprsBelow, OperandsBelow,
 use Rattle.source_semantics.specs.Ranks.{uses, uses_all, called_uses, reached, monitors_of}
 use Rattle.code_spec.specs.Layout.{Owner, by_program, by_process, by_monitor, Scope}
 use Rattle.code_spec.specs.Numbering.{Text, routine_of, process_routines, routine_in, Called, calls_routine, calls_entry, answers_calls}
-use Rattle.code_simulation_spec.specs.Memory.{Setting}
-use Rattle.code_simulation_spec.specs.Proper.{found_of, IsMine, ProperAnswers}
+use Rattle.code_spec.specs.Memory.{Setting}
+use Rattle.code_spec.specs.Proper.{found_of, IsMine, ProperAnswers}
 use Rattle.static_declarations.specs.declared.sort.Sort.{Sort}
 use Rattle.static_declarations.specs.declared.sort.Sort.TheVariants as sort_is
-use Rattle.wellformed.specs.Here.{Here, in_loop, scalar_sort}
-use Rattle.wellformed.specs.Typed.{answer_sort, params_of, IsOf, IsRow, AreArguments, IsTarget}
-use Rattle.wellformed.specs.Statements.{may_call, Fits, AllFit}
-use Rattle.wellformed.specs.WellFormed.{AnswersFit}
+use Rattle.static_semantics.specs.Here.{Here, in_loop, scalar_sort}
+use Rattle.static_semantics.specs.Typed.{answer_sort, params_of, IsOf, IsRow, AreArguments, IsTarget}
+use Rattle.static_semantics.specs.Statements.{may_call, Fits, AllFit}
+use Rattle.static_semantics.specs.WellFormed.{AnswersFit}
 use Rattle.codegen_law.specs.Ruled.{all_in, runs_of, AllOfProgram}
 use Rattle.codegen_law.proofs.Mirror.{here_of}
 use Rattle.codegen_law.proofs.RuledTexts.{AgreeName, AgreeAll, Whole, Place, UsesIn, expr_proper}

@@ -17,7 +17,7 @@ use Rattle.code_spec.specs.Segments.{line, call_segs, expr_segs, row_segs, args_
 use Rattle.image_format.specs.View.{view, tree_of}
 use Rattle.image_format.specs.Kept.{fork, rep}
 use Rattle.image_format.specs.declared.seg.Seg.TheVariants as seg
-use Rattle.code_simulation_spec.specs.Proper.{IsSingle, IsArray}
+use Rattle.code_spec.specs.Proper.{IsSingle, IsArray}
 use Rattle.code_cost_spec.specs.Names.{Names, inside}
 use Rattle.code_cost_spec.specs.Lengths.{check_length, call_length, expr_length, row_length, args_length, index_length, put_length, stmt_length, stmts_length}
 use Rattle.code_measures.specs.Sound.{SoundRef, Sound, SoundAll}

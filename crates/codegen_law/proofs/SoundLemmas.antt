@@ -7,9 +7,9 @@ use Rattle.source_semantics.specs.Names.{processes}
 use Rattle.code_spec.specs.Layout.{Owner, by_process, home_of}
 use Rattle.code_spec.specs.Numbering.{Text, Called, calls_routine, calls_entry, called_text, stmts_calls, answers_calls, routine_calls, numbered, number_of}
 use Rattle.code_spec.specs.Compiled.{process_scope}
-use Rattle.wellformed.specs.Here.{in_routine, in_process}
-use Rattle.wellformed.specs.Statements.{AllFit, may_call}
-use Rattle.wellformed.specs.WellFormed.{IsWellFormed, OptionalFits}
+use Rattle.static_semantics.specs.Here.{in_routine, in_process}
+use Rattle.static_semantics.specs.Statements.{AllFit, may_call}
+use Rattle.static_semantics.specs.WellFormed.{IsWellFormed, OptionalFits}
 use Rattle.codegen_law.proofs.NameNumbers.{IsText, called_is_text}
 use Rattle.code_measures.specs.Sound.{SoundAll, SoundRoutine, SoundHandler}
 use Rattle.code_measures.specs.Declared.{IsBelow, IsSound}

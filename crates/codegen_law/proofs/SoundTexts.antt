@@ -11,14 +11,14 @@ use Rattle.code_spec.specs.Numbering.{Text, routine_in, entry_in, Called, calls_
 use Rattle.code_spec.specs.Code.{constant_named}
 use Rattle.code_spec.specs.Emits.{inner}
 use Rattle.code_spec.specs.Compiled.{routine_scope, process_scope}
-use Rattle.code_simulation_spec.specs.Memory.{Setting}
-use Rattle.code_simulation_spec.specs.Proper.{found_of, IsFree as IsFreeAs}
+use Rattle.code_spec.specs.Memory.{Setting}
+use Rattle.code_spec.specs.Proper.{found_of, IsFree as IsFreeAs}
 use Rattle.static_declarations.specs.declared.sort.Sort.{Sort}
 use Rattle.static_declarations.specs.declared.sort.Sort.TheVariants as sort_is
-use Rattle.wellformed.specs.Here.{meant, scalar_sort, own_of, in_process, conditions_here}
-use Rattle.wellformed.specs.Typed.{answer_sort, params_of, IsOf, IsRow, AreArguments, IsTarget}
-use Rattle.wellformed.specs.Statements.{Fits, AllFit}
-use Rattle.wellformed.specs.WellFormed.{AnswersFit, RoutineFits}
+use Rattle.static_semantics.specs.Here.{meant, scalar_sort, own_of, in_process, conditions_here}
+use Rattle.static_semantics.specs.Typed.{answer_sort, params_of, IsOf, IsRow, AreArguments, IsTarget}
+use Rattle.static_semantics.specs.Statements.{Fits, AllFit}
+use Rattle.static_semantics.specs.WellFormed.{AnswersFit, RoutineFits}
 use Rattle.code_measures.specs.Sound.{IsFree, SoundExpr, SoundRow, SoundArgs, SoundIndex, SoundRef, Sound, SoundAll, SoundAnswers, SoundRoutine}
 use Rattle.codegen_law.proofs.Mirror.{here_of, OwnAt, OwnerKnown, SpotOf, routine_at, spot_meant, array_meant, free_meant, single_meant}
 use Rattle.codegen_law.proofs.Turns.{turns_count}

@@ -10,10 +10,10 @@ use Rattle.code_spec.specs.Layout.{Owner, Scope, spot_of, loops, loops_in}
 use Rattle.code_spec.specs.Numbering.{Text, routine_in, entry_in, number_of}
 use Rattle.code_spec.specs.Code.{constant_named}
 use Rattle.code_spec.specs.Emits.{condition_of, monitor_of, turns_of}
-use Rattle.wellformed.specs.Here.{Here, scalar_sort}
-use Rattle.wellformed.specs.Typed.{params_of, IsOf, IsRow, AreArguments, IsTarget}
-use Rattle.wellformed.specs.Statements.{AreTurns, is_looped, Fits, AllFit}
-use Rattle.wellformed.specs.WellFormed.{ParamFits, AnswersFit}
+use Rattle.static_semantics.specs.Here.{Here, scalar_sort}
+use Rattle.static_semantics.specs.Typed.{params_of, IsOf, IsRow, AreArguments, IsTarget}
+use Rattle.static_semantics.specs.Statements.{AreTurns, is_looped, Fits, AllFit}
+use Rattle.static_semantics.specs.WellFormed.{ParamFits, AnswersFit}
 use Rattle.codegen_spec.specs.Told.{value_told, within}
 use Rattle.codegen_law.specs.MadeRightFits.{Fit, SpotFits, CallFits, ExprFits, RowFits, ArgsFit, RefFits, StmtFits, StmtsFit}
 use Rattle.codegen_law.specs.MadeWholeFits.{AnswersFit as AnswersAreOperands}

@@ -7,8 +7,8 @@ use Rattle.syntax_tree.specs.Plain.{Constant, Program}
 use Rattle.base.specs.Words.{word, raised, is_word, in_word}
 use Rattle.source_semantics.specs.Names.{constant_value}
 use Rattle.source_semantics.specs.Store.{up_to}
-use Rattle.code_simulation_spec.specs.Proper.{CountsOn}
-use Rattle.wellformed.specs.Statements.{AreTurns}
+use Rattle.code_spec.specs.Proper.{CountsOn}
+use Rattle.static_semantics.specs.Statements.{AreTurns}
 
 -- so many steps on
 abbrev up : ℤ → ℕ → ℤ

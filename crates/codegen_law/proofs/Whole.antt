@@ -10,9 +10,9 @@ use Rattle.code_spec.specs.Numbering.{Text, numbered, number_of}
 use Rattle.code_spec.specs.Emits.{monitor_of}
 use Rattle.code_spec.specs.Compiled.{routine_scope, process_scope}
 use Rattle.code_cost_spec.specs.Levels.{code_length, processes_length}
-use Rattle.wellformed.specs.Here.{own_of, is_function_at}
-use Rattle.wellformed.specs.WellFormed.{VarFits, IsWellFormed, vars_words, words}
-use Rattle.wellformed.specs.WellFormed as formed
+use Rattle.static_semantics.specs.Here.{own_of, is_function_at}
+use Rattle.static_semantics.specs.WellFormed.{VarFits, IsWellFormed, vars_words, words}
+use Rattle.static_semantics.specs.WellFormed as formed
 use Rattle.codegen_law.specs.MadeRightFits.{Fit, SpotFits}
 use Rattle.codegen_law.specs.MadeWholeFits.{OwnerFits, RoutineFits, HandlerFits, ProcessFits}
 use Rattle.codegen_law.proofs.Numbers.{few_routines}

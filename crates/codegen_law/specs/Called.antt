@@ -3,9 +3,9 @@ use Rattle.std.specs.Prelude.{◌≡◌, ◌⊎◌, Bool, true, List, [], ◌∷
 use Rattle.syntax_tree.specs.Plain.{Name, Stmts, Answers, Process, Program}
 use Rattle.source_semantics.specs.Run.{Found, routine_named, entry_named}
 use Rattle.code_spec.specs.Numbering.{Called, calls_routine, calls_entry, stmts_calls, answers_calls}
-use Rattle.wellformed.specs.Here.{Here}
-use Rattle.wellformed.specs.Statements.{AllFit, may_call}
-use Rattle.wellformed.specs.WellFormed.{AnswersFit}
+use Rattle.static_semantics.specs.Here.{Here}
+use Rattle.static_semantics.specs.Statements.{AllFit, may_call}
+use Rattle.static_semantics.specs.WellFormed.{AnswersFit}
 
 -- so it is of each call
 abbrev pub AllCalled : (Called → Type 0) → List Called → Type 0

@@ -6,7 +6,7 @@ use Rattle.code_spec.specs.Layout.{routine_words}
 use Rattle.code_spec.specs.Numbering.{Text, numbered}
 use Rattle.code_cost_spec.specs.Levels.{code_length}
 use Rattle.source_semantics_law.specs.Example.{signalled_wait}
-use Rattle.wellformed.specs.WellFormed.{IsWellFormed}
+use Rattle.static_semantics.specs.WellFormed.{IsWellFormed}
 use Rattle.codegen_law.specs.MadeWholeFits.{ProgramFits}
 
 -- the last word of each routine's frame has a number that is an operand

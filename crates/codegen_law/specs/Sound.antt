@@ -1,6 +1,6 @@
 -- Well-formed programs are sound.
 use Rattle.syntax_tree.specs.Plain.{Program}
-use Rattle.wellformed.specs.WellFormed.{IsWellFormed}
+use Rattle.static_semantics.specs.WellFormed.{IsWellFormed}
 use Rattle.codegen_law.specs.Ruled.{NamesApart}
 use Rattle.codegen_law.specs.Numbered.{AreNumbered}
 use Rattle.code_measures.specs.Declared.{IsSound}

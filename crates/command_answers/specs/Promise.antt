@@ -42,8 +42,8 @@ use Rattle.run_chart.specs.Chart.{chart_text}
 use Rattle.table_format.specs.declared.table.TaskTable.{TaskTable}
 use Rattle.table_format.specs.Rules.{IsTable}
 use Rattle.table_format.specs.Program.{program_of, table_text}
-use Rattle.sched_why.specs.Levels.{IsWhyText}
-use Rattle.sched_why.specs.Fits.{IsFitText}
+use Rattle.sched_program.specs.Levels.{IsWhyText}
+use Rattle.sched_program.specs.Fits.{IsFitText}
 use Rattle.command_answers.specs.Runs.{IsEdfRun}
 
 -- the bytes that are stored of an image hold it, and it is valid

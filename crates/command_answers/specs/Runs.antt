@@ -5,7 +5,7 @@ use Rattle.source_semantics.specs.Starts.{Script}
 use Rattle.source_semantics.specs.Any.{IsAnySourceRun}
 use Rattle.machine_semantics.specs.Image.{Image, Process}
 use Rattle.machine_semantics.specs.State.{Thread}
-use Rattle.machine_safety_spec.specs.Whole.{StackFits, WordsFit, Apart, InsideIsReady}
+use Rattle.machine_semantics.specs.Whole.{StackFits, WordsFit, Apart, InsideIsReady}
 use Rattle.code_lifting.specs.Compiled.{script_of}
 use Rattle.edf_semantics.specs.Run.{tick, state_at, events}
 use Rattle.edf_semantics.specs.InTime.{MeetsDeadlines}

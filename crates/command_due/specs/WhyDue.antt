@@ -3,7 +3,7 @@ use Rattle.std.specs.Prelude.{◌≡◌, ℕ, List}
 use Rattle.syntax_tree.specs.declared.place.Place.{Place}
 use Rattle.syntax_tree.specs.Placed.{Prog, plain}
 use Rattle.sched_program.specs.Tasks.{IsInTime, IsNotInTime}
-use Rattle.sched_why.specs.Levels.{IsWhyText}
+use Rattle.sched_program.specs.Levels.{IsWhyText}
 use Rattle.command_due.specs.Source.{IsWritten, IsTextFault, fault_line}
 use Rattle.command_due.specs.CommandsDue.{Outcome, told}
 

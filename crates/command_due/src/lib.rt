@@ -6,8 +6,8 @@
 //! `run` and `migrate`; `specs/Runs.antt` what holds of every run of an image that is stored.
 //!
 //! Of the other commands: `SpareDue` with `Lines` (`slack`), `WhyDue` (`why`) and `FitDue` (`fit`),
-//! whose texts are those of `sched_why`, `AsmDue` with `Texts` (`asm`, `dis`), `StopDue` with `Stops`
-//! and `Text` (`watch`), `ChartDue` (`chart`, whose text is that of `run_chart`), `TableDue` (`table`,
-//! by `table_format`), `ReplayDue` (`replay`), `EdfDue` with `Image`, `Tasks`, `Waits` and `Report`
-//! (`edf`). `make` reads no file: `command`. The definitions alone stand here.
+//! whose texts are those of `sched_program`, `AsmDue` with `Texts` (`asm`, `dis`), `StopDue` with
+//! `Stops` and `Text` (`watch`), `ChartDue` (`chart`, whose text is that of `run_chart`),
+//! `TableDue` (`table`, by `table_format`), `ReplayDue` (`replay`), `EdfDue` with `Image`, `Tasks`,
+//! `Waits` and `Report` (`edf`). `make` reads no file: `command`. The definitions alone stand here.
 #![tactic(auto)]

@@ -1,7 +1,7 @@
 -- Files that hold more than the text of an image may have.
 use Rattle.std.proofs.Common.{◌≡◌, ◌<◌, ℕ, Bool, true, List, length, refl, sym, subst, lt-ltb}
 use Rattle.std.specs.Prelude.{nat_lt, if◌then◌else◌}
-use Rattle.message_image.specs.Image.{image_text_message, long_text_message}
+use Rattle.message_log.specs.Image.{image_text_message, long_text_message}
 
 -- what stands in the first branch
 first_branch : {A : Type 0} (x y : A) (is : Bool) → is ≡ true → x ≡ (if is then x else y)

@@ -26,7 +26,7 @@ use command_answers::{
 use image::{RawImage, write_image};
 use image_format::refusal;
 use image_reader_law::images_read_can_be_written;
-use message_image::{image_message, valid_message};
+use message_log::{image_message, valid_message};
 use outside::Files;
 use std::alloc::{AllocError, Global};
 use syntax_tree::Text;

@@ -20,7 +20,7 @@ ghost use Rattle.command_words.specs.Calls as call;
 ghost use Rattle.command_images.specs.Held.{HasNames};
 ghost use Rattle.command_refusals.specs.Refusals.{Explains, IsExplained};
 ghost use Rattle.command_refusals.specs.Told.{IsBytesTold, IsImageTextTold};
-ghost use Rattle.message_image.specs.Image as message_of;
+ghost use Rattle.message_log.specs.Image as message_of;
 
 use crate::images::store_image;
 use crate::{ImageTextFault, load_text};
@@ -29,12 +29,12 @@ use command_answers::{
     Content, LONGEST_IMAGE, LONGEST_IMAGE_TEXT, PrepareError, PreparedCall, Status, Store,
     image_fault_line, put, read, text_fault_line, valid_fault_line,
 };
-use disassembler::dis;
+use asm_format::dis;
 use image::RawImage;
 use image_format::refusal;
 use image_reader::{ImageFault, read_image};
 use image_reader_law::images_read_can_be_written;
-use message_image::{image_message, image_text_message, long_text_message, valid_message};
+use message_log::{image_message, image_text_message, long_text_message, valid_message};
 use outside::Files;
 use std::alloc::{AllocError, Global};
 use syntax_tree::Text;

@@ -14,17 +14,17 @@ use Rattle.source_semantics.specs.Names.{as_count, constant_value, monitors, pro
 use Rattle.code_spec.specs.Layout.{monitor_vars, routine_words, words_of}
 use Rattle.code_spec.specs.Numbering.{Text, texts_from}
 use Rattle.code_cost_spec.specs.Levels.{code_length, stack_of_process}
-use Rattle.wellformed.specs.WellFormed.{IsHandled, IsWellFormed, OptionalFits, ProcessFits, vars_words}
+use Rattle.static_semantics.specs.WellFormed.{IsHandled, IsWellFormed, OptionalFits, ProcessFits, vars_words}
 use Rattle.code_cost.specs.Rules.{routine_stack, placed_texts_from as placed_texts}
 use Rattle.code_cost.specs.Told.{plain_text}
 use Rattle.code_cost.proofs.Parts.{plain_texts}
 use Rattle.codegen_law.proofs.Counts.{one_low, words_same}
-use Rattle.checked_law.specs.Ready.{CheckedProgramsAreReady, IsReady}
+use Rattle.built_image_law.specs.Ready.{CheckedProgramsAreReady, IsReady}
 use Rattle.compile_image.specs.Fields.{AreExceptions, FitsHandler, monitors_words}
 use Rattle.compile.specs.Assembled.{CheckedProgramsFitFields, KeepsToSizes}
 use Rattle.compile.proofs.Made.{routine_parts, process_parts}
 use Rattle.compile.proofs.Owners.{owners-low}
-use Rattle.checked_law.proofs.SmallLemmas.{not_over}
+use Rattle.built_image_law.proofs.SmallLemmas.{not_over}
 
 -- ---- texts
 

@@ -2,7 +2,7 @@
 use Rattle.syntax_tree.specs.declared.place.Place.{Place}
 use Rattle.syntax_tree.specs.Placed.{Prog, plain}
 use Rattle.static_semantics.specs.Static.{IsChecked}
-use Rattle.checked_law.specs.Ready.{CheckedProgramsAreReady}
+use Rattle.built_image_law.specs.Ready.{CheckedProgramsAreReady}
 use Rattle.code_cost.specs.Parts.{measures_of}
 use Rattle.code_measures.specs.Defined.{MeasuresAreDefined}
 use Rattle.compile.specs.Loops.{CheckedLoopsFit}

@@ -17,10 +17,10 @@ use Rattle.codegen_spec.specs.Held.{HoldProcesses}
 use Rattle.code_spec.specs.Compiled.{IsCodeOf}
 use Rattle.code_cost_spec.specs.Levels.{code_length}
 use Rattle.code_measures.specs.Whole.{HasRanks, CodeHasItsLength}
-use Rattle.wellformed.specs.WellFormed.{ProcessFits, IsWellFormed}
-use Rattle.checked_law.specs.Ready.{IsReady, CheckedProgramsAreReady}
-use Rattle.checked_law.specs.Runs.{IsSmallEnough}
-use Rattle.checked_law.specs.Small.{GeneratedCodeIsCode, ProgramsThatKeepSizesAreSmall}
+use Rattle.static_semantics.specs.WellFormed.{ProcessFits, IsWellFormed}
+use Rattle.built_image_law.specs.Ready.{IsReady, CheckedProgramsAreReady}
+use Rattle.built_image_law.specs.Runs.{IsSmallEnough}
+use Rattle.built_image_law.specs.Small.{GeneratedCodeIsCode, ProgramsThatKeepSizesAreSmall}
 use Rattle.front_end.specs.Program.{IsProgramOf}
 use Rattle.built_image.specs.Built.{IsShaped}
 use Rattle.built_image.specs.Filled.{DiffersInRanks}

@@ -1,8 +1,8 @@
 -- The bounds of the loops of a text that is well formed where it stands.
 use Rattle.syntax_tree.specs.Plain.{Stmt, assign, assign_entry, assign_empty, perform, perform_entry, when, when_else, loop, exit_when, get, put, wait, signal, broadcast, except, assert, Stmts, no_stmts, stmts}
 use Rattle.source_semantics.specs.Names.{constant_value}
-use Rattle.wellformed.specs.Here.{Here, in_loop}
-use Rattle.wellformed.specs.Statements.{Fits, AllFit}
+use Rattle.static_semantics.specs.Here.{Here, in_loop}
+use Rattle.static_semantics.specs.Statements.{Fits, AllFit}
 use Rattle.codegen_law.proofs.Words.{word_fits}
 use Rattle.code_measures.specs.MeasuredTexts.{BoundsFit, AllBoundsFit}
 

@@ -10,8 +10,8 @@ use Rattle.source_semantics.specs.Names.{routines, monitors, processes}
 use Rattle.source_semantics.specs.Run.{Home, of_program, of_process, of_monitor}
 use Rattle.code_spec.specs.Layout.{by_program, by_process, by_monitor}
 use Rattle.code_spec.specs.Numbering.{Text, numbered}
-use Rattle.wellformed.specs.Here.{in_routine, in_process}
-use Rattle.wellformed.specs.WellFormed.{RoutineFits, ProcessFits, OptionalFits, IsWellFormed}
+use Rattle.static_semantics.specs.Here.{in_routine, in_process}
+use Rattle.static_semantics.specs.WellFormed.{RoutineFits, ProcessFits, OptionalFits, IsWellFormed}
 use Rattle.codegen_law.proofs.Reached.{OfEach, text_at, of_numbered}
 use Rattle.code_measures.specs.MeasuredTexts.{AllBoundsFit}
 use Rattle.code_measures.specs.Defined.{HandlerLoopsFit}

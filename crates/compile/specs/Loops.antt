@@ -4,7 +4,7 @@ use Rattle.syntax_tree.specs.Plain as plain_of
 use Rattle.syntax_tree.specs.Placed.{Prog, plain}
 use Rattle.syntax_tree.specs.declared.place.Place.{Place}
 use Rattle.static_semantics.specs.Static.{IsChecked}
-use Rattle.wellformed.specs.WellFormed.{IsWellFormed}
+use Rattle.static_semantics.specs.WellFormed.{IsWellFormed}
 use Rattle.code_measures.specs.Defined.{LoopsFit}
 
 abbrev pub WellFormedLoopsFit : Type 0

@@ -7,7 +7,7 @@
 
 ghost use Rattle.compile.specs.Assembled.{CheckedProgramsFitFields, MadeHasParts};
 
-use checked_law::premises_of_laws::checked_programs_are_ready;
+use built_image_law::premises_of_laws::checked_programs_are_ready;
 
 /// What is made of a program has a part for each of its texts.
 pub fn made_programs_have_parts()

@@ -10,7 +10,7 @@ ghost use Rattle.compile.specs.Steps.{AreParts, IsSizeFault};
 
 use crate::built::BuildFault;
 use crate::loop_bounds_fit::loops_of_checked_programs_fit;
-use checked_law::premises_of_laws::checked_programs_are_ready;
+use built_image_law::premises_of_laws::checked_programs_are_ready;
 use code_cost::{Measures, too_large};
 use code_measures::cost_of_program::measures_are_defined;
 use codegen::ProgramTexts;

@@ -12,12 +12,12 @@ use Rattle.valid_image_law.specs.ValidLaw.{MeetsPremises, ValidMeetsPremises, Ev
 use Rattle.sched_timing.specs.Timed.{RespectsFrames}
 use Rattle.static_semantics.specs.Static.{IsChecked}
 use Rattle.code_lifting.specs.Image.{IsImageOf, whole}
-use Rattle.checked_law.specs.Ready.{IsImageMade, CheckedProgramsAreReady}
+use Rattle.built_image_law.specs.Ready.{IsImageMade, CheckedProgramsAreReady}
 use Rattle.code_correct.specs.Ready.{CheckedProgramsRun}
 use Rattle.built_valid_law.specs.Checked.{CheckedImagesAreValid}
 use Rattle.built_tasks_law.specs.Images.{CheckedImagesAreImages}
-use Rattle.checked_law.specs.Runs.{IsSmallEnough}
-use Rattle.checked_law.specs.Small.{ProgramsThatKeepSizesAreSmall}
+use Rattle.built_image_law.specs.Runs.{IsSmallEnough}
+use Rattle.built_image_law.specs.Small.{ProgramsThatKeepSizesAreSmall}
 use Rattle.script.specs.declared.script.ScriptLine.{ScriptLine}
 use Rattle.script.specs.Scripts.{IsScript}
 use Rattle.built_image.specs.Named.{names_of}

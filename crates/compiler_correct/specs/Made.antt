@@ -5,7 +5,7 @@ use Rattle.syntax_tree.specs.declared.place.Place.{Place}
 use Rattle.image.specs.Named.{NamedImage}
 use Rattle.valid_image.specs.Valid.{HasLimits}
 use Rattle.static_semantics.specs.Static.{IsChecked}
-use Rattle.checked_law.specs.Ready.{IsImageMade}
+use Rattle.built_image_law.specs.Ready.{IsImageMade}
 use Rattle.built_image.specs.Named.{names_of}
 use Rattle.command_due.specs.Runs.{IsFaithful}
 

@@ -3,13 +3,13 @@
 ghost use Rattle.compiler_correct.specs.Made.{MadeImagesAreFaithful};
 ghost use Rattle.command_due.specs.Runs.{BuiltImagesAreFaithful};
 
+use built_image_law::generated_within_limits::programs_that_keep_sizes_are_small;
 use built_image_law::number_limits::built_images_are_in_limits;
+use built_image_law::premises_of_laws::checked_programs_are_ready;
 use built_image_law::suitable_scripts::scripts_for_the_names_suit;
 use built_tasks_law::image_of_program::checked_images_are_images;
 use built_valid_law::image_of_program::built_images_are_made;
 use built_valid_law::valid_image_law_of_checked::checked_images_are_valid;
-use checked_law::generated_within_limits::programs_that_keep_sizes_are_small;
-use checked_law::premises_of_laws::checked_programs_are_ready;
 use code_correct::runs_of_checked::checked_programs_run;
 use valid_image_law::validity_law::{every_valid_image_is_safe_and_in_time, valid_meets_premises};
 

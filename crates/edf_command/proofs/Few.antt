@@ -4,7 +4,7 @@ use Rattle.std.proofs.lemmas.List.{length-map}
 use Rattle.image.specs.declared.names.ImageNames.{ImageNames}
 use Rattle.syntax_tree.specs.Plain.{Name, Program}
 use Rattle.source_semantics.specs.Names.{event_in}
-use Rattle.wellformed.specs.WellFormed.{CountsFit}
+use Rattle.static_semantics.specs.WellFormed.{CountsFit}
 use Rattle.built_image.specs.Named.{names_of, named_event}
 use Rattle.built_valid_law.proofs.Counts.{names_of_devices}
 

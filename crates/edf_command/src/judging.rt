@@ -14,7 +14,7 @@ ghost use Rattle.command_refusals.specs.Told.{IsTextTold};
 ghost use Rattle.syntax_tree.specs.Placed.{placed};
 
 use crate::{ShapeFault, first_wait, judge_program};
-use checked_law::premises_of_laws::checked_programs_are_ready;
+use built_image_law::premises_of_laws::checked_programs_are_ready;
 use command_answers::{Content, PreparedCall};
 use command_refusals::refuse_text;
 use compile::{ProgramTextFault, read_written};

@@ -5,8 +5,8 @@ use Rattle.base.specs.Capped.{cap}
 use Rattle.base.specs.declared.capped.Cost.{Cost}
 use Rattle.machine_semantics.specs.Trees.{Segs}
 use Rattle.machine_semantics.specs.Image.{Image, Process}
-use Rattle.machine_safety_spec.specs.Safe.{Parts, part_of}
-use Rattle.machine_safety_spec.specs.Work.{worst_of}
+use Rattle.machine_semantics.specs.Safe.{Parts, part_of}
+use Rattle.machine_semantics.specs.Work.{worst_of}
 use Rattle.sched_timing.specs.Timed.{IsCovered}
 use Rattle.valid_image.specs.Found.{Found}
 use Rattle.valid_image.specs.Shape.{shape_fault}

@@ -8,8 +8,8 @@ use Rattle.code_correct.specs.Headline.{WellFormedCodeIsRight}
 use Rattle.code_lifting.specs.Image.{IsImageOf, AreRight, whole}
 use Rattle.image.specs.declared.names.ImageNames.{ImageNames}
 use Rattle.built_tasks_law.specs.Images.{CheckedCodeIsAnImage}
-use Rattle.checked_law.specs.Ready.{IsReady, CheckedProgramsAreReady}
-use Rattle.checked_law.specs.Small.{GeneratedCodeIsCode}
+use Rattle.built_image_law.specs.Ready.{IsReady, CheckedProgramsAreReady}
+use Rattle.built_image_law.specs.Small.{GeneratedCodeIsCode}
 use Rattle.built_image_law.specs.Suits.{NamesHaveFrames, Suits, ScriptsForTheNamesSuit}
 use Rattle.built_image.specs.Named.{names_of}
 use Rattle.vm_law.specs.ScriptSuits.{ScriptsSuit}

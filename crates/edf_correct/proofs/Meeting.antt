@@ -11,11 +11,11 @@ use Rattle.sched_demand.specs.declared.judging.Judgement.TheVariants as judgemen
 use Rattle.sched_demand.specs.Demand.{IsReach, IsJudged}
 use Rattle.sched_demand.proofs.Rising.{one_reach}
 use Rattle.sched_timing.specs.Timed.{RespectsFrames}
-use Rattle.wellformed.specs.WellFormed.{ProcessFits, IsWellFormed}
+use Rattle.static_semantics.specs.WellFormed.{ProcessFits, IsWellFormed}
 use Rattle.code_spec.specs.Compiled.{IsCodeOf}
 use Rattle.built_valid_law.specs.Checked.{CheckedOperandsAreInRange}
-use Rattle.checked_law.specs.Ready.{IsReady, CheckedProgramsAreReady}
-use Rattle.checked_law.specs.Small.{GeneratedCodeIsCode}
+use Rattle.built_image_law.specs.Ready.{IsReady, CheckedProgramsAreReady}
+use Rattle.built_image_law.specs.Small.{GeneratedCodeIsCode}
 use Rattle.built_valid_law.specs.Made.{WordsAreFew}
 use Rattle.built_image_law.specs.Limits.{ShapedImagesAreInLimits}
 use Rattle.built_image_law.proofs.Activations.{in_limits}

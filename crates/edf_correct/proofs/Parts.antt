@@ -19,8 +19,8 @@ use Rattle.vm_law.specs.Operands.{AreThere}
 use Rattle.vm_law.proofs.There.{all_there}
 use Rattle.vm_law.specs.Suits.{HasFrames}
 use Rattle.built_image_law.specs.Short.{NamesOfTextsAreShort}
-use Rattle.checked_law.specs.Ready.{IsReady, CheckedProgramsAreReady}
-use Rattle.checked_law.specs.Small.{GeneratedCodeIsCode}
+use Rattle.built_image_law.specs.Ready.{IsReady, CheckedProgramsAreReady}
+use Rattle.built_image_law.specs.Small.{GeneratedCodeIsCode}
 use Rattle.valid_image.specs.Valid.{HasLimits, Operands, Shape, Sizes, fault_of_part}
 use Rattle.code_measures.proofs.ShapePart.{no_shape_fault}
 use Rattle.code_measures.proofs.SizePart.{no_size_fault}

@@ -8,7 +8,7 @@ use Rattle.syntax_tree.specs.Plain.{Program}
 use Rattle.syntax_tree.specs.Plain as tree
 use Rattle.source_semantics.specs.Names.{processes}
 use Rattle.machine_semantics.specs.Image.{Image, Monitor, Process}
-use Rattle.machine_safety_spec.specs.Safe.{ImageFits, part_of}
+use Rattle.machine_semantics.specs.Safe.{ImageFits, part_of}
 use Rattle.sched_demand.specs.declared.tasks.DemandTask.{DemandTask}
 use Rattle.sched_demand.specs.Demand.{task_at, AreTasks}
 use Rattle.sched_demand.proofs.Demanding.{sorted}
@@ -28,7 +28,7 @@ use Rattle.code_measures.proofs.CostPart.{no_cost_fault}
 use Rattle.code_measures.proofs.ShapePart.{no_shape_fault}
 use Rattle.code_measures.proofs.HandlerPart.{no_handler_fault}
 use Rattle.code_measures.proofs.SizePart.{no_size_fault}
-use Rattle.checked_law.specs.Ready.{IsReady}
+use Rattle.built_image_law.specs.Ready.{IsReady}
 use Rattle.built_image_law.proofs.Texts.{Emitted, emitted}
 use Rattle.edf_semantics.specs.Safe.{rank_of_some, IsWaitless}
 use Rattle.edf_semantics.specs.InTime.{AreDemandsOf}

@@ -5,8 +5,8 @@ use Rattle.syntax_tree.specs.Placed.{Prog, plain}
 use Rattle.syntax_tree.specs.Plain as plain_of
 use Rattle.source_semantics.specs.Starts.{Script}
 use Rattle.source_semantics.specs.Any.{IsAnySourceRun}
-use Rattle.machine_safety_spec.specs.Walk.{Where}
-use Rattle.machine_safety_spec.specs.Safe.{Parts, ImageFits}
+use Rattle.machine_semantics.specs.Walk.{Where}
+use Rattle.machine_semantics.specs.Safe.{Parts, ImageFits}
 use Rattle.code_lifting.specs.Compiled.{IsFrom, script_of}
 use Rattle.sched_timing.specs.Timed.{RespectsFrames}
 use Rattle.sched_demand.specs.declared.judging.Judgement.TheVariants as judgement

@@ -4,8 +4,8 @@ use Rattle.syntax_tree.specs.declared.place.Place.{Place}
 use Rattle.syntax_tree.specs.Placed.{Prog, plain}
 use Rattle.syntax_tree.specs.Plain as plain_of
 use Rattle.machine_semantics.specs.Image.{Image}
-use Rattle.machine_safety_spec.specs.Walk.{Where}
-use Rattle.machine_safety_spec.specs.Safe.{Parts, ImageFits}
+use Rattle.machine_semantics.specs.Walk.{Where}
+use Rattle.machine_semantics.specs.Safe.{Parts, ImageFits}
 use Rattle.sched_demand.specs.declared.tasks.DemandTask.{DemandTask}
 use Rattle.sched_demand.specs.declared.judging.Judgement.{Judgement}
 use Rattle.sched_demand.specs.Demand.{AreTasks}

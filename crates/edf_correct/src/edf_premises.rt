@@ -9,12 +9,12 @@ ghost use Rattle.edf_correct.specs.Deadlines.{EdfDeadlinesAreMet};
 ghost use Rattle.edf_correct.specs.Premises.{AnswersAreOfTheImage, WaitlessImagesMeetPremises};
 ghost use Rattle.edf_correct.specs.Waits.{TextsWithoutWaitsHaveNone};
 
+use built_image_law::generated_within_limits::generated_code_is_code;
 use built_image_law::number_limits::shaped_images_are_in_limits;
+use built_image_law::premises_of_laws::checked_programs_are_ready;
 use built_image_law::shape_before_times::shapes_agree;
 use built_valid_law::image_of_program::words_are_few;
 use built_valid_law::valid_image_law_of_checked::checked_operands_are_in_range;
-use checked_law::generated_within_limits::generated_code_is_code;
-use checked_law::premises_of_laws::checked_programs_are_ready;
 
 /// The cost of each process of a program without a wait has no waits.
 pub fn texts_without_waits_have_none()

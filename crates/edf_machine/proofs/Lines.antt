@@ -8,10 +8,10 @@ use Rattle.machine_semantics.specs.Image.{Image, Script}
 use Rattle.machine_semantics.specs.State.{Job, Thread, Waiting, State}
 use Rattle.machine_semantics.specs.Starts.{starts}
 use Rattle.machine_semantics.specs.Tick.{Candidate, run_picked}
-use Rattle.machine_safety_spec.specs.Queues.{AreQueued}
-use Rattle.machine_safety_spec.specs.Safe.{Parts, ImageFits}
-use Rattle.machine_safety_spec.specs.Walk.{Where}
-use Rattle.machine_safety_spec.specs.Whole.{StateFits}
+use Rattle.machine_semantics.specs.Queues.{AreQueued}
+use Rattle.machine_semantics.specs.Safe.{Parts, ImageFits}
+use Rattle.machine_semantics.specs.Walk.{Where}
+use Rattle.machine_semantics.specs.Whole.{StateFits}
 use Rattle.vm_law.specs.Operands.{AreThere}
 use Rattle.vm_law.specs.Logged.{AreNamesOf}
 use Rattle.vm_law.proofs.Starting.{WaitAt, starts_good}

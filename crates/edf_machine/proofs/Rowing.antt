@@ -15,7 +15,7 @@ use Rattle.vm_stretch.specs.Silent.{with_process}
 use Rattle.vm_stretch.specs.Stretch.{pass}
 use Rattle.vm_turn.specs.Own.{CanCome}
 use Rattle.vm_turn.specs.Rows.{CanEnd, CanRun, EndsIn, HasRun, IsSeenAt, outcome_of, own_at}
-use Rattle.machine_safety_spec.specs.Queues.{AreQueued}
+use Rattle.machine_semantics.specs.Queues.{AreQueued}
 use Rattle.vm_runner.specs.Turn.{BurnsNothing, unspent}
 use Rattle.vm_runner.proofs.Rowing.{RowEnds, comes, row_ends, within_budget, passes_as, seen_at, queued_row}
 use Rattle.edf_semantics.specs.Run.{Marked, begin, begin_some, events_from, state_at}

@@ -6,9 +6,9 @@ use Rattle.base.proofs.Lists.{some_at}
 use Rattle.machine_isa.specs.declared.instr.Instr.{Instr}
 use Rattle.machine_semantics.specs.Image.{Script}
 use Rattle.machine_semantics.specs.State.{Job, Thread, Ready, State}
-use Rattle.machine_safety_spec.specs.Walk.{Where}
-use Rattle.machine_safety_spec.specs.Safe.{Parts, ImageFits}
-use Rattle.machine_safety_spec.specs.Whole.{StateFits}
+use Rattle.machine_semantics.specs.Walk.{Where}
+use Rattle.machine_semantics.specs.Safe.{Parts, ImageFits}
+use Rattle.machine_semantics.specs.Whole.{StateFits}
 use Rattle.machine_safety.proofs.Starting.{starts_keep}
 use Rattle.edf_semantics.specs.Run.{state_at}
 use Rattle.edf_semantics.specs.Safe.{EveryRunIsSafe, IsWaitless}

@@ -2,8 +2,8 @@
 use Rattle.std.specs.Prelude.{◌≡◌, ◌≤◌, ◌<◌, ◌^◌, ℕ, All, Some, slice_get}
 use Rattle.image.specs.declared.names.ImageNames.{ImageNames}
 use Rattle.machine_semantics.specs.Image.{Image, Process, Script}
-use Rattle.machine_safety_spec.specs.Walk.{Where}
-use Rattle.machine_safety_spec.specs.Safe.{Parts, ImageFits}
+use Rattle.machine_semantics.specs.Walk.{Where}
+use Rattle.machine_semantics.specs.Safe.{Parts, ImageFits}
 use Rattle.vm_stretch.specs.StretchDue.{AreInOrder}
 use Rattle.edf_semantics.specs.Run.{events}
 use Rattle.edf_semantics.specs.Safe.{IsWaitless}

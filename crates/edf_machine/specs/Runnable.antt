@@ -2,7 +2,7 @@
 use Rattle.std.specs.Prelude.{◌≡◌, ◌<◌, ◌^◌, ℕ, Some, slice_get}
 use Rattle.machine_semantics.specs.Image.{Image, Script}
 use Rattle.machine_semantics.specs.State.{Job, State, Waiting}
-use Rattle.machine_safety_spec.specs.Queues.{AreQueued}
+use Rattle.machine_semantics.specs.Queues.{AreQueued}
 use Rattle.vm_stretch.specs.StartLawsDue.{HasOwnRanks}
 use Rattle.vm_releases.specs.Begin.{NextFits}
 use Rattle.vm_stretch.specs.StretchDue.{AreInOrder}

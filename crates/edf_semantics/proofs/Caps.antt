@@ -6,10 +6,10 @@ use Rattle.std.proofs.lemmas.Bool.{cases_lt}
 use Rattle.std.proofs.lemmas.Grind.{div_ceil_times}
 use Rattle.std.proofs.Math.Nat.{mul-le-mul_right}
 use Rattle.machine_semantics.specs.Image.{Monitor, Process}
-use Rattle.machine_safety_spec.specs.Walk.{Where}
-use Rattle.machine_safety_spec.specs.Safe.{Parts, part_of}
-use Rattle.machine_safety_spec.specs.Work.{worst_of, activation}
-use Rattle.machine_safety_spec.specs.Waits.{IsRanked}
+use Rattle.machine_semantics.specs.Walk.{Where}
+use Rattle.machine_semantics.specs.Safe.{Parts, part_of}
+use Rattle.machine_semantics.specs.Work.{worst_of, activation}
+use Rattle.machine_semantics.specs.Waits.{IsRanked}
 use Rattle.sched_theorem.specs.Placed.{AreRanks}
 use Rattle.sched_theorem.proofs.Totals.{total_term}
 use Rattle.sched_demand.specs.declared.tasks.DemandTask.{DemandTask}

@@ -7,7 +7,7 @@ use Rattle.std.proofs.lemmas.Option.{slice_get_within}
 use Rattle.base.proofs.Lists.{some_at}
 use Rattle.machine_semantics.specs.Image.{Image, Process}
 use Rattle.machine_semantics.specs.State.{Job, Thread, Idle, Ready, Waiting}
-use Rattle.machine_safety_spec.specs.Whole.{ceiling_of}
+use Rattle.machine_semantics.specs.Whole.{ceiling_of}
 use Rattle.sched_theorem.specs.Stretches.{flag}
 use Rattle.sched_theorem.specs.Dispatched.{Stay}
 use Rattle.sched_demand.specs.Activations.{Activation, IsBefore, IsBegun, IsFirst, IsFirstBegun, IsAbove, IsHeldBack, Chooses}

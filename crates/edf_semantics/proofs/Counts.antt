@@ -6,11 +6,11 @@ use Rattle.machine_semantics.specs.Image.{Monitor, Process, Script}
 use Rattle.machine_semantics.specs.State.{Job, Thread, Idle, Ready, Waiting, State}
 use Rattle.machine_semantics.specs.Starts.{released, release_thread, starts}
 use Rattle.machine_semantics.specs.Tick.{run_picked}
-use Rattle.machine_safety_spec.specs.Walk.{Where}
-use Rattle.machine_safety_spec.specs.Safe.{Parts, ImageFits, part_of}
-use Rattle.machine_safety_spec.specs.Whole.{StateFits}
-use Rattle.machine_safety_spec.specs.Work.{Owes, IsBusy, is_chosen, worst_of, activation}
-use Rattle.machine_safety_spec.specs.Stays.{StaysIn}
+use Rattle.machine_semantics.specs.Walk.{Where}
+use Rattle.machine_semantics.specs.Safe.{Parts, ImageFits, part_of}
+use Rattle.machine_semantics.specs.Whole.{StateFits}
+use Rattle.machine_semantics.specs.Work.{Owes, IsBusy, is_chosen, worst_of, activation}
+use Rattle.machine_semantics.specs.Stays.{StaysIn}
 use Rattle.machine_safety.proofs.Starting.{starts_pass, release_keeps}
 use Rattle.machine_safety.proofs.Beginning.{begins_pass}
 use Rattle.machine_safety.proofs.Working as work

@@ -9,11 +9,11 @@ use Rattle.machine_semantics.specs.State.{Thread, Idle, Ready, Waiting, State}
 use Rattle.machine_semantics.specs.Starts.{release_thread, starts}
 use Rattle.machine_semantics.specs.Tick.{owned_of, run_picked}
 use Rattle.machine_semantics.specs.Run.{at_start}
-use Rattle.machine_safety_spec.specs.Walk.{Where}
-use Rattle.machine_safety_spec.specs.Safe.{Parts, ImageFits}
-use Rattle.machine_safety_spec.specs.Whole.{StateFits, ceiling_of}
-use Rattle.machine_safety_spec.specs.Work.{IsBusy, is_chosen, worst_of}
-use Rattle.machine_safety_spec.specs.Waits.{Suspends, is_waiting}
+use Rattle.machine_semantics.specs.Walk.{Where}
+use Rattle.machine_semantics.specs.Safe.{Parts, ImageFits}
+use Rattle.machine_semantics.specs.Whole.{StateFits, ceiling_of}
+use Rattle.machine_semantics.specs.Work.{IsBusy, is_chosen, worst_of}
+use Rattle.machine_semantics.specs.Waits.{Suspends, is_waiting}
 use Rattle.machine_safety.proofs.Picked.{ChosenOf}
 use Rattle.machine_safety.proofs.Starting.{starts_pass, release_keeps, starts_keep}
 use Rattle.machine_safety.proofs.Beginning.{begins_pass}

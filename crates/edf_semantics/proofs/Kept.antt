@@ -10,9 +10,9 @@ use Rattle.machine_semantics.specs.Effect.{Outcome, Goes, Does, Signals, Broadca
 use Rattle.machine_semantics.specs.Starts.{unchanged, told, release, release_thread, raised, without, time_out, queue_of, starts}
 use Rattle.machine_semantics.specs.Tick.{Candidate, rest, settle, outcome, owned_of, run_thread, run_picked}
 use Rattle.machine_semantics.specs.Run.{at_start}
-use Rattle.machine_safety_spec.specs.Walk.{Where}
-use Rattle.machine_safety_spec.specs.Safe.{Parts, ImageFits}
-use Rattle.machine_safety_spec.specs.Queues.{times, waits_on, AreQueued}
+use Rattle.machine_semantics.specs.Walk.{Where}
+use Rattle.machine_semantics.specs.Safe.{Parts, ImageFits}
+use Rattle.machine_semantics.specs.Queues.{times, waits_on, AreQueued}
 use Rattle.machine_safety.proofs.Starting.{starts_pass}
 use Rattle.machine_safety.proofs.Queueing.{tick_keeps_queues}
 use Rattle.edf_semantics.specs.Run.{candidate, chosen_at, tick, state_at}

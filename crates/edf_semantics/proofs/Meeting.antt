@@ -12,10 +12,10 @@ use Rattle.machine_semantics.specs.State.{Job, Thread, Idle, Ready, Waiting, Sta
 use Rattle.machine_semantics.specs.Starts.{starts}
 use Rattle.machine_semantics.specs.Tick.{ceiling, run_picked}
 use Rattle.machine_semantics.specs.Run.{at_start}
-use Rattle.machine_safety_spec.specs.Walk.{Where}
-use Rattle.machine_safety_spec.specs.Safe.{Parts, ImageFits}
-use Rattle.machine_safety_spec.specs.Whole.{ceiling_of}
-use Rattle.machine_safety_spec.specs.Work.{IsBusy}
+use Rattle.machine_semantics.specs.Walk.{Where}
+use Rattle.machine_semantics.specs.Safe.{Parts, ImageFits}
+use Rattle.machine_semantics.specs.Whole.{ceiling_of}
+use Rattle.machine_semantics.specs.Work.{IsBusy}
 use Rattle.sched_theorem.specs.Stretches.{Spaced}
 use Rattle.sched_theorem.specs.Dispatched.{Stay, TakesOne}
 use Rattle.sched_timing.specs.Views.{is_due, is_some_due}

@@ -6,9 +6,9 @@ use Rattle.base.proofs.Lists.{some_at}
 use Rattle.machine_semantics.specs.Image.{Image, Process}
 use Rattle.machine_semantics.specs.State.{Job, Thread, Ready, State}
 use Rattle.machine_semantics.specs.Tick.{Candidate, owned_of, outcome, run_thread, run_picked}
-use Rattle.machine_safety_spec.specs.Walk.{Where, WalkCost}
-use Rattle.machine_safety_spec.specs.Safe.{Parts, ImageFits, TickFits}
-use Rattle.machine_safety_spec.specs.Whole.{ThreadFits, ceiling_of, StateFits}
+use Rattle.machine_semantics.specs.Walk.{Where, WalkCost}
+use Rattle.machine_semantics.specs.Safe.{Parts, ImageFits, TickFits}
+use Rattle.machine_semantics.specs.Whole.{ThreadFits, ceiling_of, StateFits}
 use Rattle.machine_safety.proofs.Picked.{ChosenOf}
 use Rattle.machine_safety.proofs.Settling.{outcome_fits, settle_keeps}
 use Rattle.sched_demand.specs.Activations.{Activation, Chooses}

@@ -16,7 +16,7 @@ use Rattle.machine_semantics.specs.State.{Thread, Idle, State, zeros}
 use Rattle.machine_semantics.specs.Starts.{starts}
 use Rattle.machine_semantics.specs.Tick.{Candidate, owned_of, run_picked}
 use Rattle.machine_semantics.specs.Run.{words_of, at_start}
-use Rattle.machine_safety_spec.specs.Queues.{AreQueued}
+use Rattle.machine_semantics.specs.Queues.{AreQueued}
 use Rattle.source_semantics.specs.Any.{RunAnyFrom, IsAnySourceRun}
 use Rattle.code_lifting.specs.Related.{Whole, Relations, inside_of, Same, IsSame}
 use Rattle.code_lifting.specs.Compiled.{IsProcessOf, IsCompiled, IsFrom, script_of}

@@ -3,7 +3,7 @@ use Rattle.std.proofs.Common.{◌≡◌, ◌≤◌, ◌<◌, ◌+◌, ◌-◌, i
 use Rattle.machine_semantics.specs.Image.{Image, Process}
 use Rattle.machine_semantics.specs.State.{Job, Thread, Idle, Ready, Waiting}
 use Rattle.machine_semantics.specs.Starts.{released}
-use Rattle.machine_safety_spec.specs.Whole.{ceiling_of}
+use Rattle.machine_semantics.specs.Whole.{ceiling_of}
 use Rattle.sched_theorem.specs.Stretches.{flag}
 use Rattle.sched_theorem.specs.Dispatched.{Stay, TakesOne}
 use Rattle.sched_demand.specs.Activations.{Activation, IsBefore, IsFirst, IsFirstBegun, IsAbove, IsHeldBack, Chooses, Starts, Runs}

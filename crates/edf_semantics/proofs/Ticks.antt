@@ -12,7 +12,7 @@ use Rattle.machine_semantics.specs.Image.{Process}
 use Rattle.machine_semantics.specs.State.{Thread, Idle, Ready, Waiting, State}
 use Rattle.machine_semantics.specs.State as target
 use Rattle.machine_semantics.specs.Tick.{Candidate, Ticked, owned_of, run_picked, run_thread}
-use Rattle.machine_safety_spec.specs.Queues.{AreQueued}
+use Rattle.machine_semantics.specs.Queues.{AreQueued}
 use Rattle.code_spec.specs.Boundary.{next_of}
 use Rattle.source_semantics.specs.Any.{StepAny, RunAnyFrom}
 use Rattle.code_lifting.specs.Related.{Whole, Relations, inside_of, monitor_vars, view_of, Same, IsSame}

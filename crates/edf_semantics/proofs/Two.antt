@@ -5,8 +5,8 @@ use Rattle.std.proofs.Math.Dec.{leb, ltb}
 use Rattle.std.proofs.lemmas.Bool.{leb-true, ltb-true}
 use Rattle.machine_isa.specs.declared.instr.Instr.TheVariants as i
 use Rattle.machine_semantics.specs.Image.{Process, Script, Occurs}
-use Rattle.machine_safety_spec.specs.Safe.{ProcessFits, ImageFits}
-use Rattle.machine_safety_spec.specs.Work.{worst_of, activation}
+use Rattle.machine_semantics.specs.Safe.{ProcessFits, ImageFits}
+use Rattle.machine_semantics.specs.Work.{worst_of, activation}
 use Rattle.machine_safety.specs.Example.{cost}
 use Rattle.machine_safety.proofs.Building.{exact, own_fits}
 use Rattle.sched_timing.specs.Timed.{RespectsFrames}

@@ -1,8 +1,8 @@
 -- Two processes that meet the premise, although fixed ranks refuse them.
 use Rattle.std.specs.Prelude.{◌≤◌, ℕ, zero, suc, List, [], ◌∷◌}
 use Rattle.machine_semantics.specs.Image.{Script}
-use Rattle.machine_safety_spec.specs.Walk.{Where}
-use Rattle.machine_safety_spec.specs.Safe.{Parts, ImageFits}
+use Rattle.machine_semantics.specs.Walk.{Where}
+use Rattle.machine_semantics.specs.Safe.{Parts, ImageFits}
 use Rattle.machine_safety.specs.Example.{cost, own_part}
 use Rattle.sched_demand.specs.declared.tasks.DemandTask.{DemandTask}
 use Rattle.edf_semantics.specs.Safe.{IsWaitless}

@@ -4,9 +4,9 @@ use Rattle.base.specs.declared.event.Event.{Event}
 use Rattle.base.specs.declared.event.Act.TheVariants as act
 use Rattle.machine_semantics.specs.Image.{Image, Monitor, Process, Script}
 use Rattle.machine_semantics.specs.State.{Idle}
-use Rattle.machine_safety_spec.specs.Walk.{Where}
-use Rattle.machine_safety_spec.specs.Safe.{Parts, ImageFits, part_of}
-use Rattle.machine_safety_spec.specs.Work.{worst_of, activation}
+use Rattle.machine_semantics.specs.Walk.{Where}
+use Rattle.machine_semantics.specs.Safe.{Parts, ImageFits, part_of}
+use Rattle.machine_semantics.specs.Work.{worst_of, activation}
 use Rattle.sched_theorem.specs.Placed.{AreRanks}
 use Rattle.sched_timing.specs.Views.{is_due}
 use Rattle.sched_timing.specs.Timed.{RespectsFrames}

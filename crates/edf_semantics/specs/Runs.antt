@@ -3,9 +3,9 @@ use Rattle.std.specs.Prelude.{◌≡◌, ◌<◌, ℕ, false, Option, Some, None
 use Rattle.machine_semantics.specs.Image.{Image, Script}
 use Rattle.machine_semantics.specs.State.{Thread, Idle, Ready, Waiting, State}
 use Rattle.machine_semantics.specs.Starts.{starts}
-use Rattle.machine_safety_spec.specs.Walk.{Where}
-use Rattle.machine_safety_spec.specs.Safe.{Parts, ImageFits}
-use Rattle.machine_safety_spec.specs.Queues.{AreQueued}
+use Rattle.machine_semantics.specs.Walk.{Where}
+use Rattle.machine_semantics.specs.Safe.{Parts, ImageFits}
+use Rattle.machine_semantics.specs.Queues.{AreQueued}
 use Rattle.edf_semantics.specs.Run.{tick, state_at}
 use Rattle.edf_semantics.specs.Safe.{IsWaitless}
 

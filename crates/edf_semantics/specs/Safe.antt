@@ -3,10 +3,10 @@
 use Rattle.std.specs.Prelude.{◌≡◌, ℕ, false, List, Option, Some, None, slice_get}
 use Rattle.machine_semantics.specs.Image.{Image, Process, Script}
 use Rattle.machine_semantics.specs.State.{Thread, Idle, Ready, Waiting}
-use Rattle.machine_safety_spec.specs.Walk.{Where}
-use Rattle.machine_safety_spec.specs.Safe.{Parts, ImageFits}
-use Rattle.machine_safety_spec.specs.Whole.{ceiling_of, StackFits, WordsFit, Apart, InsideIsReady}
-use Rattle.machine_safety_spec.specs.Waits.{IsRanked}
+use Rattle.machine_semantics.specs.Walk.{Where}
+use Rattle.machine_semantics.specs.Safe.{Parts, ImageFits}
+use Rattle.machine_semantics.specs.Whole.{ceiling_of, StackFits, WordsFit, Apart, InsideIsReady}
+use Rattle.machine_semantics.specs.Waits.{IsRanked}
 use Rattle.sched_theorem.specs.Stretches.{flag}
 use Rattle.sched_theorem.specs.Dispatched.{Stay}
 use Rattle.sched_demand.specs.Activations.{Activation}

@@ -13,8 +13,8 @@ use Rattle.machine_semantics.specs.Image.{Process, Monitor}
 use Rattle.code_spec.specs.Layout.{by_monitor}
 use Rattle.code_spec.specs.Numbering.{Text, entry_in, entry_of, routine_of, numbered, visit, number_of}
 use Rattle.code_spec.specs.Compiled.{IsCodeOf, process_scope}
-use Rattle.code_simulation_spec.specs.Memory.{Setting}
-use Rattle.code_simulation_spec.specs.Proper.{Reaches, ProperAll, found_of}
+use Rattle.code_spec.specs.Memory.{Setting}
+use Rattle.code_spec.specs.Proper.{Reaches, ProperAll, found_of}
 use Rattle.code_correct.specs.Known.{IsProper as IsProperRoutine}
 use Rattle.codegen_law.specs.Kept.{AllFound, NamesDiffer}
 use Rattle.code_correct.specs.Kept.{KeepsRules}

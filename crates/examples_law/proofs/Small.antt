@@ -9,9 +9,9 @@ use Rattle.source_semantics.specs.Nesting.{Levels}
 use Rattle.source_semantics.specs.Names.{processes, monitors}
 use Rattle.source_semantics_law.specs.Example.{one_put, handled_range, signalled_wait}
 use Rattle.examples_law.specs.Examples.{put_inwards, undeclared, endless, circle, circular, due_in, hurrying}
-use Rattle.wellformed.specs.Here.{in_process}
-use Rattle.wellformed.specs.Statements.{AllFit}
-use Rattle.wellformed.specs.WellFormed.{IsWellFormed, ProcessFits, RoutineFits, MonitorFits, VarFits, IsHandled}
+use Rattle.static_semantics.specs.Here.{in_process}
+use Rattle.static_semantics.specs.Statements.{AllFit}
+use Rattle.static_semantics.specs.WellFormed.{IsWellFormed, ProcessFits, RoutineFits, MonitorFits, VarFits, IsHandled}
 
 all_one : {X : Type 0} (P : X → Type 0) (x : X) → P x → All P (x ∷ [])
 all_one P x is zero y below = is

@@ -4,7 +4,7 @@ use Rattle.source_semantics_law.specs.Example.{signalled_wait}
 use Rattle.machine_safety.specs.ValidImages.{meeting}
 use Rattle.codegen_spec.specs.Parts.{program_made}
 use Rattle.codegen_spec.specs.Held.{Holds}
-use Rattle.checked_law.specs.Generated.{IsSmall}
+use Rattle.built_image_law.specs.Generated.{IsSmall}
 
 -- A program with a monitor, a wait, a signal and a handler, and its image, meet the premises.
 abbrev pub ExampleIsGenerated : Type 0

@@ -5,8 +5,8 @@ use Rattle.source_semantics.specs.Source.{IsSourceRun}
 use Rattle.source_semantics_law.specs.Example.{signalled_wait}
 use Rattle.machine_semantics.specs.Run.{events}
 use Rattle.machine_safety.specs.SmallImages.{waiter_and_signaller}
-use Rattle.code_simulation_spec.specs.Memory.{Order}
-use Rattle.wellformed.specs.WellFormed.{IsWellFormed}
+use Rattle.code_spec.specs.Memory.{Order}
+use Rattle.static_semantics.specs.WellFormed.{IsWellFormed}
 use Rattle.codegen_law.specs.Ruled.{NamesApart}
 use Rattle.code_lifting.specs.Compiled.{IsFrom, script_of}
 use Rattle.code_lifting.specs.Example.{meeting}

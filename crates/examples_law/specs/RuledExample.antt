@@ -3,7 +3,7 @@ use Rattle.std.specs.Prelude.{ℕ}
 use Rattle.source_semantics_law.specs.Example.{signalled_wait}
 use Rattle.machine_safety.specs.SmallImages.{waiter_and_signaller}
 use Rattle.code_spec.specs.Compiled.{IsCodeOf}
-use Rattle.wellformed.specs.WellFormed.{IsWellFormed}
+use Rattle.static_semantics.specs.WellFormed.{IsWellFormed}
 use Rattle.codegen_law.specs.Ruled.{NamesApart}
 
 abbrev pub ExampleMeets : Type 0

@@ -8,7 +8,7 @@
 
 ghost use Rattle.source_semantics_law.specs.Example.{one_put, handled_range, signalled_wait};
 ghost use Rattle.examples_law.specs.Examples.{put_inwards, undeclared, endless, circular, hurrying};
-ghost use Rattle.wellformed.specs.WellFormed.{IsWellFormed};
+ghost use Rattle.static_semantics.specs.WellFormed.{IsWellFormed};
 
 /// One process that puts a number is well formed.
 pub fn one_put_is_well_formed()

@@ -20,7 +20,7 @@ use Rattle.event_log.specs.Line.{log_of}
 use Rattle.machine_semantics.specs.Image.{Image, Process, Script}
 use Rattle.vm_law.proofs.There.{all_there}
 use Rattle.vm_law.specs.Operands.{AreThere}
-use Rattle.machine_safety_spec.specs.Safe.{ImageFits}
+use Rattle.machine_semantics.specs.Safe.{ImageFits}
 use Rattle.vm_law.specs.Suits.{Suits}
 use Rattle.image_loaded.specs.Shape.{IsShape}
 use Rattle.vm_state.specs.Plan.{IsOf}

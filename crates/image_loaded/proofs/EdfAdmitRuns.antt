@@ -2,7 +2,7 @@
 use Rattle.std.proofs.Common.{◌≤◌, ℕ, List, subst}
 use Rattle.machine_semantics.specs.Image.{Script}
 use Rattle.image.specs.Named.{NamedImage}
-use Rattle.machine_safety_spec.specs.Safe.{ImageFits}
+use Rattle.machine_semantics.specs.Safe.{ImageFits}
 use Rattle.sched_timing.specs.Timed.{RespectsFrames}
 use Rattle.image_loaded.specs.Shape.{IsShape}
 use Rattle.valid_image.specs.Tasks.{process_at}

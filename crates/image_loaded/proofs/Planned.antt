@@ -19,7 +19,7 @@ use Rattle.vm_law.proofs.There.{all_there}
 use Rattle.vm_plan.specs.HasPlan.{CanRun, HasPlan}
 use Rattle.image_reader_law.specs.ReadNames.{IsNamed}
 use Rattle.image_reader_law.proofs.Names.{read_names}
-use Rattle.machine_safety_spec.specs.Safe.{ImageFits}
+use Rattle.machine_semantics.specs.Safe.{ImageFits}
 use Rattle.script.specs.declared.script.ScriptLine.{ScriptLine}
 use Rattle.script.specs.Scripts.{IsScript}
 use Rattle.vm_law.specs.ScriptSuits.{ScriptsForImagesReadSuit, script_with}

@@ -8,8 +8,8 @@ use Rattle.base.specs.Capped.{cap}
 use Rattle.base.specs.declared.capped.Cost.{Cost}
 use Rattle.machine_semantics.specs.Image.{Image, Monitor, Process}
 use Rattle.machine_semantics.specs.Trees.{Segs}
-use Rattle.machine_safety_spec.specs.Safe.{ImageFits, Parts, part_of}
-use Rattle.machine_safety_spec.specs.Work.{activation, worst_of}
+use Rattle.machine_semantics.specs.Safe.{ImageFits, Parts, part_of}
+use Rattle.machine_semantics.specs.Work.{activation, worst_of}
 use Rattle.sched_theorem.specs.Placed.{AreRanks}
 use Rattle.valid_image.specs.Tasks.{process_at}
 use Rattle.valid_image.specs.Found.{Found}

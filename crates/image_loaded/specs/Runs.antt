@@ -2,7 +2,7 @@
 use Rattle.std.specs.Prelude.{◌≡◌, ◌≤◌, ℕ, false, Some, slice_get}
 use Rattle.machine_semantics.specs.Image.{Image, Process, Script}
 use Rattle.machine_semantics.specs.State.{Thread}
-use Rattle.machine_safety_spec.specs.Whole.{StackFits, WordsFit, Apart, InsideIsReady}
+use Rattle.machine_semantics.specs.Whole.{StackFits, WordsFit, Apart, InsideIsReady}
 use Rattle.sched_timing.specs.Timed.{RespectsFrames}
 use Rattle.image.specs.Named.{NamedImage}
 use Rattle.image_loaded.specs.Shape.{IsShape}

@@ -1,6 +1,6 @@
 -- The names of the image that is built of the load, and the number of its instructions.
 use Rattle.std.proofs.Common.{length, ap, subst, ◌∙◌}
-use Rattle.checked_law.specs.Ready.{CheckedProgramsAreReady, IsReady}
+use Rattle.built_image_law.specs.Ready.{CheckedProgramsAreReady, IsReady}
 use Rattle.built_image.specs.Built.{IsBuilt}
 use Rattle.built_image.specs.Named.{names_of}
 use Rattle.codegen_law.specs.Whole.{MadeHasItsLength}

@@ -13,7 +13,7 @@ ghost use Rattle.load_law.specs.Texts.{HasInstructions, HasScript, IsFaultless, 
 ghost use Rattle.load_law.specs.Time.{KeepsTime};
 
 use crate::{light_images_respond, load_is_light, load_names, load_stacks, load_types};
-use checked_law::premises_of_laws::checked_programs_are_ready;
+use built_image_law::premises_of_laws::checked_programs_are_ready;
 use codegen_law::code_of_program::made_programs_have_their_length;
 use front_end::program_or_fault;
 use load_text_law::{load_limits, load_numbers, load_reach, load_script, load_size, load_text};

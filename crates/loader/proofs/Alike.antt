@@ -8,8 +8,8 @@ use Rattle.valid_image.specs.Found.{Known, Found, amount, is_jump_zero, is_jump,
 use Rattle.valid_image.specs.Tables.{count, found_or_nothing, known, monitor_of, routine_found, part_found}
 use Rattle.base.specs.Capped.{cap}
 use Rattle.valid_image.specs.Sizes.{needed_stay}
-use Rattle.loader_trees.specs.Steps.{stays_in}
-use Rattle.loader_trees.specs.Whole.{stay_in}
+use Rattle.loader_code.specs.Steps.{stays_in}
+use Rattle.loader_code.specs.Whole.{stay_in}
 use Rattle.valid_image_law.specs.Held.{held, hold}
 use Rattle.valid_image_law.proofs.Holding.{holding_changes_nothing, hold_guard}
 use Rattle.loader.specs.Found.{AreAlike}

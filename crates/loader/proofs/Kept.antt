@@ -18,10 +18,10 @@ use Rattle.valid_image.specs.Tables as tables
 use Rattle.valid_image.specs.Tables.{known, monitor_of, routine_found, found_or_nothing}
 use Rattle.loader_code.proofs.Searching.{none_here, none_left, of_element}
 use Rattle.valid_image_law.specs.Held.{hold, held_known}
-use Rattle.loader_trees.specs.declared.known.RoutineCost as code
-use Rattle.loader_trees.specs.declared.known.PartCost.{PartCost}
-use Rattle.loader_trees.specs.Told.{found_of, known_of}
-use Rattle.loader_trees.specs.Whole.{stay_in}
+use Rattle.loader_code.specs.declared.known.RoutineCost as code
+use Rattle.loader_code.specs.declared.known.PartCost.{PartCost}
+use Rattle.loader_code.specs.loader_treesTold.{found_of, known_of}
+use Rattle.loader_code.specs.Whole.{stay_in}
 use Rattle.loader.specs.declared.parts.CodeCosts.{CodeCosts}
 use Rattle.loader.specs.Found.{AreAlike}
 use Rattle.loader.specs.Parts.{IsKept, AreRoutines}

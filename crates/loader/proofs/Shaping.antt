@@ -17,8 +17,8 @@ use Rattle.valid_image.specs.Shape.{is_found, routine_shape_fault}
 use Rattle.valid_image.specs.Tables.{count, known, routine_found, found_or_nothing}
 use Rattle.loader_code.proofs.Searching.{one_here, of_element}
 use Rattle.valid_image_law.specs.Held.{held, hold, held_known}
-use Rattle.loader_trees.specs.declared.known.RoutineCost as code
-use Rattle.loader_trees.specs.Told.{known_of}
+use Rattle.loader_code.specs.declared.known.RoutineCost as code
+use Rattle.loader_code.specs.loader_treesTold.{known_of}
 use Rattle.loader.specs.declared.parts.CodeCosts.{CodeCosts}
 use Rattle.loader.specs.Found.{AreAlike}
 use Rattle.loader.specs.Parts.{IsKept}

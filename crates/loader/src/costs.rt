@@ -1,7 +1,7 @@
 //! Declared costs.
 
 ghost use Rattle.std.specs.Prelude.{◌≡◌, ◌≤◌, ◌+◌, ◌*◌, map};
-ghost use Rattle.loader_trees.specs.Told.{found_of};
+ghost use Rattle.loader_code.specs.loader_treesTold.{found_of};
 ghost use Rattle.image.specs.Raw.{image_of, process_of, routine_of};
 ghost use Rattle.base.specs.Capped.{cap};
 ghost use Rattle.valid_image.specs.Fault.{first_in, or_else};
@@ -14,8 +14,7 @@ ghost use Rattle.loader.specs.Parts.{AreParts};
 use crate::parts::{CodeCosts, ProcessCost};
 use base::{Cost, OVER, cap_add};
 use image::{RawImage, RawProcess, RawRoutine};
-use loader_code::FaultNumbers;
-use loader_trees::PartCost;
+use loader_code::{FaultNumbers, PartCost};
 
 /// A declared number below the one that is needed.
 pub fn below(declared: u64, needed: u64) -> Option<FaultNumbers>

@@ -11,8 +11,7 @@ ghost use Rattle.loader.specs.Handlers.{is_right};
 
 use image::{RawImage, RawProcess};
 use image_format::{SegBytes, SegItem};
-use loader_code::FaultNumbers;
-use loader_trees::tree_end;
+use loader_code::{FaultNumbers, tree_end};
 use std::alloc::{AllocError, Global};
 use syntax_tree::List;
 

@@ -1,8 +1,8 @@
 //! Starts, trees, heights and coverage.
 
 ghost use Rattle.std.specs.Prelude.{◌≡◌, ◌≤◌, ◌<◌, ◌+◌, [], IfNone, IfOk, IfSome, Some, length, map, nat_eq};
-ghost use Rattle.loader_trees.specs.Told.{EndsAt, found_of, known_of, told, told_part};
-ghost use Rattle.loader_trees.specs.Whole.{stay_in};
+ghost use Rattle.loader_code.specs.loader_treesTold.{EndsAt, found_of, known_of, told, told_part};
+ghost use Rattle.loader_code.specs.Whole.{stay_in};
 ghost use Rattle.image.specs.Raw.{image_of, process_of, routine_of};
 ghost use Rattle.machine_semantics.specs.Trees.{size};
 ghost use Rattle.base.specs.Capped.{cap};
@@ -19,8 +19,7 @@ ghost use Rattle.loader.specs.Parts.{AreParts, AreProcesses, AreRoutines};
 use base::Cost;
 use image::{RawImage, RawProcess, RawRoutine};
 use image_format::SegTree;
-use loader_code::FaultNumbers;
-use loader_trees::{CodeCost, PartCost, RoutineCost, part_found, routine_found};
+use loader_code::{CodeCost, FaultNumbers, PartCost, RoutineCost, part_found, routine_found};
 use machine_isa::Instr;
 use std::alloc::{AllocError, Global};
 use syntax_tree::List;

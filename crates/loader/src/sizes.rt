@@ -1,7 +1,7 @@
 //! Declared sizes.
 
 ghost use Rattle.std.specs.Prelude.{◌≡◌, ◌≤◌, ◌*◌, length, map, sum_by};
-ghost use Rattle.loader_trees.specs.Told.{found_of};
+ghost use Rattle.loader_code.specs.loader_treesTold.{found_of};
 ghost use Rattle.image.specs.Raw.{image_of, monitor_of, process_of, routine_of};
 ghost use Rattle.valid_image.specs.Fault.{first_in};
 ghost use Rattle.valid_image.specs.Sizes.{below as defined_below, needed_stack, params_fault as defined_params, size_fault as defined_fault, stack_fault as defined_stack, words_fault as defined_words};
@@ -12,8 +12,7 @@ ghost use Rattle.loader.specs.Parts.{AreParts};
 use crate::costs::{below, first_fault};
 use crate::parts::{CodeCosts, ProcessCost};
 use image::{RawImage, RawMonitor, RawProcess, RawRoutine};
-use loader_code::{FaultNumbers, base_fault};
-use loader_trees::TOO_DEEP;
+use loader_code::{FaultNumbers, TOO_DEEP, base_fault};
 
 /// The arguments of a routine are among its locals.
 fn params_fault(routines: &[RawRoutine]) -> Option<FaultNumbers>

@@ -1,3 +1,8 @@
+pub mod Segments
+pub mod Lines
+pub mod Endings
+pub mod Fitting
+pub mod Short
 pub mod Searching
 pub mod Following
 pub mod Sweeping

@@ -1,3 +1,6 @@
+pub mod loader_treesTold
+pub mod Steps
+pub mod Whole
 pub mod Told
 pub mod Owned
 pub mod Seen

@@ -8,11 +8,11 @@ use Rattle.machine_semantics.specs.Image.{Image, Process, Script}
 use Rattle.machine_semantics.specs.State.{Thread, Idle, Ready, Waiting, State}
 use Rattle.machine_semantics.specs.Starts.{unchanged, told, released, release, release_thread, time_out, raised, without, queue_of, starts}
 use Rattle.machine_semantics.specs.Tick.{Candidate, least, pick, run_picked, tick}
-use Rattle.machine_safety_spec.specs.Walk.{Where}
-use Rattle.machine_safety_spec.specs.Safe.{Parts, ImageFits}
-use Rattle.machine_safety_spec.specs.Whole.{StateFits}
-use Rattle.machine_safety_spec.specs.Work.{Owes, IsBusy, worst_of, activation, WorkBegins}
-use Rattle.machine_safety_spec.specs.Waits.{Suspends, SuspensionBegins}
+use Rattle.machine_semantics.specs.Walk.{Where}
+use Rattle.machine_semantics.specs.Safe.{Parts, ImageFits}
+use Rattle.machine_semantics.specs.Whole.{StateFits}
+use Rattle.machine_semantics.specs.Work.{Owes, IsBusy, worst_of, activation, WorkBegins}
+use Rattle.machine_semantics.specs.Waits.{Suspends, SuspensionBegins}
 use Rattle.machine_safety.proofs.Picked.{ChosenOf, chosen}
 use Rattle.machine_safety.proofs.Starting.{starts_pass, release_keeps, time_out_keeps, device_keeps}
 use Rattle.machine_safety.proofs.Working.{release_owes}

@@ -1,8 +1,8 @@
 -- Helpers to show that given code is of its tree.
 use Rattle.std.proofs.Common.{◌≡◌, ◌≤◌, ℕ, arith, refl, sym}
 use Rattle.machine_semantics.specs.Image.{Process}
-use Rattle.machine_safety_spec.specs.Walk.{WalkCost, Covers}
-use Rattle.machine_safety_spec.specs.Safe.{IsOwn}
+use Rattle.machine_semantics.specs.Walk.{WalkCost, Covers}
+use Rattle.machine_semantics.specs.Safe.{IsOwn}
 use Rattle.machine_safety.specs.Example.{own_part}
 
 -- a cost covers itself

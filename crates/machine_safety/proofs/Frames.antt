@@ -9,10 +9,10 @@ use Rattle.machine_semantics.specs.State.{Operand, Value, Counter, State}
 use Rattle.machine_semantics.specs.Effect.{Own, Outcome, Goes, Does, Signals, Broadcasts, Waits, Raises, Ends, Stuck, effect, holding, go_to, count_down, drop_counter}
 use Rattle.machine_isa.specs.Ticks.{ticks}
 use Rattle.machine_isa.specs.Operands.{takes, gives}
-use Rattle.machine_safety_spec.specs.Part.{Kind, Plain, Counts, kinds, plains, IsSized}
-use Rattle.machine_safety_spec.specs.SafeTerms.{GoesOn, After, IsIn}
-use Rattle.machine_safety_spec.specs.Walk.{Where, WalkCost, Covers, At, IsLine, Walk, Walks}
-use Rattle.machine_safety_spec.specs.Path.{Step, Segment, Skip, Again, Leaves, under, held, then_rest, Follows, Frame, Moved, next_own}
+use Rattle.machine_semantics.specs.Part.{Kind, Plain, Counts, kinds, plains, IsSized}
+use Rattle.machine_semantics.specs.SafeTerms.{GoesOn, After, IsIn}
+use Rattle.machine_semantics.specs.Walk.{Where, WalkCost, Covers, At, IsLine, Walk, Walks}
+use Rattle.machine_semantics.specs.Path.{Step, Segment, Skip, Again, Leaves, under, held, then_rest, Follows, Frame, Moved, next_own}
 use Rattle.machine_safety.proofs.Plain.{plain_is_safe, one_goes}
 use Rattle.machine_safety.proofs.Lists.{plains_add, length-plains, under_then, held_then}
 

@@ -4,11 +4,11 @@ use Rattle.machine_isa.specs.declared.instr.Instr.{Instr}
 use Rattle.machine_semantics.specs.State.{Caller, State}
 use Rattle.machine_semantics.specs.Effect.{Own, Outcome, Goes, Does, Signals, Broadcasts, Waits, Raises, Ends, Stuck, effect, waits}
 use Rattle.machine_isa.specs.Ticks.{ticks}
-use Rattle.machine_safety_spec.specs.Part.{Part}
-use Rattle.machine_safety_spec.specs.SafeTerms.{GoesOn}
-use Rattle.machine_safety_spec.specs.Walk.{Where, WalkCost, At, within}
-use Rattle.machine_safety_spec.specs.Path.{Step, held, Moved, next_own}
-use Rattle.machine_safety_spec.specs.Job.{joined, Inside, Chain, Stands, Less, Keeps}
+use Rattle.machine_semantics.specs.Part.{Part}
+use Rattle.machine_semantics.specs.SafeTerms.{GoesOn}
+use Rattle.machine_semantics.specs.Walk.{Where, WalkCost, At, within}
+use Rattle.machine_semantics.specs.Path.{Step, held, Moved, next_own}
+use Rattle.machine_semantics.specs.Job.{joined, Inside, Chain, Stands, Less, Keeps}
 use Rattle.machine_safety.proofs.Frames.{IsInside, Moves}
 
 -- the innermost part is inside the monitor that its steps tell, if it is an entry

@@ -10,10 +10,10 @@ use Rattle.machine_semantics.specs.Image.{Routine}
 use Rattle.machine_semantics.specs.State.{Operand, Value, Counter, Caller, State, is_free, is_inside, zeros}
 use Rattle.machine_semantics.specs.Effect.{Own, holding, take_one, one, give, arguments, called, call, back, enters, leaves, wait, waits}
 use Rattle.machine_semantics.specs.Tick.{at_next}
-use Rattle.machine_safety_spec.specs.Part.{Part, Kind, Plain, kinds, plains, IsSized}
-use Rattle.machine_safety_spec.specs.Walk.{Where, WalkCost, Reaches, Walk, within}
-use Rattle.machine_safety_spec.specs.Path.{Step, Segment, Skip, Again, Leaves, under, held, then_rest, Follows, Frame, Returning, next_own}
-use Rattle.machine_safety_spec.specs.Job.{RoutineFits, RoutinesFit, joined, Inside, Chain, Stands, Comes, Less, Keeps, FindsFree, InstructionIsSafe}
+use Rattle.machine_semantics.specs.Part.{Part, Kind, Plain, kinds, plains, IsSized}
+use Rattle.machine_semantics.specs.Walk.{Where, WalkCost, Reaches, Walk, within}
+use Rattle.machine_semantics.specs.Path.{Step, Segment, Skip, Again, Leaves, under, held, then_rest, Follows, Frame, Returning, next_own}
+use Rattle.machine_semantics.specs.Job.{RoutineFits, RoutinesFit, joined, Inside, Chain, Stands, Comes, Less, Keeps, FindsFree, InstructionIsSafe}
 use Rattle.machine_safety.proofs.Lists.{plains_add, length-plains, under_then, held_then}
 use Rattle.machine_safety.proofs.Frames.{IsInside, Moves, follows_then, at_line, at_fork, at_skip, at_rep, at_again, at_exit}
 use Rattle.machine_safety.proofs.JobBasics.{is_inside_part, joined_here, joined_less, Instruction, within_frame, chain_owned, chain_limit, chain_stays, entry_inside}

@@ -8,9 +8,9 @@ use Rattle.machine_semantics.specs.Effect.{Outcome, Goes, Does, Signals, Broadca
 use Rattle.machine_semantics.specs.Starts.{unchanged, told, release, release_thread, time_out, raised, without, queue_of, starts}
 use Rattle.machine_semantics.specs.Tick.{Candidate, least, pick, settle, outcome, owned_of, run_thread, run_picked, tick}
 use Rattle.machine_semantics.specs.Run.{at_start, state_at}
-use Rattle.machine_safety_spec.specs.Walk.{Where, WalkCost}
-use Rattle.machine_safety_spec.specs.Safe.{Parts, ImageFits, TickFits}
-use Rattle.machine_safety_spec.specs.Whole.{ThreadFits, StateFits, WordsFit, RunKeepsWords}
+use Rattle.machine_semantics.specs.Walk.{Where, WalkCost}
+use Rattle.machine_semantics.specs.Safe.{Parts, ImageFits, TickFits}
+use Rattle.machine_semantics.specs.Whole.{ThreadFits, StateFits, WordsFit, RunKeepsWords}
 use Rattle.machine_safety.proofs.Whole.{length_owned}
 use Rattle.machine_safety.proofs.Picked.{ChosenOf, chosen}
 use Rattle.machine_safety.proofs.Starting.{starts_pass, starts_keep}

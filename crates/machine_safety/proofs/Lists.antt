@@ -1,8 +1,8 @@
 -- Lists of kinds and of steps.
 use Rattle.std.proofs.Common.{◌≡◌, ◌+◌, ℕ, zero, suc, List, ◌∷◌, length, arith, refl, ap, ◌∙◌}
 use Rattle.machine_semantics.specs.Trees.{Segs, Nil, Cons}
-use Rattle.machine_safety_spec.specs.Part.{Kind, Plain, plains}
-use Rattle.machine_safety_spec.specs.Path.{Step, under, held, then_rest}
+use Rattle.machine_semantics.specs.Part.{Kind, Plain, plains}
+use Rattle.machine_semantics.specs.Path.{Step, under, held, then_rest}
 
 pub plains_add : (a b : ℕ) (ks : List Kind) → plains (a + b) ks ≡ plains a (plains b ks)
 plains_add zero b ks = let e : 0 + b ≡ b = omega arith in ap (λ n. plains n ks) e

@@ -5,9 +5,9 @@ use Rattle.machine_isa.specs.declared.instr.Instr.{Instr}
 use Rattle.machine_isa.specs.declared.instr.Instr.TheVariants as i
 use Rattle.machine_semantics.specs.Trees.{Line, Fork, Call, Exit, Nil, Cons}
 use Rattle.machine_semantics.specs.Image.{Routine, Process}
-use Rattle.machine_safety_spec.specs.Walk.{Where, Walks, within}
-use Rattle.machine_safety_spec.specs.Job.{RoutineFits, RoutinesFit}
-use Rattle.machine_safety_spec.specs.Safe.{ProcessFits}
+use Rattle.machine_semantics.specs.Walk.{Where, Walks, within}
+use Rattle.machine_semantics.specs.Job.{RoutineFits, RoutinesFit}
+use Rattle.machine_semantics.specs.Safe.{ProcessFits}
 use Rattle.machine_safety.specs.Example.{IsNeverStuck, cost, own_part, inner_routine, outer_routine, looping_process, looping, inner_part, outer_part, looping_part, looping_cost, looping_parts, LoopingFits}
 use Rattle.machine_safety.proofs.Building.{exact, own_fits}
 use Rattle.machine_safety.proofs.Running.{every_run_is_safe}

@@ -5,9 +5,9 @@ use Rattle.machine_isa.specs.declared.instr.Instr.{Instr}
 use Rattle.machine_isa.specs.declared.instr.Instr.TheVariants as i
 use Rattle.machine_semantics.specs.Trees.{Line, Call, Stay, Wait, Nil, Cons}
 use Rattle.machine_semantics.specs.Image.{Monitor, Routine, Process}
-use Rattle.machine_safety_spec.specs.Walk.{At, Walks, within}
-use Rattle.machine_safety_spec.specs.Job.{RoutineFits, RoutinesFit}
-use Rattle.machine_safety_spec.specs.Safe.{ProcessFits}
+use Rattle.machine_semantics.specs.Walk.{At, Walks, within}
+use Rattle.machine_semantics.specs.Job.{RoutineFits, RoutinesFit}
+use Rattle.machine_semantics.specs.Safe.{ProcessFits}
 use Rattle.machine_safety.specs.Example.{cost, entry_cost, entry_stay, own_part, meeting, meeting_place, meeting_parts, MeetingFits, MeetingIsSafe}
 use Rattle.machine_safety.proofs.Building.{exact, own_fits}
 use Rattle.machine_safety.proofs.Running.{every_run_is_safe}

@@ -8,11 +8,11 @@ use Rattle.base.proofs.Lists.{some_at}
 use Rattle.machine_semantics.specs.Image.{Image, Monitor, Process}
 use Rattle.machine_semantics.specs.State.{Job, Thread, Idle, Ready, Waiting, State, is_free, is_inside, thread_inside}
 use Rattle.machine_semantics.specs.Tick.{ceiling, Candidate, active_rank, outside, is_before, first_of_two, least}
-use Rattle.machine_safety_spec.specs.Part.{Part}
-use Rattle.machine_safety_spec.specs.Walk.{Where}
-use Rattle.machine_safety_spec.specs.Job.{FindsFree}
-use Rattle.machine_safety_spec.specs.Safe.{Parts, own_of}
-use Rattle.machine_safety_spec.specs.Whole.{ceiling_of, StateFits}
+use Rattle.machine_semantics.specs.Part.{Part}
+use Rattle.machine_semantics.specs.Walk.{Where}
+use Rattle.machine_semantics.specs.Job.{FindsFree}
+use Rattle.machine_semantics.specs.Safe.{Parts, own_of}
+use Rattle.machine_semantics.specs.Whole.{ceiling_of, StateFits}
 
 -- ---- the order of candidates
 

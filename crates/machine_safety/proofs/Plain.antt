@@ -8,8 +8,8 @@ use Rattle.base.specs.Words.{Answer, word, raised}
 use Rattle.machine_semantics.specs.Image.{Image, Monitor}
 use Rattle.machine_semantics.specs.State.{Operand, Value, Counter, State}
 use Rattle.machine_semantics.specs.Effect.{Own, Outcome, Goes, Raises, Stuck, holding, give, take_one, one, two, answer, word_at, load, store, set_local, set_own, set_shared, is_among_some, is_reached, load_mon, store_mon, element, queue, signal, broadcast, empty, get, put, raise}
-use Rattle.machine_safety_spec.specs.Part.{Part, Kind, Plain, kinds, IsSized, IsBelow}
-use Rattle.machine_safety_spec.specs.SafeTerms.{GoesOn, After, IsIn, PlainIsSafe}
+use Rattle.machine_semantics.specs.Part.{Part, Kind, Plain, kinds, IsSized, IsBelow}
+use Rattle.machine_semantics.specs.SafeTerms.{GoesOn, After, IsIn, PlainIsSafe}
 
 -- ---- operands
 

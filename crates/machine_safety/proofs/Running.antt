@@ -9,11 +9,11 @@ use Rattle.machine_semantics.specs.State.{Operand, Job, Caller, Thread, Idle, Re
 use Rattle.machine_semantics.specs.Effect.{Own}
 use Rattle.machine_semantics.specs.Tick.{owned_of}
 use Rattle.machine_semantics.specs.Run.{words_of, at_start, state_at}
-use Rattle.machine_safety_spec.specs.Part.{Part, Kind, kinds}
-use Rattle.machine_safety_spec.specs.Walk.{Where, WalkCost}
-use Rattle.machine_safety_spec.specs.Job.{Chain, Stands, Comes}
-use Rattle.machine_safety_spec.specs.Safe.{Parts, ProcessFits, ImageFits, own_of, part_of}
-use Rattle.machine_safety_spec.specs.Whole.{ThreadFits, StateFits, StackFits, held_by, InsideIsReady, EveryRunIsSafe}
+use Rattle.machine_semantics.specs.Part.{Part, Kind, kinds}
+use Rattle.machine_semantics.specs.Walk.{Where, WalkCost}
+use Rattle.machine_semantics.specs.Job.{Chain, Stands, Comes}
+use Rattle.machine_semantics.specs.Safe.{Parts, ProcessFits, ImageFits, own_of, part_of}
+use Rattle.machine_semantics.specs.Whole.{ThreadFits, StateFits, StackFits, held_by, InsideIsReady, EveryRunIsSafe}
 use Rattle.machine_safety.proofs.Settling.{every_tick_is_safe}
 use Rattle.machine_safety.proofs.Jobs.{length-zeros}
 

@@ -7,9 +7,9 @@ use Rattle.machine_semantics.specs.State.{Job, Thread, Idle, Ready, Waiting, Sta
 use Rattle.machine_semantics.specs.Effect.{Own, Outcome, Goes, Does, Signals, Broadcasts, Waits, Raises, Ends, Stuck}
 use Rattle.machine_semantics.specs.Starts.{starts, raised, queue_of}
 use Rattle.machine_semantics.specs.Tick.{Candidate, active_rank, outside, least, pick, woken, wake, wake_all, first, rest, wake_first, settle, outcome, owned_of, run_thread, run_picked, tick}
-use Rattle.machine_safety_spec.specs.Walk.{Where, WalkCost}
-use Rattle.machine_safety_spec.specs.Safe.{Parts, ProcessFits, ImageFits, ReadyFits, WaitingFits, Ticks, TickFits, part_of}
-use Rattle.machine_safety_spec.specs.Whole.{ThreadFits, ceiling_of, StateFits, EveryTickIsSafe}
+use Rattle.machine_semantics.specs.Walk.{Where, WalkCost}
+use Rattle.machine_semantics.specs.Safe.{Parts, ProcessFits, ImageFits, ReadyFits, WaitingFits, Ticks, TickFits, part_of}
+use Rattle.machine_semantics.specs.Whole.{ThreadFits, ceiling_of, StateFits, EveryTickIsSafe}
 use Rattle.machine_safety.proofs.Ticking.{some_ticks, tick_is_safe, comes_at}
 use Rattle.machine_safety.proofs.Whole.{IsClear, state_set, thread_set}
 use Rattle.machine_safety.proofs.Picked.{Chosen, ChosenOf, chosen, finds_free, process_of}

@@ -6,10 +6,10 @@ use Rattle.machine_semantics.specs.Image.{Process, Script, Line, Sets, Occurs, e
 use Rattle.machine_semantics.specs.State.{Job, Thread, Idle, Ready, Waiting, State}
 use Rattle.machine_semantics.specs.Starts.{Started, unchanged, told, released, release_thread, release, occurs, line, lines, is_periodic_due, periodic, raised, without, queue_of, time_out, at_rank, time_outs, starts}
 use Rattle.machine_semantics.specs.Tick.{owned_of}
-use Rattle.machine_safety_spec.specs.Walk.{Where, WalkCost}
-use Rattle.machine_safety_spec.specs.Safe.{Parts, ProcessFits, ImageFits, ReadyFits, own_of, part_of, spare}
-use Rattle.machine_safety_spec.specs.Work.{worst_of}
-use Rattle.machine_safety_spec.specs.Whole.{ThreadFits, StateFits}
+use Rattle.machine_semantics.specs.Walk.{Where, WalkCost}
+use Rattle.machine_semantics.specs.Safe.{Parts, ProcessFits, ImageFits, ReadyFits, own_of, part_of, spare}
+use Rattle.machine_semantics.specs.Work.{worst_of}
+use Rattle.machine_semantics.specs.Whole.{ThreadFits, StateFits}
 use Rattle.machine_safety.proofs.Ticking.{some_ticks, at_start_of, raise_fits, based, Based, fits_at}
 use Rattle.machine_safety.proofs.Whole.{thread_set}
 use Rattle.machine_safety.proofs.Jobs.{length-zeros}

@@ -10,11 +10,11 @@ use Rattle.machine_semantics.specs.State.{Job, Thread, Idle, Ready, Waiting, Sta
 use Rattle.machine_semantics.specs.Effect.{Own, Outcome, Goes, Does, Signals, Broadcasts, Waits, Raises, Ends, Stuck}
 use Rattle.machine_semantics.specs.Starts.{Started, unchanged, told, released, release, release_thread, time_out, at_rank, time_outs, raised, without, queue_of, starts}
 use Rattle.machine_semantics.specs.Tick.{Candidate, least, pick, woken, wake, wake_all, first, wake_first, settle, outcome, owned_of, run_thread, run_picked, tick}
-use Rattle.machine_safety_spec.specs.Walk.{Where, WalkCost}
-use Rattle.machine_safety_spec.specs.Safe.{Parts, ImageFits, ReadyFits, Ticks, TickFits, own_of, part_of, spare}
-use Rattle.machine_safety_spec.specs.Whole.{StateFits}
-use Rattle.machine_safety_spec.specs.Work.{HasLeft, IsBusy, worst_of}
-use Rattle.machine_safety_spec.specs.Waits.{IsRanked, suspension_of, waits_of, IsDueFrom, is_waiting, Suspends, Spends, SuspensionFalls, ReleaseSuspends}
+use Rattle.machine_semantics.specs.Walk.{Where, WalkCost}
+use Rattle.machine_semantics.specs.Safe.{Parts, ImageFits, ReadyFits, Ticks, TickFits, own_of, part_of, spare}
+use Rattle.machine_semantics.specs.Whole.{StateFits}
+use Rattle.machine_semantics.specs.Work.{HasLeft, IsBusy, worst_of}
+use Rattle.machine_semantics.specs.Waits.{IsRanked, suspension_of, waits_of, IsDueFrom, is_waiting, Suspends, Spends, SuspensionFalls, ReleaseSuspends}
 use Rattle.machine_safety.proofs.Ticking.{raise_fits, based, Based, tick_is_safe}
 use Rattle.machine_safety.proofs.Whole.{get_of_set, length_owned}
 use Rattle.machine_safety.proofs.Picked.{ChosenOf, chosen, finds_free}

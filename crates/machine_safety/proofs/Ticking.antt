@@ -11,11 +11,11 @@ use Rattle.machine_semantics.specs.Effect.{Own, Outcome, Goes, Does, Signals, Br
 use Rattle.machine_isa.specs.Ticks.{ticks}
 use Rattle.machine_semantics.specs.Starts.{raised, lists}
 use Rattle.machine_semantics.specs.Tick.{outcome_at}
-use Rattle.machine_safety_spec.specs.Part.{Part, Kind, kinds}
-use Rattle.machine_safety_spec.specs.Walk.{Where, WalkCost, At, Walks, within}
-use Rattle.machine_safety_spec.specs.Path.{Step, under, then_rest, Follows, Returning, next_own}
-use Rattle.machine_safety_spec.specs.Job.{RoutinesFit, joined, Chain, Stands, Comes, Less, Pauses, Keeps}
-use Rattle.machine_safety_spec.specs.Safe.{Parts, IsOwn, HandlerFits, ProcessFits, part_of, spare, own_of, ReadyFits, Ticks, Pausing, TickFits, TickIsSafe}
+use Rattle.machine_semantics.specs.Part.{Part, Kind, kinds}
+use Rattle.machine_semantics.specs.Walk.{Where, WalkCost, At, Walks, within}
+use Rattle.machine_semantics.specs.Path.{Step, under, then_rest, Follows, Returning, next_own}
+use Rattle.machine_semantics.specs.Job.{RoutinesFit, joined, Chain, Stands, Comes, Less, Pauses, Keeps}
+use Rattle.machine_semantics.specs.Safe.{Parts, IsOwn, HandlerFits, ProcessFits, part_of, spare, own_of, ReadyFits, Ticks, Pausing, TickFits, TickIsSafe}
 use Rattle.machine_safety.proofs.Lists.{under_then}
 use Rattle.machine_safety.proofs.Frames.{follows_then, at_least_end}
 use Rattle.machine_safety.proofs.Jobs.{instruction_is_safe}

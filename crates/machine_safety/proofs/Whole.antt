@@ -4,9 +4,9 @@ use Rattle.std.specs.Prelude.{slice_get, slice_set, ℤ}
 use Rattle.machine_semantics.specs.Image.{Image, Process}
 use Rattle.machine_semantics.specs.State.{Job, Thread, Idle, Ready, Waiting, State}
 use Rattle.machine_semantics.specs.Tick.{owned_of}
-use Rattle.machine_safety_spec.specs.Walk.{Where, WalkCost}
-use Rattle.machine_safety_spec.specs.Safe.{Parts, ReadyFits, WaitingFits, part_of}
-use Rattle.machine_safety_spec.specs.Whole.{ThreadFits, ceiling_of, IsInside, Apart, StateFits}
+use Rattle.machine_semantics.specs.Walk.{Where, WalkCost}
+use Rattle.machine_semantics.specs.Safe.{Parts, ReadyFits, WaitingFits, part_of}
+use Rattle.machine_semantics.specs.Whole.{ThreadFits, ceiling_of, IsInside, Apart, StateFits}
 use Rattle.machine_safety.proofs.Ticking.{fits_at, comes_at}
 
 -- ---- lists

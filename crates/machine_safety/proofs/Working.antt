@@ -10,10 +10,10 @@ use Rattle.machine_semantics.specs.State.{Job, Thread, Idle, Ready, Waiting, Sta
 use Rattle.machine_semantics.specs.Effect.{Own, Outcome, Goes, Does, Signals, Broadcasts, Waits, Raises, Ends, Stuck}
 use Rattle.machine_semantics.specs.Starts.{Started, unchanged, told, released, release, release_thread, time_out, raised, without, queue_of, starts}
 use Rattle.machine_semantics.specs.Tick.{Candidate, least, pick, woken, wake, wake_all, first, rest, wake_first, settle, outcome, owned_of, run_thread, run_picked, tick}
-use Rattle.machine_safety_spec.specs.Walk.{Where, WalkCost}
-use Rattle.machine_safety_spec.specs.Safe.{Parts, ImageFits, ReadyFits, Ticks, TickFits, own_of, part_of, spare}
-use Rattle.machine_safety_spec.specs.Whole.{StateFits}
-use Rattle.machine_safety_spec.specs.Work.{work_of, HasLeft, Owes, IsBusy, is_chosen, runs, worst_of, activation, WorkFalls, ReleaseOwes}
+use Rattle.machine_semantics.specs.Walk.{Where, WalkCost}
+use Rattle.machine_semantics.specs.Safe.{Parts, ImageFits, ReadyFits, Ticks, TickFits, own_of, part_of, spare}
+use Rattle.machine_semantics.specs.Whole.{StateFits}
+use Rattle.machine_semantics.specs.Work.{work_of, HasLeft, Owes, IsBusy, is_chosen, runs, worst_of, activation, WorkFalls, ReleaseOwes}
 use Rattle.machine_safety.proofs.Ticking.{tick_is_safe, raise_fits, based, Based}
 use Rattle.machine_safety.proofs.Whole.{ready_elsewhere, waiting_elsewhere, length_owned}
 use Rattle.machine_safety.proofs.Picked.{Chosen, ChosenOf, chosen, finds_free}

@@ -7,9 +7,9 @@ use Rattle.machine_semantics.specs.Image.{Image, Routine, Process, Script}
 use Rattle.machine_semantics.specs.Tick.{tick}
 use Rattle.machine_semantics.specs.Run.{state_at}
 use Rattle.machine_safety.specs.SmallImages.{waiter_and_signaller}
-use Rattle.machine_safety_spec.specs.Part.{Part}
-use Rattle.machine_safety_spec.specs.Walk.{Where, WalkCost}
-use Rattle.machine_safety_spec.specs.Safe.{Parts, ImageFits}
+use Rattle.machine_semantics.specs.Part.{Part}
+use Rattle.machine_semantics.specs.Walk.{Where, WalkCost}
+use Rattle.machine_semantics.specs.Safe.{Parts, ImageFits}
 
 -- no tick of any run of the image is stuck
 abbrev pub IsNeverStuck : Image → Type 0

@@ -1,6 +1,6 @@
 //! Laws: never stuck, within sizes, apart in monitors; worked images.
 //!
-//! Whoever made the image: where it meets the premise of `machine_safety_spec`, no process of it
+//! Whoever made the image: where it meets the premise of `machine_semantics`, no process of it
 //! meets a missing operand, an occupied monitor or a full stack, and what an activation may still
 //! run, wait and stay falls with every tick. The calls of `safety_law` state this, those of
 //! `example` give images that meet the premise.

@@ -1,16 +1,17 @@
 //! The laws, for every image that meets the premise, every script and every tick.
 //!
-//! Each is a statement of `specs/`. The premise is `ImageFits` of `machine_safety_spec/specs/Safe.antt`, the invariant
-//! `StateFits` of `machine_safety_spec/specs/Whole.antt`.
+//! Each is a statement of `specs/`. The premise is `ImageFits` of
+//! `machine_semantics/specs/Safe.antt`, the invariant `StateFits` of
+//! `machine_semantics/specs/Whole.antt`.
 
-ghost use Rattle.machine_safety_spec.specs.Job.{InstructionIsSafe};
-ghost use Rattle.machine_safety_spec.specs.SafeTerms.{PlainIsSafe};
-ghost use Rattle.machine_safety_spec.specs.Safe.{TickIsSafe};
-ghost use Rattle.machine_safety_spec.specs.Whole.{EveryTickIsSafe, RunFits, EveryRunIsSafe, RunKeepsWords};
-ghost use Rattle.machine_safety_spec.specs.Queues.{TickKeepsQueues, RunKeepsQueues};
-ghost use Rattle.machine_safety_spec.specs.Stays.{StayFalls, StayBegins, EntersFree};
-ghost use Rattle.machine_safety_spec.specs.Waits.{SuspensionFalls, SuspensionBegins, ReleaseSuspends};
-ghost use Rattle.machine_safety_spec.specs.Work.{ReleaseOwes, WorkFalls, WorkBegins};
+ghost use Rattle.machine_semantics.specs.Job.{InstructionIsSafe};
+ghost use Rattle.machine_semantics.specs.SafeTerms.{PlainIsSafe};
+ghost use Rattle.machine_semantics.specs.Safe.{TickIsSafe};
+ghost use Rattle.machine_semantics.specs.Whole.{EveryTickIsSafe, RunFits, EveryRunIsSafe, RunKeepsWords};
+ghost use Rattle.machine_semantics.specs.Queues.{TickKeepsQueues, RunKeepsQueues};
+ghost use Rattle.machine_semantics.specs.Stays.{StayFalls, StayBegins, EntersFree};
+ghost use Rattle.machine_semantics.specs.Waits.{SuspensionFalls, SuspensionBegins, ReleaseSuspends};
+ghost use Rattle.machine_semantics.specs.Work.{ReleaseOwes, WorkFalls, WorkBegins};
 
 /// An instruction of a line is not stuck, and leaves the operands that its row says.
 pub fn plain_is_safe()

@@ -5,3 +5,14 @@ pub mod Effect
 pub mod Starts
 pub mod Tick
 pub mod Run
+pub mod Part
+pub mod SafeTerms
+pub mod Walk
+pub mod Path
+pub mod Job
+pub mod Safe
+pub mod Whole
+pub mod Work
+pub mod Stays
+pub mod Queues
+pub mod Waits

@@ -3,3 +3,5 @@ pub mod Sentences
 pub mod Conduct
 pub mod Seen
 pub mod Laws
+pub mod Told
+pub mod message_callsLaws

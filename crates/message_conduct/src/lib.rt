@@ -13,6 +13,8 @@
 mod calls;
 mod expr;
 mod laws;
+mod message_calls_laws;
+mod message_calls_told;
 mod sentences;
 mod stmt;
 mod stray;
@@ -20,5 +22,7 @@ mod told;
 mod walk;
 
 pub use laws::{finds_each, tells_each};
+pub use message_calls_laws::tells_calls;
+pub use message_calls_told::call_sentence;
 pub use sentences::routine_name;
 pub use told::conduct_sentence;

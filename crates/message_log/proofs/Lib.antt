@@ -1,2 +1,4 @@
+pub mod ImageExamples
+pub mod Others
 pub mod Examples
 mod Listing

@@ -1,3 +1,4 @@
+pub mod Image
 pub mod Log
 pub mod Refused
 pub mod Seen

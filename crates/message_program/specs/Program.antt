@@ -9,7 +9,7 @@ use Rattle.message_program.specs.Word.{bytes_at, word_at}
 use Rattle.message_expected.specs.Expected.{IsExpectedSet, before, front}
 use Rattle.message_unexpected.specs.Unexpected.{unexpected_notes}
 use Rattle.message_expected.specs.declared.kinds.Kind.{Kind}
-use Rattle.message_calls.specs.Told.{IsCallTold}
+use Rattle.message_conduct.specs.Told.{IsCallTold}
 use Rattle.message_conduct.specs.Conduct.{conduct_sentence}
 use Rattle.message_names.specs.Told.{name_notes, name_sentence}
 use Rattle.message_types.specs.Told.{type_sentence}

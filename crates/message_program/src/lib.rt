@@ -9,7 +9,7 @@
 //! (`message_expected`, `message_unexpected`); with the sentence and the notes that name what is
 //! wrong where a rule for names does (`message_names`); and with the sentence that has numbers and
 //! names where another static rule does (`message_rules`, `message_types`, `message_conduct`,
-//! `message_calls`).
+//! `message_conduct`).
 //!
 //! `program_message` and `long_message` make exactly these messages; the only error is want of
 //! memory.

@@ -1,14 +1,13 @@
 //! What is said, with the rule's numbers and names, where a static rule fails.
 
 ghost use Rattle.std.specs.Prelude.{IfOk};
-ghost use Rattle.message_calls.specs.Told.{IsCallTold};
+ghost use Rattle.message_conduct.specs.Told.{IsCallTold};
 ghost use Rattle.message_conduct.specs.Conduct.{conduct_sentence};
 ghost use Rattle.message_program.specs.Program.{IsSaid, OrElse};
 ghost use Rattle.message_types.specs.Told.{type_sentence};
 ghost use Rattle.syntax_tree.specs.Placed.{placed};
 
-use message_calls::call_sentence;
-use message_conduct::conduct_sentence;
+use message_conduct::{call_sentence, conduct_sentence};
 use message_rules::rule_sentence;
 use message_types::type_sentence;
 use static_declarations::Declarations;

@@ -10,7 +10,7 @@ use Rattle.syntax_tree.specs.declared.place.Place.{Place}
 use Rattle.syntax_tree.specs.Placed.{Prog as Placed, plain}
 use Rattle.syntax_tree.specs.Plain.{Monitor, Name, Process, Program}
 use Rattle.source_semantics.specs.Names.{processes, monitors, event_in}
-use Rattle.wellformed.specs.WellFormed.{CountsFit}
+use Rattle.static_semantics.specs.WellFormed.{CountsFit}
 use Rattle.built_image.specs.Named.{names_of, named_event}
 use Rattle.replay.specs.Held.{AreNamesFor}
 use Rattle.built_valid_law.proofs.Counts.{names_of_conditions, names_of_devices}

@@ -7,7 +7,7 @@ use Rattle.base.specs.Words.{within}
 use Rattle.syntax_tree.specs.Plain.{Trigger, periodic, at_event, Program}
 use Rattle.source_semantics.specs.Names.{as_count, constant_value, count_value, processes}
 use Rattle.replay_due_events.specs.NextDue.{FramePasses, FramesPass}
-use Rattle.wellformed.specs.WellFormed.{ActivationFits, IsWellFormed, ProcessFits}
+use Rattle.static_semantics.specs.WellFormed.{ActivationFits, IsWellFormed, ProcessFits}
 
 not_below : (low high n : ℕ) → int_le (pos low) (pos n) && int_le (pos n) (pos high) ≡ true → low ≤ n
 not_below low high n is = grind (arith, nat_tests, is)

@@ -27,7 +27,7 @@ use Rattle.code_cost.specs.Rules.{SizeFails}
 use Rattle.compile.specs.Steps.{IsSizeFault}
 use Rattle.compile.specs.declared.built.BuildFault.{BuildFault}
 use Rattle.compile.specs.declared.built.BuildFault.TheVariants as fault
-use Rattle.wellformed.specs.WellFormed.{IsWellFormed}
+use Rattle.static_semantics.specs.WellFormed.{IsWellFormed}
 use Rattle.codegen_law.specs.Ruled.{NamesApart}
 use Rattle.replay.specs.Told.{ceiling_told}
 

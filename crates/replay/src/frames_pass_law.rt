@@ -6,7 +6,7 @@
 
 ghost use Rattle.syntax_tree.specs.Plain.{Program};
 ghost use Rattle.replay_due_events.specs.NextDue.{FramesPass};
-ghost use Rattle.wellformed.specs.WellFormed.{IsWellFormed};
+ghost use Rattle.static_semantics.specs.WellFormed.{IsWellFormed};
 
 /// In a well-formed program no frame is 0.
 pub fn frames_pass()

@@ -4,7 +4,7 @@ ghost use Rattle.std.specs.Prelude.{IfOk};
 ghost use Rattle.replay.specs.Held.{AreNamesFor};
 ghost use Rattle.syntax_tree.specs.Placed.{placed};
 
-use checked_law::premises_of_laws::checked_programs_are_ready;
+use built_image_law::premises_of_laws::checked_programs_are_ready;
 use compile_image::image_names;
 use image::ImageNames;
 use static_semantics::Checked;

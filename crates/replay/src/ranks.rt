@@ -13,9 +13,9 @@ ghost use Rattle.command_due.specs.Source.{IsWritten};
 ghost use Rattle.replay.specs.Told.{ceiling_told};
 ghost use Rattle.syntax_tree.specs.Placed.{placed, plain};
 
+use built_image_law::generated_within_limits::generated_code_is_code;
+use built_image_law::premises_of_laws::checked_programs_are_ready;
 use built_tasks_law::ranks_and_ceilings::{ceilings_are_of_the_meaning, ranks_are_of_the_meaning};
-use checked_law::generated_within_limits::generated_code_is_code;
-use checked_law::premises_of_laws::checked_programs_are_ready;
 use compile::{BuildFault, ranked};
 use image::{RawMonitor, RawProcess};
 use replay_state::Ranks;

@@ -14,7 +14,7 @@ use crate::frames_pass_law::frames_pass;
 use crate::nesting::levels;
 use crate::{judge, ranks_of, start};
 use base::Event;
-use checked_law::premises_of_laws::checked_programs_are_ready;
+use built_image_law::premises_of_laws::checked_programs_are_ready;
 use replay_state::Ranks;
 use script::Script;
 use source_semantics::Verdict;

@@ -7,8 +7,8 @@
 //! tells.
 //!
 //! The script is a `ScriptCursor` of `replay_script`, which passes its lines as ticks are reached;
-//! until when nothing starts is told by `replay_quiet`. `is_told` and `may_act` test an act, `act` does
-//! it (`specs/Effects.antt`). Where memory is wanting the configuration is as it was.
+//! until when nothing starts is told by `replay_script`. `is_told` and `may_act` test an act, `act`
+//! does it (`specs/Effects.antt`). Where memory is wanting the configuration is as it was.
 #![tactic(auto)]
 
 mod act_events;

@@ -12,8 +12,7 @@ ghost use Rattle.replay_due_events.specs.Timings.{IsTimetableOf, event_of, first
 ghost use Rattle.replay_script.specs.Cursors.{IsAt, IsWithin, script_in};
 
 use replay_due_events::{Start, Timetable, is_none_missing_before};
-use replay_quiet::free_until;
-use replay_script::ScriptCursor;
+use replay_script::{ScriptCursor, free_until};
 use replay_state::{Config, ProgramContext, Ranks};
 
 /// What of a program events are judged by: its text, its timings, its ranks and ceilings, and how

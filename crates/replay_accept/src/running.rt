@@ -12,8 +12,7 @@ use crate::act_events::act_by;
 use crate::begin::{Begun, begin};
 use crate::rules::Rules;
 use base::{Act, Event};
-use replay_quiet::next_start_after;
-use replay_script::ScriptCursor;
+use replay_script::{ScriptCursor, next_start_after};
 use replay_state::Config;
 use std::alloc::AllocError;
 

@@ -16,7 +16,7 @@ use Rattle.static_semantics.specs.Places.{NamesFound}
 use Rattle.static_semantics.specs.Mirrors.{NamesListed, monitor_site, program_site}
 use Rattle.wellformed_law.proofs.Members.{In, in-contains}
 use Rattle.wellformed_law.proofs.ProgramScope.{split-in}
-use Rattle.checked_law.proofs.Differ.{Differ, DeclsDiffer, decls_differ, scope_differs}
+use Rattle.built_image_law.proofs.Differ.{Differ, DeclsDiffer, decls_differ, scope_differs}
 use Rattle.replay_law.proofs.Differing.{Differing}
 use Rattle.static_names.proofs.Scopes.{same-refl}
 

@@ -13,7 +13,7 @@ use Rattle.machine_semantics.specs.Effect as m
 use Rattle.machine_semantics.specs.Effect.{Own, Outcome, Goes, Does, Signals, Broadcasts, Waits, Raises, Ends, Stuck, effect}
 use Rattle.machine_semantics.specs.Tick.{at_next, outcome_at, outcome}
 use Rattle.base.specs.Words.{Answer, word, raised, sum, difference, product, negated, quotient, remainder, of_bool, is_true, is_zero, same, within}
-use Rattle.machine_safety_spec.specs.Part.{IsBelow}
+use Rattle.machine_semantics.specs.Part.{IsBelow}
 use Rattle.vm_law.specs.Operands.{IsThere, AreThere}
 use Rattle.replay_law.proofs.Words.{Each, Opt, joined_each, set_each, get_each, of_signed, truth_word, AnswerFits, in_word_fits, quotient_fits, remainder_fits, zeros_each, OperandFits, CallerFits, JobFits}
 

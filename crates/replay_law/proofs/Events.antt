@@ -14,7 +14,7 @@ use Rattle.built_image.specs.Named.{frame_released}
 use Rattle.codegen_law.proofs.NameNumbers.{name_is, name_same}
 use Rattle.code_spec.specs.Compiled.{EmitsProcesses, IsReleased}
 use Rattle.codegen_law.proofs.Counts.{one_low}
-use Rattle.wellformed.specs.WellFormed.{ActivationFits, is_event_of}
+use Rattle.static_semantics.specs.WellFormed.{ActivationFits, is_event_of}
 use Rattle.wellformed_law.proofs.Members.{In}
 use Rattle.replay_law.proofs.Differing.{Differing}
 

@@ -31,10 +31,10 @@ use Rattle.built_image.specs.Named.{named_conditions, named_device, named_event,
 use Rattle.built_valid_law.specs.Made.{BuiltImagesAreMade}
 use Rattle.built_valid_law.specs.Ready.{BuiltImagesAreReady, IsReady}
 use Rattle.built_valid_law.proofs.Counts.{Counted, counted, named_in}
-use Rattle.checked_law.specs.Ready as checked_of
-use Rattle.checked_law.specs.Ready.{CheckedProgramsAreReady, IsImageMade}
-use Rattle.checked_law.specs.Runs.{IsSmallEnough}
-use Rattle.checked_law.specs.Small.{ProgramsThatKeepSizesAreSmall}
+use Rattle.built_image_law.specs.Ready as checked_of
+use Rattle.built_image_law.specs.Ready.{CheckedProgramsAreReady, IsImageMade}
+use Rattle.built_image_law.specs.Runs.{IsSmallEnough}
+use Rattle.built_image_law.specs.Small.{ProgramsThatKeepSizesAreSmall}
 use Rattle.code_cost_spec.specs.Levels.{code_length}
 use Rattle.code_measures.specs.Whole.{CodeHasItsLength}
 use Rattle.code_spec.specs.Compiled.{IsCodeOf, condition_monitors, device_direction}

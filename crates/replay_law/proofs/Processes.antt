@@ -28,7 +28,7 @@ use Rattle.valid_image_law.proofs.Tests.{passed}
 use Rattle.code_spec.specs.Compiled.{EmitsHandler, process_scope}
 use Rattle.code_spec.specs.Segments.{stmts_segs}
 use Rattle.codegen_law.proofs.Counts.{one_low}
-use Rattle.wellformed.specs.WellFormed.{OptionalFits}
+use Rattle.static_semantics.specs.WellFormed.{OptionalFits}
 use Rattle.image_reader_law.proofs.Ranged.{numbers_few}
 use Rattle.replay_law.proofs.Levels.{HandlerNests, ProcessNests}
 use Rattle.replay_law.proofs.Nesting.{stmts_within}

@@ -3,7 +3,7 @@ use Rattle.std.proofs.Common.{◌≤◌, ◌<◌, ℕ, length, sym, subst}
 use Rattle.std.specs.Prelude.{slice_get}
 use Rattle.machine_semantics.specs.State.{State}
 use Rattle.machine_semantics.specs.Starts.{queue_of}
-use Rattle.machine_safety_spec.specs.Queues.{AreQueued, times}
+use Rattle.machine_semantics.specs.Queues.{AreQueued, times}
 use Rattle.vm_turn.proofs.Room.{few, once_waits, there}
 
 -- ---- queues

@@ -11,7 +11,7 @@ use Rattle.image_format.proofs.Booleans.{together}
 use Rattle.image_reader.specs.Grammar as g
 use Rattle.image_reader.proofs.Rising.{above_last}
 use Rattle.code_spec.specs.Compiled.{ascending, inserted}
-use Rattle.wellformed.specs.WellFormed.{Differ, IsHandled}
+use Rattle.static_semantics.specs.WellFormed.{Differ, IsHandled}
 use Rattle.image_reader_law.proofs.Ranged.{in_range}
 use Rattle.replay_law.proofs.Numbers.{fine, short_fits}
 

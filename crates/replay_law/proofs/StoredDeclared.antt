@@ -16,7 +16,7 @@ use Rattle.wellformed_law.proofs.Lookups.{or_else-first, some-none}
 use Rattle.wellformed_law.proofs.Members.{In, ends-in, in-contains, in-left, in-map, in-right}
 use Rattle.wellformed_law.proofs.NamesAfter.{ends-inner}
 use Rattle.wellformed_law.proofs.ProgramScope.{Split, split-in}
-use Rattle.checked_law.proofs.Differ.{DeclsDiffer, Free}
+use Rattle.built_image_law.proofs.Differ.{DeclsDiffer, Free}
 use Rattle.replay_law.proofs.Declared.{PicksName, condition_in_scope, declarations as decls_apart, device_called, device_picked, monitor_called, monitor_picked, picked_differ, process_called, process_picked, twice}
 use Rattle.replay_law.proofs.Differing.{Differing}
 use Rattle.replay_law.proofs.Fresh.{NoneOf, in_either}

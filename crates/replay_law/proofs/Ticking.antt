@@ -15,8 +15,8 @@ use Rattle.machine_semantics.specs.Run.{at_start, events, events_from, state_at,
 use Rattle.machine_safety.proofs.Queueing.{run_keeps_queues, tick_keeps_queues}
 use Rattle.machine_safety.proofs.Running.{state_fits}
 use Rattle.machine_safety.proofs.Starting.{starts_keep}
-use Rattle.machine_safety_spec.specs.Queues.{AreQueued}
-use Rattle.machine_safety_spec.specs.Whole.{StateFits as IsSafe}
+use Rattle.machine_semantics.specs.Queues.{AreQueued}
+use Rattle.machine_semantics.specs.Whole.{StateFits as IsSafe}
 use Rattle.valid_image_law.specs.ValidLaw.{MeetsPremises, ValidMeetsPremises}
 use Rattle.vm_law.specs.Operands.{AreThere, ValidOperandsAreThere}
 use Rattle.replay_law.specs.RunWords.{SetsWord, ValidRunsFit}

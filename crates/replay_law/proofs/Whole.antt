@@ -41,14 +41,14 @@ use Rattle.code_spec.specs.Numbering as numbering
 use Rattle.code_cost_spec.specs.Heights.{routine_height}
 use Rattle.code_cost_spec.specs.Levels.{calls_of}
 use Rattle.syntax_tree.specs.Placed.{plain_routine}
-use Rattle.checked_law.specs.Ready.{IsImageMade}
-use Rattle.checked_law.specs.Small.{KeepsSizes}
-use Rattle.checked_law.proofs.SmallLemmas.{not_over}
-use Rattle.checked_law.proofs.Texts.{IsPlainOf, plain_of_placed}
+use Rattle.built_image_law.specs.Ready.{IsImageMade}
+use Rattle.built_image_law.specs.Small.{KeepsSizes}
+use Rattle.built_image_law.proofs.SmallLemmas.{not_over}
+use Rattle.built_image_law.proofs.checked_lawTexts.{IsPlainOf, plain_of_placed}
 use Rattle.front_end.specs.Source.{IsTreeOf}
 use Rattle.static_semantics.specs.Places.{NamesFound}
 use Rattle.static_semantics.specs.Mirrors.{NamesListed}
-use Rattle.wellformed.specs.WellFormed.{ActivationFits, FirstFits, IsWellFormed, ProcessFits, is_event_of}
+use Rattle.static_semantics.specs.WellFormed.{ActivationFits, FirstFits, IsWellFormed, ProcessFits, is_event_of}
 use Rattle.wellformed_law.proofs.Members.{In, in-middle}
 use Rattle.replay_law.specs.Words.{IsIdentifier, MonitorIsNamed, NamesAreIdentifiers}
 use Rattle.replay_law.proofs.Declared.{monitors_are, monitors_differ, processes_are, processes_differ}

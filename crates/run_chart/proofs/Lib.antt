@@ -1,0 +1,4 @@
+pub mod Seeing
+pub mod Widths
+pub mod Ranges
+pub mod Tracing

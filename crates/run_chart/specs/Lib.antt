@@ -2,3 +2,6 @@ pub mod Letters
 pub mod Spans
 pub mod Responses
 pub mod Chart
+pub mod Columns
+pub mod Lengths
+pub mod Traces

@@ -6,3 +6,6 @@ pub mod Greatest
 pub mod There
 pub mod Decided
 pub mod Bounded
+pub mod Within
+pub mod Overheads
+pub mod Sums

@@ -6,8 +6,8 @@ use Rattle.machine_isa.specs.declared.instr.Instr.TheVariants as i
 use Rattle.base.specs.Capped.{cap}
 use Rattle.sched_response.specs.Demand.{IsTask, Solves, demand_at}
 use Rattle.machine_semantics.specs.Image.{Process, Line, Occurs}
-use Rattle.machine_safety_spec.specs.Safe.{ProcessFits, ImageFits, part_of}
-use Rattle.machine_safety_spec.specs.Work.{worst_of}
+use Rattle.machine_semantics.specs.Safe.{ProcessFits, ImageFits, part_of}
+use Rattle.machine_semantics.specs.Work.{worst_of}
 use Rattle.machine_safety.specs.Example.{cost}
 use Rattle.machine_safety.proofs.Building.{exact, own_fits}
 use Rattle.valid_image.specs.Tasks.{task_of, tasks_of}

@@ -9,11 +9,11 @@ use Rattle.machine_semantics.specs.State.{Job, Thread, Idle, Ready, Waiting, Sta
 use Rattle.machine_semantics.specs.Tick.{Candidate, least, pick}
 use Rattle.machine_semantics.specs.Tick as machine
 use Rattle.machine_semantics.specs.Run.{state_at}
-use Rattle.machine_safety_spec.specs.Walk.{Where}
-use Rattle.machine_safety_spec.specs.Safe.{Parts, ImageFits, part_of}
-use Rattle.machine_safety_spec.specs.Whole.{ceiling_of, IsInside}
-use Rattle.machine_safety_spec.specs.Work.{IsBusy, is_chosen, runs}
-use Rattle.machine_safety_spec.specs.Waits.{is_waiting}
+use Rattle.machine_semantics.specs.Walk.{Where}
+use Rattle.machine_semantics.specs.Safe.{Parts, ImageFits, part_of}
+use Rattle.machine_semantics.specs.Whole.{ceiling_of, IsInside}
+use Rattle.machine_semantics.specs.Work.{IsBusy, is_chosen, runs}
+use Rattle.machine_semantics.specs.Waits.{is_waiting}
 use Rattle.machine_safety.proofs.Picked.{LowestOf, lowest}
 use Rattle.sched_response.specs.declared.tasks.Task.{Task}
 use Rattle.sched_response.specs.Demand.{task_at}

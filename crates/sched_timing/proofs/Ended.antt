@@ -10,9 +10,9 @@ use Rattle.machine_semantics.specs.Image.{Process, Script}
 use Rattle.machine_semantics.specs.State.{Job, Thread, Idle, Ready, State}
 use Rattle.machine_semantics.specs.Starts.{starts}
 use Rattle.machine_semantics.specs.Run.{state_at}
-use Rattle.machine_safety_spec.specs.Walk.{Where}
-use Rattle.machine_safety_spec.specs.Safe.{Parts, ImageFits}
-use Rattle.machine_safety_spec.specs.Work.{IsBusy}
+use Rattle.machine_semantics.specs.Walk.{Where}
+use Rattle.machine_semantics.specs.Safe.{Parts, ImageFits}
+use Rattle.machine_semantics.specs.Work.{IsBusy}
 use Rattle.sched_theorem.specs.Stretches.{Life}
 use Rattle.sched_theorem.specs.Ranked.{EndsAt}
 use Rattle.sched_theorem.specs.Ranked as ranked

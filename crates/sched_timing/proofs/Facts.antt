@@ -6,10 +6,10 @@ use Rattle.machine_semantics.specs.Image.{Image, Process, Script}
 use Rattle.machine_semantics.specs.State.{Job, Thread, Idle, Ready, Waiting, State}
 use Rattle.machine_semantics.specs.Tick.{tick}
 use Rattle.machine_semantics.specs.Run.{state_at}
-use Rattle.machine_safety_spec.specs.Walk.{Where}
-use Rattle.machine_safety_spec.specs.Safe.{Parts, ImageFits}
-use Rattle.machine_safety_spec.specs.Work.{IsBusy, runs}
-use Rattle.machine_safety_spec.specs.Waits.{Suspends, is_waiting}
+use Rattle.machine_semantics.specs.Walk.{Where}
+use Rattle.machine_semantics.specs.Safe.{Parts, ImageFits}
+use Rattle.machine_semantics.specs.Work.{IsBusy, runs}
+use Rattle.machine_semantics.specs.Waits.{Suspends, is_waiting}
 use Rattle.machine_safety.proofs.Suspending.{IsWoken}
 use Rattle.sched_response.specs.declared.tasks.Task.{Task}
 use Rattle.sched_response.specs.Demand.{task_at}

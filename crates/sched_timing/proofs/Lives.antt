@@ -7,11 +7,11 @@ use Rattle.machine_semantics.specs.State.{Job, Thread, Idle, Ready, Waiting, Sta
 use Rattle.machine_semantics.specs.Effect.{Outcome, Goes, Does, Signals, Broadcasts, Waits, Raises, Ends, Stuck}
 use Rattle.machine_semantics.specs.Tick.{owned_of, outcome_at, tick}
 use Rattle.machine_semantics.specs.Run.{at_start, state_at}
-use Rattle.machine_safety_spec.specs.Walk.{Where, WalkCost}
-use Rattle.machine_safety_spec.specs.Safe.{Parts, ImageFits, ReadyFits, TickFits, own_of, part_of}
-use Rattle.machine_safety_spec.specs.Whole.{StateFits}
-use Rattle.machine_safety_spec.specs.Work.{HasLeft, Owes, IsBusy, Works, runs, worst_of, activation, work_of}
-use Rattle.machine_safety_spec.specs.Waits.{Suspends, Spends, is_waiting}
+use Rattle.machine_semantics.specs.Walk.{Where, WalkCost}
+use Rattle.machine_semantics.specs.Safe.{Parts, ImageFits, ReadyFits, TickFits, own_of, part_of}
+use Rattle.machine_semantics.specs.Whole.{StateFits}
+use Rattle.machine_semantics.specs.Work.{HasLeft, Owes, IsBusy, Works, runs, worst_of, activation, work_of}
+use Rattle.machine_semantics.specs.Waits.{Suspends, Spends, is_waiting}
 use Rattle.machine_safety.proofs.Ticking.{tick_is_safe, based}
 use Rattle.machine_safety.proofs.Working.{work_falls}
 use Rattle.machine_safety.proofs.Suspending.{IsWoken, suspension_falls}

@@ -3,8 +3,8 @@ use Rattle.std.proofs.Common.{◌≡◌, ◌<◌, ℕ, suc, Some, length, arith,
 use Rattle.std.specs.Prelude.{slice_get}
 use Rattle.base.proofs.Lists.{some_at}
 use Rattle.machine_semantics.specs.Image.{Process, Script}
-use Rattle.machine_safety_spec.specs.Walk.{Where}
-use Rattle.machine_safety_spec.specs.Safe.{Parts, ImageFits}
+use Rattle.machine_semantics.specs.Walk.{Where}
+use Rattle.machine_semantics.specs.Safe.{Parts, ImageFits}
 use Rattle.sched_theorem.specs.Dispatched.{KeepsStays}
 use Rattle.sched_theorem.specs.Placed.{AreRanks, PicksAt, IsPlaced, IsInTimeAt}
 use Rattle.sched_theorem.proofs.Places.{in_time_at}

@@ -13,9 +13,9 @@ use Rattle.sched_theorem.specs.InTime.{AreBounds}
 use Rattle.sched_theorem.specs.Placed.{AreRanks}
 use Rattle.sched_theorem.proofs.Demands.{task_is, covers_one, solution_covers}
 use Rattle.machine_semantics.specs.Image.{Image, Monitor, Process}
-use Rattle.machine_safety_spec.specs.Walk.{Where}
-use Rattle.machine_safety_spec.specs.Safe.{Parts, part_of}
-use Rattle.machine_safety_spec.specs.Work.{worst_of, activation}
+use Rattle.machine_semantics.specs.Walk.{Where}
+use Rattle.machine_semantics.specs.Safe.{Parts, part_of}
+use Rattle.machine_semantics.specs.Work.{worst_of, activation}
 use Rattle.valid_image.specs.Tasks.{with_rank, process_at, task_of, tasks_from, tasks_of}
 use Rattle.sched_timing.specs.Views.{rank_at, bound_at, bound_of_some, rank_of_some}
 use Rattle.sched_timing.proofs.Numbering.{AreBelow, AreDifferent, none_left_out}

@@ -11,12 +11,12 @@ use Rattle.machine_semantics.specs.State.{Job, Thread, Idle, Ready, Waiting, Sta
 use Rattle.machine_semantics.specs.Effect.{effect}
 use Rattle.machine_semantics.specs.Tick.{owned_of, tick}
 use Rattle.machine_semantics.specs.Run.{at_start, state_at}
-use Rattle.machine_safety_spec.specs.Walk.{Where, At, Reaches, within}
-use Rattle.machine_safety_spec.specs.Path.{next_own}
-use Rattle.machine_safety_spec.specs.Job.{Keeps}
-use Rattle.machine_safety_spec.specs.Safe.{Parts, ImageFits, own_of, part_of}
-use Rattle.machine_safety_spec.specs.Whole.{ThreadFits, StateFits}
-use Rattle.machine_safety_spec.specs.Stays.{StaysIn}
+use Rattle.machine_semantics.specs.Walk.{Where, At, Reaches, within}
+use Rattle.machine_semantics.specs.Path.{next_own}
+use Rattle.machine_semantics.specs.Job.{Keeps}
+use Rattle.machine_semantics.specs.Safe.{Parts, ImageFits, own_of, part_of}
+use Rattle.machine_semantics.specs.Whole.{ThreadFits, StateFits}
+use Rattle.machine_semantics.specs.Stays.{StaysIn}
 use Rattle.machine_safety.proofs.Jobs.{instruction_is_safe}
 use Rattle.machine_safety.proofs.Settling.{own_limit}
 use Rattle.machine_safety.proofs.Staying.{stay_falls}

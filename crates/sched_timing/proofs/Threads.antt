@@ -9,10 +9,10 @@ use Rattle.machine_semantics.specs.State.{Job, Thread, Idle, Ready, Waiting, Sta
 use Rattle.machine_semantics.specs.Starts.{released}
 use Rattle.machine_semantics.specs.Tick.{pick, run_picked, tick}
 use Rattle.machine_semantics.specs.Run.{state_at}
-use Rattle.machine_safety_spec.specs.Walk.{Where}
-use Rattle.machine_safety_spec.specs.Safe.{Parts, ImageFits}
-use Rattle.machine_safety_spec.specs.Whole.{StateFits}
-use Rattle.machine_safety_spec.specs.Work.{runs}
+use Rattle.machine_semantics.specs.Walk.{Where}
+use Rattle.machine_semantics.specs.Safe.{Parts, ImageFits}
+use Rattle.machine_semantics.specs.Whole.{StateFits}
+use Rattle.machine_semantics.specs.Work.{runs}
 use Rattle.machine_safety.proofs.Running.{state_fits}
 use Rattle.machine_safety.proofs.Starting.{starts_keep}
 use Rattle.machine_safety.proofs.Suspending.{IsWoken}

@@ -3,9 +3,9 @@ use Rattle.std.proofs.Common.{◌≤◌, ◌+◌, ◌*◌, ℕ, zero, suc, Optio
 use Rattle.std.specs.Prelude.{min, ◌/◌}
 use Rattle.machine_semantics.specs.Trees.{Seg, Segs, Line, Fork, Rep, Call, Stay, Wait, Exit, Nil, Cons}
 use Rattle.machine_semantics.specs.Image.{Process, Routine}
-use Rattle.machine_safety_spec.specs.Walk.{Where, WalkCost, Covers, Reaches, IsLine, Walk, Walks, within}
-use Rattle.machine_safety_spec.specs.Job.{RoutineFits}
-use Rattle.machine_safety_spec.specs.Safe.{Parts, HandlerFits, ProcessFits, ImageFits}
+use Rattle.machine_semantics.specs.Walk.{Where, WalkCost, Covers, Reaches, IsLine, Walk, Walks, within}
+use Rattle.machine_semantics.specs.Job.{RoutineFits}
+use Rattle.machine_semantics.specs.Safe.{Parts, HandlerFits, ProcessFits, ImageFits}
 use Rattle.machine_safety.proofs.Working.{times_le}
 
 -- as many waits, but no more than a tenth of the ticks

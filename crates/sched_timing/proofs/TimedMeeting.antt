@@ -7,8 +7,8 @@ use Rattle.sched_response.specs.Demand.{IsTask, Solves, demand_at}
 use Rattle.sched_theorem.proofs.Meeting.{solves}
 use Rattle.machine_semantics.specs.Trees.{Line, Call, Nil, Cons}
 use Rattle.machine_semantics.specs.Image.{Process, Occurs}
-use Rattle.machine_safety_spec.specs.Safe.{part_of}
-use Rattle.machine_safety_spec.specs.Work.{worst_of}
+use Rattle.machine_semantics.specs.Safe.{part_of}
+use Rattle.machine_semantics.specs.Work.{worst_of}
 use Rattle.machine_safety.specs.Example.{meeting, meeting_place, meeting_parts, MeetingFits}
 use Rattle.valid_image.specs.Tasks.{task_of, tasks_of}
 use Rattle.sched_timing.specs.Timed.{IsCovered}

@@ -4,7 +4,7 @@ use Rattle.std.specs.Prelude.{IsTrue, slice_get, slice_index, slice_index_or}
 use Rattle.machine_isa.specs.declared.instr.Instr.{Instr}
 use Rattle.sched_response.specs.Ranked.{use_at, outranks, AreRanks, IsLowerStay, IsBlocking}
 use Rattle.machine_semantics.specs.Image.{Monitor}
-use Rattle.machine_safety_spec.specs.Safe.{part_of}
+use Rattle.machine_semantics.specs.Safe.{part_of}
 use Rattle.machine_safety.specs.Example.{meeting, meeting_place, meeting_parts}
 use Rattle.sched_timing.specs.Timed.{ImageIsTimed}
 use Rattle.sched_timing.proofs.TimedMeeting.{meeting_is_timed, each}

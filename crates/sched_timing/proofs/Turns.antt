@@ -10,10 +10,10 @@ use Rattle.machine_semantics.specs.State.{Job, Thread, Idle, Ready, Waiting, Sta
 use Rattle.machine_semantics.specs.Effect.{Own, Outcome, Goes, Does, Signals, Broadcasts, Waits, Raises, Ends, Stuck}
 use Rattle.machine_semantics.specs.Starts.{raised, queue_of, starts}
 use Rattle.machine_semantics.specs.Tick.{Candidate, least, pick, first, settle, outcome, owned_of, run_thread, run_picked, tick}
-use Rattle.machine_safety_spec.specs.Walk.{Where, WalkCost}
-use Rattle.machine_safety_spec.specs.Safe.{Parts, ImageFits, ReadyFits, Ticks, TickFits, part_of}
-use Rattle.machine_safety_spec.specs.Whole.{ThreadFits, StateFits}
-use Rattle.machine_safety_spec.specs.Work.{is_chosen}
+use Rattle.machine_semantics.specs.Walk.{Where, WalkCost}
+use Rattle.machine_semantics.specs.Safe.{Parts, ImageFits, ReadyFits, Ticks, TickFits, part_of}
+use Rattle.machine_semantics.specs.Whole.{ThreadFits, StateFits}
+use Rattle.machine_semantics.specs.Work.{is_chosen}
 use Rattle.machine_safety.proofs.Ticking.{tick_is_safe}
 use Rattle.machine_safety.proofs.Picked.{Chosen, ChosenOf, chosen, finds_free}
 use Rattle.machine_safety.proofs.Starting.{starts_keep}

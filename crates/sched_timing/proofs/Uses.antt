@@ -8,8 +8,8 @@ use Rattle.sched_response.specs.declared.uses.Use.{Use}
 use Rattle.sched_response.specs.Ranked.{use_at, outranks, stay_at, Blocks, IsBlocking}
 use Rattle.base.specs.Capped.{cap}
 use Rattle.machine_semantics.specs.Image.{Process, Monitor}
-use Rattle.machine_safety_spec.specs.Walk.{Where}
-use Rattle.machine_safety_spec.specs.Safe.{Parts, part_of}
+use Rattle.machine_semantics.specs.Walk.{Where}
+use Rattle.machine_semantics.specs.Safe.{Parts, part_of}
 use Rattle.sched_timing.specs.Timed.{ImageIsTimed}
 use Rattle.sched_timing.specs.Defined.{shown, AreDefined, AreTested, UsesMakeImagesTimed}
 

@@ -4,10 +4,10 @@ use Rattle.std.specs.Prelude.{slice_get}
 use Rattle.machine_semantics.specs.Image.{Process, Script}
 use Rattle.machine_semantics.specs.State.{Thread, Idle, Ready, Waiting}
 use Rattle.machine_semantics.specs.Run.{state_at}
-use Rattle.machine_safety_spec.specs.Walk.{Where}
+use Rattle.machine_semantics.specs.Walk.{Where}
 use Rattle.base.specs.Capped.{cap}
-use Rattle.machine_safety_spec.specs.Safe.{Parts, ImageFits, part_of}
-use Rattle.machine_safety_spec.specs.Work.{IsBusy, worst_of}
+use Rattle.machine_semantics.specs.Safe.{Parts, ImageFits, part_of}
+use Rattle.machine_semantics.specs.Work.{IsBusy, worst_of}
 use Rattle.sched_theorem.specs.Stretches.{NoneActive, SomeActive, Life}
 use Rattle.sched_theorem.specs.Stretches as abstract
 use Rattle.sched_theorem.specs.Placed.{by_rank}

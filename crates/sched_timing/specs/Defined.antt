@@ -5,9 +5,9 @@ use Rattle.sched_response.specs.Ranked.{use_at, AreRanks, stay_at, IsBlocking}
 use Rattle.base.specs.Capped.{cap}
 use Rattle.sched_response.specs.Demand.{IsTask, Solves}
 use Rattle.machine_semantics.specs.Image.{Process, Monitor}
-use Rattle.machine_safety_spec.specs.Walk.{Where}
-use Rattle.machine_safety_spec.specs.Safe.{Parts, part_of}
-use Rattle.machine_safety_spec.specs.Work.{worst_of}
+use Rattle.machine_semantics.specs.Walk.{Where}
+use Rattle.machine_semantics.specs.Safe.{Parts, part_of}
+use Rattle.machine_semantics.specs.Work.{worst_of}
 use Rattle.valid_image.specs.Tasks.{task_of, tasks_of}
 use Rattle.sched_timing.specs.Timed.{IsCovered, ImageIsTimed}
 

@@ -9,10 +9,10 @@ use Rattle.machine_semantics.specs.Tick.{tick}
 use Rattle.machine_semantics.specs.State.{State}
 use Rattle.machine_semantics.specs.Run.{state_at, events}
 use Rattle.source_semantics.specs.Source.{EndsWithin}
-use Rattle.machine_safety_spec.specs.Walk.{Where, WalkCost}
-use Rattle.machine_safety_spec.specs.Safe.{Parts, ImageFits, part_of}
-use Rattle.machine_safety_spec.specs.Work.{worst_of, activation}
-use Rattle.machine_safety_spec.specs.Waits.{IsRanked}
+use Rattle.machine_semantics.specs.Walk.{Where, WalkCost}
+use Rattle.machine_semantics.specs.Safe.{Parts, ImageFits, part_of}
+use Rattle.machine_semantics.specs.Work.{worst_of, activation}
+use Rattle.machine_semantics.specs.Waits.{IsRanked}
 use Rattle.valid_image.specs.Tasks.{task_of, tasks_of}
 use Rattle.sched_timing.specs.Views.{during, is_due, is_idle}
 

@@ -3,8 +3,8 @@ use Rattle.std.specs.Prelude.{◌≤◌, ℕ, true, List, [], ◌∷◌, None}
 use Rattle.machine_isa.specs.declared.instr.Instr.{Instr}
 use Rattle.machine_semantics.specs.Trees.{Line, Nil, Cons}
 use Rattle.machine_semantics.specs.Image.{Image, Process, Script, Occurs}
-use Rattle.machine_safety_spec.specs.Walk.{Where}
-use Rattle.machine_safety_spec.specs.Safe.{Parts, ImageFits}
+use Rattle.machine_semantics.specs.Walk.{Where}
+use Rattle.machine_semantics.specs.Safe.{Parts, ImageFits}
 use Rattle.machine_safety.specs.Example.{cost, own_part, meeting, meeting_place, meeting_parts}
 use Rattle.sched_timing.specs.Timed.{ImageIsTimed, RespectsFrames, IsInTime}
 

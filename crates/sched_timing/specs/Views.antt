@@ -10,10 +10,10 @@ use Rattle.machine_semantics.specs.State.{Thread, Idle, Ready, Waiting, State}
 use Rattle.machine_semantics.specs.Starts.{is_periodic_due, starts}
 use Rattle.machine_semantics.specs.Tick.{Candidate, pick}
 use Rattle.machine_semantics.specs.Run.{state_at}
-use Rattle.machine_safety_spec.specs.Safe.{Parts, part_of}
-use Rattle.machine_safety_spec.specs.Whole.{ceiling_of}
-use Rattle.machine_safety_spec.specs.Work.{runs}
-use Rattle.machine_safety_spec.specs.Waits.{is_waiting}
+use Rattle.machine_semantics.specs.Safe.{Parts, part_of}
+use Rattle.machine_semantics.specs.Whole.{ceiling_of}
+use Rattle.machine_semantics.specs.Work.{runs}
+use Rattle.machine_semantics.specs.Waits.{is_waiting}
 use Rattle.valid_image.specs.Tasks.{process_at}
 use Rattle.sched_theorem.specs.Stretches.{Life, Trace, flag}
 use Rattle.sched_theorem.specs.Dispatched.{Stay, Dispatch}

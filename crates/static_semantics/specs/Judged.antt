@@ -10,8 +10,8 @@ use Rattle.static_declarations.specs.declared.home.Where.{Where}
 use Rattle.static_declarations.specs.Parts.{Part, parts}
 use Rattle.static_types.specs.Rules.{StatementFails}
 use Rattle.source_semantics.specs.Names.{constants}
-use Rattle.wellformed.specs.Here.{Here, is_monitor}
-use Rattle.wellformed.specs.Statements.{is_looped}
+use Rattle.static_semantics.specs.Here.{Here, is_monitor}
+use Rattle.static_semantics.specs.Statements.{is_looped}
 use Rattle.static_semantics.specs.Places.{NamesFound}
 use Rattle.static_semantics.specs.Things.{ThingsKnown}
 

@@ -1,3 +1,7 @@
+pub mod Here
+pub mod Typed
+pub mod Statements
+pub mod WellFormed
 pub mod Static
 pub mod Places
 pub mod Written

@@ -14,8 +14,8 @@ use Rattle.static_declarations.specs.Things.{constant_thing, device_thing, routi
 use Rattle.static_declarations.specs.Parts.{Part, parts, decl_parts}
 use Rattle.source_semantics.specs.Names.{named, monitor_in}
 use Rattle.source_semantics.specs.Run.{Home, of_program, of_process, of_monitor, or_else, routine_named, entry_named}
-use Rattle.wellformed.specs.Here.{Here, is_monitor, own_variable, outer_variable, turn, value, meant, in_routine, in_process}
-use Rattle.wellformed.specs.Statements.{IsCondition}
+use Rattle.static_semantics.specs.Here.{Here, is_monitor, own_variable, outer_variable, turn, value, meant, in_routine, in_process}
+use Rattle.static_semantics.specs.Statements.{IsCondition}
 use Rattle.static_semantics.specs.Written.{ResultWritten}
 
 -- ---- what a name that is in reach stands for

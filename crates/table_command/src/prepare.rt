@@ -24,8 +24,7 @@ use message_table::{long_message, table_message};
 use outside::Files;
 use std::alloc::{AllocError, Global};
 use syntax_tree::Text;
-use table_format::TaskTable;
-use table_program::table_text;
+use table_format::{TaskTable, table_text};
 use table_reader::{LONG_TABLE, LONGEST_TABLE, TableFault, read_table};
 
 /// The table that a file holds.

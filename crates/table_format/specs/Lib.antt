@@ -3,3 +3,4 @@ pub mod Rules
 pub mod Faults
 pub mod Spending
 pub mod Program
+pub mod Parts

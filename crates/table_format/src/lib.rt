@@ -1,7 +1,7 @@
 //! Task tables: their spelling, their faults, and the program of each.
 //!
 //! The family Task tables: a table of frames, deadlines, costs and stays becomes a program.
-//! `table_format` has the definitions, `table_reader` reads a table, `table_program` writes the
+//! `table_format` has the definitions, `table_reader` reads a table, `table_format` writes the
 //! program's text.
 //!
 //! `specs/Spelling.antt` says how a table is spelled, `specs/Rules.antt` which text is a table,
@@ -10,6 +10,15 @@
 //! program of a table, whose canonical text is what is stored. Nothing here runs.
 #![tactic(auto)]
 
+mod monitors;
+mod names;
+mod parts;
+mod processes;
+mod spending;
 mod table;
+mod text;
 
+pub use monitors::monitor_names;
+pub use names::all_stays;
 pub use table::{Stay, TaskLine, TaskTable};
+pub use text::table_text;

@@ -9,8 +9,7 @@ ghost use Rattle.table_reader.specs.Reading.{line_seen};
 
 use crate::line::{LineWords, StayWords};
 use std::alloc::{AllocError, Global};
-use table_format::{Stay, TaskLine, TaskTable};
-use table_program::{all_stays, monitor_names};
+use table_format::{Stay, TaskLine, TaskTable, all_stays, monitor_names};
 use text_fields::is_same;
 
 /// Whether the name is that of the process or of the event of a line.

@@ -1,7 +1,7 @@
 //! Code of a part against its tree.
 
 use image_format::{DEEPEST, Limits, SegBytes, tree_at};
-use loader_trees::{depth_bytes, fits_bytes, worst_bytes};
+use loader_code::{depth_bytes, fits_bytes, worst_bytes};
 use machine_isa::Instr;
 use std::test::Fail;
 
@@ -24,7 +24,7 @@ fn fits_so_alone(code: &[Instr], tree: SegBytes<'_>) -> bool {
         && !fits_bytes(code, 0, tree, &[], true)
 }
 
-#[tactic(auto, using(loader_trees::proofs::Fitting::fitting_is_found))]
+#[tactic(auto, using(loader_code::proofs::Fitting::fitting_is_found))]
 fn costs(code: &[Instr], tree: SegBytes<'_>) -> Result<(), Fail> {
     if !fits_bytes(code, 0, tree, &[], false) {
         return Err(Fail::new("the code is not of the tree"));

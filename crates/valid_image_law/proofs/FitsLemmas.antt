@@ -10,9 +10,9 @@ use Rattle.base.specs.Capped.{cap}
 use Rattle.machine_semantics.specs.Trees.{Segs, size}
 use Rattle.machine_semantics.specs.Image.{Image, Routine, Process}
 use Rattle.machine_semantics.specs.Tick.{ceiling}
-use Rattle.machine_safety_spec.specs.Part.{Part}
-use Rattle.machine_safety_spec.specs.Walk.{Where, WalkCost, Covers, Walks, Reaches}
-use Rattle.machine_safety_spec.specs.Job.{RoutineFits}
+use Rattle.machine_semantics.specs.Part.{Part}
+use Rattle.machine_semantics.specs.Walk.{Where, WalkCost, Covers, Walks, Reaches}
+use Rattle.machine_semantics.specs.Job.{RoutineFits}
 use Rattle.valid_image_law.specs.Rules.{AllMayStand, IsKnown, AllKnown, with_leave}
 use Rattle.valid_image_law.proofs.Tests.{passed, below}
 use Rattle.valid_image_law.proofs.Walks.{segs_walk, entry_walks}

@@ -6,8 +6,8 @@ use Rattle.std.proofs.lemmas.Bool.Decides.{nat_tests}
 use Rattle.machine_isa.specs.declared.instr.Instr.{Instr}
 use Rattle.machine_isa.specs.declared.instr.Instr.TheVariants as i
 use Rattle.machine_semantics.specs.Image.{Image, Routine, Process}
-use Rattle.machine_safety_spec.specs.Part.{Part}
-use Rattle.machine_safety_spec.specs.Walk.{Where, WalkCost, MayCall}
+use Rattle.machine_semantics.specs.Part.{Part}
+use Rattle.machine_semantics.specs.Walk.{Where, WalkCost, MayCall}
 use Rattle.valid_image_law.specs.Rules.{Callable, with_leave}
 use Rattle.valid_image.specs.Found.{Known, amount}
 use Rattle.valid_image.specs.Operands.{Whose, Area, no_words, whose_routine, words_of_process, own_words, is_open, is_open_some, may_be_inside, may_call}

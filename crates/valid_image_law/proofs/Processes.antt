@@ -6,9 +6,9 @@ use Rattle.machine_isa.specs.declared.instr.Instr.TheVariants as i
 use Rattle.machine_semantics.specs.Trees.{Segs, size}
 use Rattle.machine_semantics.specs.Image.{Image, Routine, Process, size_some}
 use Rattle.machine_semantics.specs.Starts.{lists}
-use Rattle.machine_safety_spec.specs.Part.{Part}
-use Rattle.machine_safety_spec.specs.Walk.{Where, WalkCost, Walks, At}
-use Rattle.machine_safety_spec.specs.Safe.{Parts, IsOwn, ProcessFits, ImageFits}
+use Rattle.machine_semantics.specs.Part.{Part}
+use Rattle.machine_semantics.specs.Walk.{Where, WalkCost, Walks, At}
+use Rattle.machine_semantics.specs.Safe.{Parts, IsOwn, ProcessFits, ImageFits}
 use Rattle.valid_image_law.specs.Rules.{AllMayStand, with_leave}
 use Rattle.valid_image_law.proofs.Tests.{passed}
 use Rattle.valid_image_law.proofs.Walks.{segs_walk}

@@ -8,8 +8,8 @@ use Rattle.machine_isa.specs.declared.instr.Instr.{Instr}
 use Rattle.machine_isa.specs.declared.instr.Instr.TheVariants as i
 use Rattle.base.specs.Words.{is_word}
 use Rattle.machine_semantics.specs.Image.{Image, Monitor}
-use Rattle.machine_safety_spec.specs.Part.{IsBelow, IsArray, IsReached}
-use Rattle.machine_safety_spec.specs.Walk.{Where, Reaches}
+use Rattle.machine_semantics.specs.Part.{IsBelow, IsArray, IsReached}
+use Rattle.machine_semantics.specs.Walk.{Where, Reaches}
 use Rattle.valid_image_law.specs.Rules.{Callable, MayStand}
 use Rattle.valid_image.specs.Fault.{or_else}
 use Rattle.valid_image.specs.Operands.{Whose, Area, no_words, is_between, in_area, ends_in, local_words, own_words, words_of_monitor, monitor_words, is_same, is_own_condition, goes, is_device, may_call, bad, bad_array, is_user_number, bad_operand}

@@ -9,8 +9,8 @@ use Rattle.sched_response.specs.declared.tasks.Task.{Task}
 use Rattle.sched_response.specs.Demand.{task_at, demand_at, Solves}
 use Rattle.machine_semantics.specs.Trees.{Segs}
 use Rattle.machine_semantics.specs.Image.{Image, Process}
-use Rattle.machine_safety_spec.specs.Safe.{Parts, part_of}
-use Rattle.machine_safety_spec.specs.Work.{worst_of}
+use Rattle.machine_semantics.specs.Safe.{Parts, part_of}
+use Rattle.machine_semantics.specs.Work.{worst_of}
 use Rattle.valid_image.specs.Tasks.{with_rank, process_at, task_of, tasks_of}
 use Rattle.sched_timing.specs.Timed.{IsCovered, ImageIsTimed}
 use Rattle.valid_image.specs.Found.{Found}

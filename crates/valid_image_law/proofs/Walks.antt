@@ -6,8 +6,8 @@ use Rattle.machine_isa.specs.declared.instr.Instr.{Instr}
 use Rattle.machine_isa.specs.declared.instr.Instr.TheVariants as i
 use Rattle.machine_semantics.specs.Trees.{Seg, Segs, Line, Fork, Rep, Call, Stay, Wait, Exit, Nil, Cons, size, size_of}
 use Rattle.machine_isa.specs.Operands.{takes, gives}
-use Rattle.machine_safety_spec.specs.Part.{IsPlain}
-use Rattle.machine_safety_spec.specs.Walk.{Where, WalkCost, Covers, At, IsLine, Walk, Walks, Reaches}
+use Rattle.machine_semantics.specs.Part.{IsPlain}
+use Rattle.machine_semantics.specs.Walk.{Where, WalkCost, Covers, At, IsLine, Walk, Walks, Reaches}
 use Rattle.valid_image.specs.Found.{Known, Found, plus, longer, amount, in_line, is_jump_zero, is_jump, is_repeats, is_repeat, is_call, is_enter, is_leave, is_exit, is_reenter, natural, limit_at, chain, line, arms, loop, call, wait, found, founds, entry}
 use Rattle.valid_image_law.specs.Rules.{Callable, Waitable, MayStand, AllMayStand, AllKnown, FoundWalks, with_leave}
 use Rattle.valid_image_law.proofs.Tests.{passed, jump_zero_is, jump_is, repeats_is, repeat_is, call_is, enter_is, leave_is, exit_is, reenter_is, chained, stepped, forked, looped, called, waited, stayed}

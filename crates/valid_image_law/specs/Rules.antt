@@ -4,9 +4,9 @@ use Rattle.machine_isa.specs.declared.instr.Instr.{Instr}
 use Rattle.machine_isa.specs.declared.instr.Instr.TheVariants as i
 use Rattle.machine_semantics.specs.Trees.{Segs, size}
 use Rattle.machine_semantics.specs.Image.{Routine}
-use Rattle.machine_safety_spec.specs.Part.{IsPlain}
+use Rattle.machine_semantics.specs.Part.{IsPlain}
 use Rattle.base.specs.declared.capped.Cost as three
-use Rattle.machine_safety_spec.specs.Walk.{Where, WalkCost, At, Reaches, Walks, MayCall}
+use Rattle.machine_semantics.specs.Walk.{Where, WalkCost, At, Reaches, Walks, MayCall}
 use Rattle.valid_image.specs.Found.{Known, Found, founds, in_line}
 
 -- a monitor is left at the end at the latest

@@ -4,9 +4,9 @@ use Rattle.machine_semantics.specs.Image.{Image, Process, Script}
 use Rattle.machine_semantics.specs.State.{Thread}
 use Rattle.machine_semantics.specs.Tick.{tick}
 use Rattle.machine_semantics.specs.Run.{state_at}
-use Rattle.machine_safety_spec.specs.Walk.{Where}
-use Rattle.machine_safety_spec.specs.Safe.{Parts, ImageFits}
-use Rattle.machine_safety_spec.specs.Whole.{StackFits, WordsFit, Apart, InsideIsReady}
+use Rattle.machine_semantics.specs.Walk.{Where}
+use Rattle.machine_semantics.specs.Safe.{Parts, ImageFits}
+use Rattle.machine_semantics.specs.Whole.{StackFits, WordsFit, Apart, InsideIsReady}
 use Rattle.sched_timing.specs.Timed.{ImageIsTimed, RespectsFrames, IsInTime}
 use Rattle.valid_image.specs.Valid.{fault_of, IsValid, HasLimits}
 use Rattle.machine_safety.specs.ValidImages.{meeting}

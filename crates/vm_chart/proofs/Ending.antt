@@ -12,9 +12,9 @@ use Rattle.run_chart.specs.declared.letter.Letter.TheVariants.{Blank}
 use Rattle.run_chart.specs.Letters.{drawn, first_of, letter_at}
 use Rattle.run_chart.specs.Responses.{longest}
 use Rattle.run_chart.specs.Spans.{first_tick, shown}
-use Rattle.chart_lines.specs.declared.trace.Trace.{Trace}
-use Rattle.chart_lines.specs.Columns.{end_of}
-use Rattle.chart_lines.specs.Traces.{AreDrawn, Counts, IsDrawn}
+use Rattle.run_chart.specs.declared.trace.Trace.{Trace}
+use Rattle.run_chart.specs.Columns.{end_of}
+use Rattle.run_chart.specs.Traces.{AreDrawn, Counts, IsDrawn}
 use Rattle.vm_chart.specs.declared.course.Course.{Course}
 use Rattle.vm_chart.specs.Follows.{AreColumns, Drawing, Follows, IsDrawnTo, begins, events_before}
 

@@ -3,8 +3,8 @@ use Rattle.std.proofs.Common.{◌≡◌, ◌≤◌, ◌<◌, ◌+◌, ◌*◌, �
 use Rattle.base.specs.declared.event.Event.{Event}
 use Rattle.run_chart.specs.declared.columns.Columns.{Columns}
 use Rattle.run_chart.specs.Spans.{columns_of, first_tick}
-use Rattle.chart_lines.specs.declared.trace.Trace.{Trace}
-use Rattle.chart_lines.specs.Columns.{AreFew, end_of}
+use Rattle.run_chart.specs.declared.trace.Trace.{Trace}
+use Rattle.run_chart.specs.Columns.{AreFew, end_of}
 use Rattle.vm_stretch.specs.StartLawsDue.{HasOwnRanks}
 use Rattle.vm_runner.specs.Alike.{StayAlike}
 use Rattle.vm_runner.specs.Standing.{StandsIn, events_between}

@@ -12,9 +12,9 @@ use Rattle.machine_semantics.specs.Run.{events, events_from, state_at}
 use Rattle.run_chart.specs.declared.letter.Letter.{Letter}
 use Rattle.run_chart.specs.Letters.{drawn, first_of, first_of_two, letter_at}
 use Rattle.run_chart.specs.Spans.{shown}
-use Rattle.chart_lines.specs.declared.trace.Trace.{Trace}
-use Rattle.chart_lines.specs.Traces.{Counts}
-use Rattle.chart_lines.proofs.Seeing.{seen_to}
+use Rattle.run_chart.specs.declared.trace.Trace.{Trace}
+use Rattle.run_chart.specs.Traces.{Counts}
+use Rattle.run_chart.proofs.Seeing.{seen_to}
 use Rattle.vm_stretch.specs.RowLaws.{begun}
 use Rattle.vm_runner.specs.Alike.{StayAlike}
 use Rattle.vm_runner.specs.Standing.{events_between}

@@ -8,9 +8,9 @@ use Rattle.run_chart.specs.declared.columns.Columns.{Columns}
 use Rattle.run_chart.specs.declared.letter.Letter.TheVariants.{Blank}
 use Rattle.run_chart.specs.Letters.{drawn, first_of, letter_at}
 use Rattle.run_chart.specs.Spans.{columns_of, first_tick, shown}
-use Rattle.chart_lines.specs.declared.trace.Trace.{Trace}
-use Rattle.chart_lines.specs.Columns.{AreFew}
-use Rattle.chart_lines.specs.Traces.{Counts}
+use Rattle.run_chart.specs.declared.trace.Trace.{Trace}
+use Rattle.run_chart.specs.Columns.{AreFew}
+use Rattle.run_chart.specs.Traces.{Counts}
 use Rattle.vm_runner.specs.Standing.{StandsIn}
 use Rattle.vm_chart.specs.declared.course.Course.{Course}
 

@@ -1,7 +1,7 @@
 //! The run, drawn turn by turn.
 
 ghost use Rattle.std.specs.Prelude.{◌≡◌, ◌≤◌, ◌<◌, ◌+◌, All, IfOk, OnOk, min};
-ghost use Rattle.chart_lines.specs.Columns.{end_of};
+ghost use Rattle.run_chart.specs.Columns.{end_of};
 ghost use Rattle.machine_semantics.specs.Image.{Image};
 ghost use Rattle.machine_semantics.specs.Run.{events};
 ghost use Rattle.run_chart.specs.declared.columns.Columns.{Columns as Shown};
@@ -11,8 +11,7 @@ ghost use Rattle.vm_runner.specs.Runnable.{IsRunnable};
 ghost use Rattle.vm_state.specs.Plan.{IsOf};
 
 use crate::traces::{end_all, note_all, see_all, traces_of};
-use chart_lines::{Trace, end_of};
-use run_chart::Columns;
+use run_chart::{Columns, Trace, end_of};
 use script::Script;
 use std::alloc::{AllocError, Global};
 use vm_runner::Machine;

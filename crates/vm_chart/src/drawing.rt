@@ -10,9 +10,8 @@ ghost use Rattle.vm_runner.specs.Runnable.{IsRunnable};
 ghost use Rattle.vm_state.specs.Plan.{IsOf};
 
 use crate::course::Course;
-use chart_lines::{columns_of, text_of};
+use run_chart::{Columns, columns_of, text_of};
 use image::RawImage;
-use run_chart::Columns;
 use script::Script;
 use std::alloc::{AllocError, Global};
 use syntax_tree::Text;

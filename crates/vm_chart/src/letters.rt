@@ -8,8 +8,7 @@ ghost use Rattle.vm_state.specs.Board.{state_of};
 ghost use Rattle.vm_state.specs.Threads.{thread_of};
 ghost use Rattle.vm_stretch.specs.Stretch.{place_of};
 
-use chart_lines::letter_of_picked;
-use run_chart::Letter;
+use run_chart::{Letter, letter_of_picked};
 use vm_state::{ControlBlock, MachineState, SchedulingState};
 
 /// The letter of a process that stands so, and is picked or not.

@@ -2,8 +2,8 @@
 
 ghost use Rattle.std.specs.Prelude.{◌≡◌, ◌≤◌, ◌<◌, ◌+◌, ◌-◌, ◌++◌, ◌^◌, [], ◌∷◌, All, IfOk, List, OnOk, Some, length, slice_get};
 ghost use Rattle.base.specs.declared.event.Event.{Event as Fell};
-ghost use Rattle.chart_lines.specs.Columns.{end_of};
-ghost use Rattle.chart_lines.specs.Traces.{Counts};
+ghost use Rattle.run_chart.specs.Columns.{end_of};
+ghost use Rattle.run_chart.specs.Traces.{Counts};
 ghost use Rattle.vm_chart.specs.Follows.{AreColumns, Drawing, Each, IsBeforeLastTick, IsDrawnTo, IsFresh, Passing, begins, events_before};
 ghost use Rattle.vm_runner.specs.Standing.{events_between};
 ghost use Rattle.vm_state.specs.Board.{IsBoardOf, state_of};
@@ -12,7 +12,7 @@ ghost use Rattle.vm_stretch.specs.RowLaws.{begun};
 
 use crate::letters::letter_on;
 use base::Event;
-use chart_lines::Trace;
+use run_chart::Trace;
 use std::alloc::{AllocError, Global};
 use vm_state::{DecodedImage, MachineState};
 use vm_turn::choose;

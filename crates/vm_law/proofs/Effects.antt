@@ -13,7 +13,7 @@ use Rattle.machine_semantics.specs.Effect as m
 use Rattle.machine_semantics.specs.Effect.{Own, Outcome, Goes, Does, Signals, Broadcasts, Waits, Raises, Ends, Stuck, effect}
 use Rattle.machine_semantics.specs.Tick.{at_next, outcome_at, outcome}
 use Rattle.base.specs.Words.{Answer, word, raised}
-use Rattle.machine_safety_spec.specs.Part.{IsBelow}
+use Rattle.machine_semantics.specs.Part.{IsBelow}
 use Rattle.vm_law.specs.Logged.{AreNamesOf}
 use Rattle.vm_law.specs.Operands.{IsThere, AreThere}
 

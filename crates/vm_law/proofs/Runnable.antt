@@ -7,8 +7,8 @@ use Rattle.vm_runner.specs.Runnable.{IsRunnable}
 use Rattle.machine_safety.proofs.Queueing.{run_keeps_queues, tick_keeps_queues}
 use Rattle.machine_safety.proofs.Running.{state_fits}
 use Rattle.vm_law.proofs.Valid.{valid_runs_are_safe}
-use Rattle.machine_safety_spec.specs.Safe.{Parts, ImageFits}
-use Rattle.machine_safety_spec.specs.Walk.{Where}
+use Rattle.machine_semantics.specs.Safe.{Parts, ImageFits}
+use Rattle.machine_semantics.specs.Walk.{Where}
 use Rattle.vm_stretch.specs.StretchDue.{AreInOrder}
 use Rattle.sched_timing.specs.Timed.{ImageIsTimed, RespectsFrames}
 use Rattle.sched_timing.proofs.Whole.{every_run_is_in_time}

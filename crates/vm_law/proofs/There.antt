@@ -8,7 +8,7 @@ use Rattle.base.proofs.Lists.{some_at}
 use Rattle.machine_isa.specs.declared.instr.Instr.{Instr}
 use Rattle.machine_isa.specs.declared.instr.Instr.TheVariants as i
 use Rattle.machine_semantics.specs.Image.{Image, Routine, Process}
-use Rattle.machine_safety_spec.specs.Part.{IsBelow}
+use Rattle.machine_semantics.specs.Part.{IsBelow}
 use Rattle.valid_image.specs.Fault.{or_else}
 use Rattle.valid_image.specs.Pieces.{piece_of_routine, piece_of_process, pieces, belongs, piece_number}
 use Rattle.valid_image.specs.Operands.{Whose, whose_routine, whose_process, is_between, is_own_monitor, is_same, is_own_condition, bad, is_user_number, bad_operand}

@@ -16,8 +16,8 @@ use Rattle.machine_semantics.specs.Run.{events, events_from, state_at}
 use Rattle.machine_safety.proofs.Queueing.{run_keeps_queues, tick_keeps_queues}
 use Rattle.machine_safety.proofs.Running.{state_fits}
 use Rattle.machine_safety.proofs.Starting.{starts_keep}
-use Rattle.machine_safety_spec.specs.Queues.{AreQueued, times, waits_on}
-use Rattle.machine_safety_spec.specs.Whole.{StateFits}
+use Rattle.machine_semantics.specs.Queues.{AreQueued, times, waits_on}
+use Rattle.machine_semantics.specs.Whole.{StateFits}
 use Rattle.valid_image.specs.Valid.{HasLimits, IsValid}
 use Rattle.valid_image_law.specs.ValidLaw.{MeetsPremises}
 use Rattle.valid_image_law.proofs.Whole.{valid_meets_premises}

@@ -9,9 +9,9 @@ use Rattle.machine_semantics.specs.State.{Job, Thread, Idle, Ready, Waiting, Sta
 use Rattle.machine_semantics.specs.Starts.{starts}
 use Rattle.machine_semantics.specs.Tick.{owned_of}
 use Rattle.machine_semantics.specs.Run.{state_at}
-use Rattle.machine_safety_spec.specs.Walk.{Where, At}
-use Rattle.machine_safety_spec.specs.Safe.{Parts, ImageFits, ReadyFits}
-use Rattle.machine_safety_spec.specs.Whole.{StateFits, StackFits, ThreadFits}
+use Rattle.machine_semantics.specs.Walk.{Where, At}
+use Rattle.machine_semantics.specs.Safe.{Parts, ImageFits, ReadyFits}
+use Rattle.machine_semantics.specs.Whole.{StateFits, StackFits, ThreadFits}
 use Rattle.machine_safety.proofs.Running.{every_run_is_safe, state_fits}
 use Rattle.machine_safety.proofs.Starting.{starts_keep}
 use Rattle.vm_stretch.specs.RowLaws.{IsInStack, IsSafeRun, begun}

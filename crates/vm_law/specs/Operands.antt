@@ -3,7 +3,7 @@ use Rattle.std.specs.Prelude.{◌≡◌, ℕ, length, Some, slice_get}
 use Rattle.machine_isa.specs.declared.instr.Instr.{Instr}
 use Rattle.machine_isa.specs.declared.instr.Instr.TheVariants as i
 use Rattle.machine_semantics.specs.Image.{Image}
-use Rattle.machine_safety_spec.specs.Part.{IsBelow}
+use Rattle.machine_semantics.specs.Part.{IsBelow}
 use Rattle.valid_image.specs.Valid.{HasLimits, IsValid}
 
 -- the monitor, the condition or the device that an instruction numbers is there; no limit of a wait

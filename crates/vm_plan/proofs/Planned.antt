@@ -23,7 +23,7 @@ use Rattle.vm_plan.specs.HasPlan.{CanRun, HandlerEnds, HasPlan}
 use Rattle.vm_plan.specs.PlanLaws.{IsReady, ValidImagesReadAreReady}
 use Rattle.image_reader_law.specs.ReadNames.{IsNamed}
 use Rattle.image_reader_law.proofs.Names.{read_names}
-use Rattle.machine_safety_spec.specs.Part.{IsBelow}
+use Rattle.machine_semantics.specs.Part.{IsBelow}
 use Rattle.vm_state.specs.Seen.{IsLimit, IsSmall}
 use Rattle.vm_state.specs.Plan.{HasNumbers}
 use Rattle.valid_image.specs.Valid.{HasHandler, HasLimits, IsValid, Sizes}

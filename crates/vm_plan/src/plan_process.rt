@@ -7,7 +7,7 @@ ghost use Rattle.vm_state.specs.Plan.{AreProcesses, IsProcess, IsRelease};
 ghost use Rattle.vm_plan.specs.HasPlan.{CanRun, HandlerEnds};
 
 use image::RawProcess;
-use loader_trees::tree_end;
+use loader_code::tree_end;
 use std::alloc::{AllocError, Global};
 use vm_instructions::Ends;
 use vm_state::{DecodedProcess, Release};

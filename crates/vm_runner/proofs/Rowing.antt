@@ -34,7 +34,7 @@ use Rattle.vm_state.specs.declared.machine_state.MachineState.{MachineState}
 use Rattle.vm_state.specs.Board.{IsBoardOf, rows_of, state_of}
 use Rattle.vm_turn.proofs.Safely.{Found, picked, can_of}
 use Rattle.vm_stretch.proofs.Lists.{same_or_not}
-use Rattle.machine_safety_spec.specs.Queues.{AreQueued, waits_on}
+use Rattle.machine_semantics.specs.Queues.{AreQueued, waits_on}
 use Rattle.vm_runner.specs.Turn.{BurnsNothing, HasPassed, Run, unspent}
 use Rattle.vm_runner.specs.Waits.{WaitsFrom, is_some_at_queue}
 use Rattle.vm_runner.proofs.Passing.{turn_alone}

@@ -20,7 +20,7 @@ use Rattle.vm_releases.specs.Begin.{WaitsAlone}
 use Rattle.vm_runner.specs.Turn.{HasPassed, Run}
 use Rattle.vm_runner.specs.Waits.{WaitsFrom}
 use Rattle.vm_runner.specs.Standing.{events_between}
-use Rattle.machine_safety_spec.specs.Whole.{HasNoOverrun}
+use Rattle.machine_semantics.specs.Whole.{HasNoOverrun}
 use Rattle.vm_runner.proofs.Waiting.{is_waiting}
 use Rattle.vm_state.proofs.Waking.{thread_at}
 

@@ -11,7 +11,7 @@ use Rattle.machine_semantics.specs.State.{Job, Thread, Idle, Ready, Waiting, Sta
 use Rattle.machine_semantics.specs.Effect.{Outcome, Goes, Does, Signals, Broadcasts, Waits, Raises, Ends, Stuck}
 use Rattle.machine_semantics.specs.Starts.{queue_of, raised}
 use Rattle.machine_semantics.specs.Tick.{first, settle, wake, wake_all, wake_first, woken}
-use Rattle.machine_safety_spec.specs.Queues.{AreQueued, times, waits_on}
+use Rattle.machine_semantics.specs.Queues.{AreQueued, times, waits_on}
 use Rattle.vm_stretch.proofs.Lists.{same_or_not}
 use Rattle.vm_releases.specs.Begin.{HaveQueues}
 use Rattle.vm_stretch.specs.StretchDue.{time_out_of}

@@ -2,8 +2,8 @@
 use Rattle.std.specs.Prelude.{◌<◌, ◌^◌, ℕ}
 use Rattle.machine_semantics.specs.Image.{Image, Script}
 use Rattle.machine_semantics.specs.Run.{state_at}
-use Rattle.machine_safety_spec.specs.Queues.{AreQueued}
-use Rattle.machine_safety_spec.specs.Whole.{HasNoOverrun}
+use Rattle.machine_semantics.specs.Queues.{AreQueued}
+use Rattle.machine_semantics.specs.Whole.{HasNoOverrun}
 use Rattle.vm_stretch.specs.StartLawsDue.{HasOwnRanks}
 use Rattle.vm_releases.specs.Begin.{NextFits}
 use Rattle.vm_stretch.specs.StretchDue.{AreInOrder}

@@ -6,7 +6,7 @@ use Rattle.std.proofs.lemmas.Bool.Decides.{nat_tests}
 use Rattle.std.proofs.lemmas.Option.{slice_get_within}
 use Rattle.machine_semantics.specs.State.{Thread, Idle, Ready, Waiting}
 use Rattle.machine_semantics.specs.Starts.{queue_of, without}
-use Rattle.machine_safety_spec.specs.Queues.{QueuesFit, times, waits_on}
+use Rattle.machine_semantics.specs.Queues.{QueuesFit, times, waits_on}
 use Rattle.vm_state.specs.Threads.{AreBelow}
 use Rattle.vm_turn.specs.Settled.{HaveRoom}
 

@@ -24,7 +24,7 @@ use Rattle.vm_state.specs.Board.{IsBoardOf, rows_of, state_of}
 use Rattle.vm_turn.specs.declared.outcome.Outcome.{Outcome as Come}
 use Rattle.vm_turn.specs.Own.{Around, CanCome, IsEarly}
 use Rattle.vm_turn.proofs.Room.{room_of}
-use Rattle.machine_safety_spec.specs.Queues.{AreQueued}
+use Rattle.machine_semantics.specs.Queues.{AreQueued}
 use Rattle.vm_turn.specs.Settled.{CanPass, HaveRoom, IsAround, SettlesAs, after, with_thread}
 
 -- ---- elements of lists

@@ -8,7 +8,7 @@ ghost use Rattle.vm_stretch.specs.Silent.{IsSafeFor};
 ghost use Rattle.vm_state.specs.Plan.{IsOf};
 ghost use Rattle.vm_state.specs.Board.{IsBoardOf, state_of};
 ghost use Rattle.arrayvec.specs.ArrayVec.{array_vec_len};
-ghost use Rattle.machine_safety_spec.specs.Queues.{AreQueued};
+ghost use Rattle.machine_semantics.specs.Queues.{AreQueued};
 ghost use Rattle.vm_turn.specs.Own.{Around, IsAmong};
 ghost use Rattle.vm_turn.specs.Settled.{IsAround};
 ghost use Rattle.vm_turn.specs.Rows.{CanEnd, CanRun, EndsIn, HasEnded, HasRun};

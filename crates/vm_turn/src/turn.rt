@@ -4,7 +4,7 @@ ghost use Rattle.std.specs.Prelude.{◌≡◌, ◌<◌, ◌≤◌, ◌+◌, ◌-
 ghost use Rattle.arrayvec.specs.ArrayVec.{array_vec_len};
 ghost use Rattle.machine_semantics.specs.Image.{Image};
 ghost use Rattle.vm_stretch.specs.Stretch.{pass as passes};
-ghost use Rattle.machine_safety_spec.specs.Queues.{AreQueued};
+ghost use Rattle.machine_semantics.specs.Queues.{AreQueued};
 ghost use Rattle.vm_state.specs.Plan.{IsOf};
 ghost use Rattle.vm_state.specs.Board.{IsBoardOf, state_of};
 ghost use Rattle.vm_turn.specs.Own.{Around, IsAmong};

@@ -5,7 +5,7 @@ use Rattle.std.proofs.lemmas.List.{length-drop, length-take-le}
 use Rattle.machine_semantics.specs.Image.{Image, Monitor}
 use Rattle.machine_semantics.specs.Run.{state_at}
 use Rattle.machine_safety.proofs.Running.{state_fits}
-use Rattle.machine_safety_spec.specs.Part.{IsSized}
+use Rattle.machine_semantics.specs.Part.{IsSized}
 use Rattle.valid_image_law.specs.ValidLaw.{MeetsPremises}
 use Rattle.valid_image_law.proofs.Whole.{every_valid_image_is_safe_and_in_time, valid_meets_premises}
 use Rattle.vm_stretch.specs.View.{words_in}

@@ -22,9 +22,9 @@ use Rattle.static_declarations.specs.declared.home.StmtContext.TheVariants as ho
 use Rattle.syntax_tree.specs.Parts.{processes}
 use Rattle.static_numbers.specs.Processes.{frame_of, deadline_of, bad_limit, bad_start, Handled, handled, handler_numbers, all_handled, has_value}
 use Rattle.source_semantics.specs.Names.{constants}
-use Rattle.wellformed.specs.Here.{in_process}
-use Rattle.wellformed.specs.Statements.{IsConstant, IsWithin}
-use Rattle.wellformed.specs.WellFormed.{DeadlineFits, ActivationFits, IsHandled, Differ, OptionalFits}
+use Rattle.static_semantics.specs.Here.{in_process}
+use Rattle.static_semantics.specs.Statements.{IsConstant, IsWithin}
+use Rattle.static_semantics.specs.WellFormed.{DeadlineFits, ActivationFits, IsHandled, Differ, OptionalFits}
 use Rattle.static_semantics.specs.Places.{IsFound}
 use Rattle.static_semantics.specs.Written.{ConstantWritten, OptionalWritten, ActivationWritten, HandlerWritten}
 use Rattle.static_semantics.specs.Mirrors.{Mirrors, program_site, process_site}

@@ -10,8 +10,8 @@ use Rattle.syntax_tree.specs.declared.place.Place.{Place}
 use Rattle.static_names.specs.Reach.{Site}
 use Rattle.static_names.specs.Occurrences.{Occurrence, constant_names}
 use Rattle.source_semantics.specs.Names.{named, signed, value_among, constants}
-use Rattle.wellformed.specs.Here.{Here, turn, value, meant_constant, meant_outer, meant_own, var_named, is_among, outer_vars}
-use Rattle.wellformed.specs.Statements.{IsConstant}
+use Rattle.static_semantics.specs.Here.{Here, turn, value, meant_constant, meant_outer, meant_own, var_named, is_among, outer_vars}
+use Rattle.static_semantics.specs.Statements.{IsConstant}
 use Rattle.static_semantics.specs.Written.{ConstantWritten}
 use Rattle.static_semantics.specs.Mirrors.{Mirrors}
 use Rattle.static_semantics.specs.Judged.{IsKept, AreNames}

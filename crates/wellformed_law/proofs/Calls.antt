@@ -17,9 +17,9 @@ use Rattle.static_types.specs.Sorts.{asked, call_agrees}
 use Rattle.static_types.specs.Sorts as sorts
 use Rattle.static_types.specs.Conduct.{is_function, is_function_kind, is_procedure, exprs_stray}
 use Rattle.source_semantics.specs.Run.{Home, Found, of_monitor, routine_named, entry_named}
-use Rattle.wellformed.specs.Here.{Here, is_monitor, scalar_sort}
-use Rattle.wellformed.specs.Typed.{answer_sort, params_of, AreArguments}
-use Rattle.wellformed.specs.Statements.{IsCondition, may_call}
+use Rattle.static_semantics.specs.Here.{Here, is_monitor, scalar_sort}
+use Rattle.static_semantics.specs.Typed.{answer_sort, params_of, AreArguments}
+use Rattle.static_semantics.specs.Statements.{IsCondition, may_call}
 use Rattle.static_semantics.specs.Written.{ExprsWritten, ResultWritten}
 use Rattle.static_semantics.specs.Places.{IsFound}
 use Rattle.static_semantics.specs.Mirrors.{Mirrors, StandsAs, IsEntryOf}

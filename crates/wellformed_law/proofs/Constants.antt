@@ -17,8 +17,8 @@ use Rattle.static_names.specs.declared.kind.NameUse.TheVariants as want_is
 use Rattle.static_names.specs.Reach.{Names, Site, suits, inside, inside_monitor}
 use Rattle.static_names.specs.Occurrences.{constant_names}
 use Rattle.source_semantics.specs.Names.{named, signed, value_among, constant_among, constants_from, constants}
-use Rattle.wellformed.specs.Statements.{IsConstant}
-use Rattle.wellformed.specs.WellFormed.{ConstantsFit}
+use Rattle.static_semantics.specs.Statements.{IsConstant}
+use Rattle.static_semantics.specs.WellFormed.{ConstantsFit}
 use Rattle.static_semantics.specs.Places.{IsFound, NamesFound}
 use Rattle.static_semantics.specs.Written.{ConstantWritten, DeclWritten, IsWritten}
 use Rattle.static_semantics.specs.Mirrors.{NamesListed, program_site}

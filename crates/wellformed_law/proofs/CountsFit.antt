@@ -13,7 +13,7 @@ use Rattle.syntax_tree.specs.Parts.{processes, events}
 use Rattle.syntax_tree.specs.Parts as tree
 use Rattle.static_numbers.specs.Counts as limit
 use Rattle.source_semantics.specs.Names.{device_in, event_in, monitor_in, process_in, variable_in, condition_in, conditions_of, condition_count, routines_in}
-use Rattle.wellformed.specs.WellFormed.{kind_size, vars_words, CountsFit}
+use Rattle.static_semantics.specs.WellFormed.{kind_size, vars_words, CountsFit}
 use Rattle.wellformed_law.proofs.Lists.{sum_cons}
 use Rattle.wellformed_law.proofs.WellformedLaw.{Laws}
 use Rattle.wellformed_law.proofs.Standing.{plain_processes}

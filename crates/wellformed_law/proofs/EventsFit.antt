@@ -11,7 +11,7 @@ use Rattle.syntax_tree.specs.Parts.{same_place, processes, events}
 use Rattle.static_names.specs.Reach.{same}
 use Rattle.static_names.specs.Occurrences.{names, declared_at, constant_names, optional_names, activation_names}
 use Rattle.static_numbers.specs.Processes.{is_at, is_activated_by, users}
-use Rattle.wellformed.specs.WellFormed.{is_event_of, EventsFit}
+use Rattle.static_semantics.specs.WellFormed.{is_event_of, EventsFit}
 use Rattle.static_semantics.specs.Mirrors.{process_site}
 use Rattle.wellformed_law.proofs.Lists.{sum_cons, Pictured, from_map, Within}
 use Rattle.wellformed_law.proofs.Declared.{one_named, one_placed}

@@ -15,8 +15,8 @@ use Rattle.static_declarations.specs.Sorts.{fits, same_sort, gives, takes}
 use Rattle.static_types.specs.Sorts.{is_array, row_sort, sort, asked, agrees, operands_agree, call_agrees}
 use Rattle.static_types.specs.Types.{is_of}
 use Rattle.static_types.specs.Conduct.{is_barred, strays, exprs_stray, operands_stray}
-use Rattle.wellformed.specs.Here.{Here, meant}
-use Rattle.wellformed.specs.Typed.{params_of, IsOf, IsRow, AreArguments}
+use Rattle.static_semantics.specs.Here.{Here, meant}
+use Rattle.static_semantics.specs.Typed.{params_of, IsOf, IsRow, AreArguments}
 use Rattle.static_semantics.specs.Written.{ExprWritten, ExprsWritten, OperandsWritten}
 use Rattle.static_semantics.specs.Mirrors.{Mirrors}
 use Rattle.static_semantics.specs.Judged.{IsKept, AreNames}

@@ -12,7 +12,7 @@ use Rattle.static_names.specs.Reach.{Site, inside, through, or_else, members_of}
 use Rattle.static_names.specs.Occurrences.{loop_name}
 use Rattle.static_declarations.specs.Things.{loop_thing, variable_thing, shape_of, thing_at}
 use Rattle.source_semantics.specs.Names.{named, constants}
-use Rattle.wellformed.specs.Here.{Here, Meant, in_loop, meant, turn, own_variable, outer_variable, is_among, meant_own, meant_outer, meant_constant, var_named, outer_vars}
+use Rattle.static_semantics.specs.Here.{Here, Meant, in_loop, meant, turn, own_variable, outer_variable, is_among, meant_own, meant_outer, meant_constant, var_named, outer_vars}
 use Rattle.static_semantics.specs.Mirrors.{Mirrors, StandsAs, IsVariable, IsRoutine, IsEntryOf}
 
 flips : (x y : Name) → bytes_eq x y ≡ bytes_eq y x

@@ -11,7 +11,7 @@ use Rattle.static_names.specs.Reach.{Names, Reach, Site, first, inside}
 use Rattle.static_names.specs.Occurrences.{var_name, param_name, routine_name, entry_name, member_name, routine_scope, process_scope, monitor_scope, program_name, entries_at}
 use Rattle.source_semantics.specs.Names.{named}
 use Rattle.source_semantics.specs.Run.{of_program, of_process, of_monitor}
-use Rattle.wellformed.specs.Here.{own_of, is_function_at, in_routine}
+use Rattle.static_semantics.specs.Here.{own_of, is_function_at, in_routine}
 use Rattle.static_semantics.specs.Written.{IsWritten}
 use Rattle.static_semantics.specs.Things.{ThingsKnown}
 use Rattle.static_semantics.specs.Places.{StandApart, NamesFound}

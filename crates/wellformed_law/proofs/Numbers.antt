@@ -9,7 +9,7 @@ use Rattle.static_declarations.specs.Values.{value, is_within, out_of, constant_
 use Rattle.static_declarations.specs.declared.home.Where.{Where}
 use Rattle.static_declarations.specs.Parts.{statement}
 use Rattle.source_semantics.specs.Names.{constants}
-use Rattle.wellformed.specs.Statements.{IsConstant, IsWithin, AreTurns}
+use Rattle.static_semantics.specs.Statements.{IsConstant, IsWithin, AreTurns}
 use Rattle.wellformed_law.proofs.Basics.{KeepsRules, held, not_held}
 
 pub in_order : (a b : ℤ) → int_lt b a ≡ false → int_le a b ≡ true

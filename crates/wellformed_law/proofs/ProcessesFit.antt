@@ -16,8 +16,8 @@ use Rattle.static_numbers.specs.Types.{Bounds, decls_bounds, decl_bounds, routin
 use Rattle.static_numbers.specs.Processes.{handler_numbers, all_handled}
 use Rattle.source_semantics.specs.Names.{constants, routine_in, monitor_in, process_in}
 use Rattle.source_semantics.specs.Run.{of_program, of_process, of_monitor}
-use Rattle.wellformed.specs.Here.{in_routine, in_process}
-use Rattle.wellformed.specs.WellFormed.{RoutineFits, ProcessFits, MonitorFits}
+use Rattle.static_semantics.specs.Here.{in_routine, in_process}
+use Rattle.static_semantics.specs.WellFormed.{RoutineFits, ProcessFits, MonitorFits}
 use Rattle.static_semantics.specs.Written.{DeclWritten, RoutineWritten, ProcessWritten, MonitorWritten}
 use Rattle.static_semantics.specs.Mirrors.{Mirrors, program_site, process_site, monitor_site, monitors_in}
 use Rattle.wellformed_law.proofs.Lists.{each_map, same_members, in_split, Within, front, rest}

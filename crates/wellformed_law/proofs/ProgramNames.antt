@@ -12,7 +12,7 @@ use Rattle.static_names.specs.Occurrences.{decl_name, program_name}
 use Rattle.source_semantics.specs.Names.{named, constants_from, constant_among, routines}
 use Rattle.source_semantics.specs.Run.{Home, of_program, of_process, Found, or_else, routine_named, entry_name}
 use Rattle.static_declarations.specs.Things.{constant_thing, device_thing, routine_thing}
-use Rattle.wellformed.specs.Here.{Here, value, meant_own, meant_outer, meant_constant, var_named, outer_vars}
+use Rattle.static_semantics.specs.Here.{Here, value, meant_own, meant_outer, meant_constant, var_named, outer_vars}
 use Rattle.static_semantics.specs.Written.{IsWritten, DeclWritten}
 use Rattle.static_semantics.specs.Things.{ThingsKnown}
 use Rattle.static_semantics.specs.Mirrors.{StandsAs, routine_of}

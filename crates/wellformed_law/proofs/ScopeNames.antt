@@ -14,7 +14,7 @@ use Rattle.static_names.specs.Occurrences.{var_name, param_name, routine_name, e
 use Rattle.source_semantics.specs.Names.{named, monitors, monitor_in, variable_in, condition_in}
 use Rattle.source_semantics.specs.Run.{Home, of_process, of_monitor}
 use Rattle.static_declarations.specs.Things.{Thing, routine_things, decl_things, variable_thing, routine_thing, shape_of}
-use Rattle.wellformed.specs.Here.{Meant, own_variable, outer_variable, meant_own, meant_outer, var_named, outer_vars, monitor_vars, monitor_conditions, param_var, own_of}
+use Rattle.static_semantics.specs.Here.{Meant, own_variable, outer_variable, meant_own, meant_outer, var_named, outer_vars, monitor_vars, monitor_conditions, param_var, own_of}
 use Rattle.static_semantics.specs.Written.{IsWritten, DeclWritten, RoutineWritten}
 use Rattle.static_semantics.specs.Things.{ThingsKnown}
 use Rattle.static_semantics.specs.Mirrors.{StandsAs, process_site, monitor_site, program_site, monitors_in}

@@ -22,9 +22,9 @@ use Rattle.static_types.specs.Sorts as sorts
 use Rattle.static_types.specs.Types.{target_sort, target_agrees, stmt_agrees}
 use Rattle.static_types.specs.Conduct.{is_procedure, is_function, strays, exprs_stray, target_strays, in_function, in_entry, calls_nothing, stmt_strays, is_device}
 use Rattle.source_semantics.specs.Run.{routine_named, entry_named}
-use Rattle.wellformed.specs.Here.{Here, in_loop}
-use Rattle.wellformed.specs.Typed.{IsOf, IsTarget}
-use Rattle.wellformed.specs.Statements.{IsWithin, AreTurns, may_call, Fits, AllFit}
+use Rattle.static_semantics.specs.Here.{Here, in_loop}
+use Rattle.static_semantics.specs.Typed.{IsOf, IsTarget}
+use Rattle.static_semantics.specs.Statements.{IsWithin, AreTurns, may_call, Fits, AllFit}
 use Rattle.static_semantics.specs.Written.{ConstantWritten, ExprWritten, ExprsWritten, RefWritten, StmtWritten, StmtsWritten}
 use Rattle.static_semantics.specs.Mirrors.{Mirrors}
 use Rattle.static_semantics.specs.Judged.{IsKept, IsHome, IsPlaced, AreNames, AreParts}

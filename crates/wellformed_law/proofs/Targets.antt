@@ -17,8 +17,8 @@ use Rattle.static_declarations.specs.Sorts.{fits}
 use Rattle.static_types.specs.Sorts.{is_array, sort, agrees}
 use Rattle.static_types.specs.Types.{target_sort, target_agrees}
 use Rattle.static_types.specs.Conduct.{is_foreign, ref_strays, target_strays}
-use Rattle.wellformed.specs.Here.{Here, own_variable, outer_variable, meant, is_assignable}
-use Rattle.wellformed.specs.Typed.{IsTarget}
+use Rattle.static_semantics.specs.Here.{Here, own_variable, outer_variable, meant, is_assignable}
+use Rattle.static_semantics.specs.Typed.{IsTarget}
 use Rattle.static_semantics.specs.Written.{RefWritten}
 use Rattle.static_semantics.specs.Mirrors.{Mirrors, IsVariable}
 use Rattle.static_semantics.specs.Judged.{IsKept, IsHome, AreNames}

@@ -10,8 +10,8 @@ use Rattle.static_declarations.specs.Parts.{answer, home_of, outside_loops, answ
 use Rattle.static_numbers.specs.Types.{decls_bounds, result_bounds, vars_bounds, routine_bounds}
 use Rattle.source_semantics.specs.Names.{constants}
 use Rattle.source_semantics.specs.Run.{Home, of_program, of_process, of_monitor}
-use Rattle.wellformed.specs.Here.{Here, is_monitor, in_routine}
-use Rattle.wellformed.specs.WellFormed.{AnswersFit, RoutineFits}
+use Rattle.static_semantics.specs.Here.{Here, is_monitor, in_routine}
+use Rattle.static_semantics.specs.WellFormed.{AnswersFit, RoutineFits}
 use Rattle.static_semantics.specs.Written.{ResultWritten, RoutineWritten}
 use Rattle.static_semantics.specs.Mirrors.{Mirrors}
 use Rattle.static_semantics.specs.Judged.{IsHome, IsPlaced}

@@ -11,8 +11,8 @@ use Rattle.static_names.specs.Occurrences.{names, constant_names, scalar_names, 
 use Rattle.static_declarations.specs.Values.{value, constant_place}
 use Rattle.static_numbers.specs.Types.{Bounds, decls_bounds, scalar_bounds, kind_bounds, vars_bounds, params_bounds, members_bounds}
 use Rattle.source_semantics.specs.Names.{constants, variable_in}
-use Rattle.wellformed.specs.Statements.{IsConstant}
-use Rattle.wellformed.specs.WellFormed.{AreBounds, ScalarFits, KindFits, VarFits, ParamFits}
+use Rattle.static_semantics.specs.Statements.{IsConstant}
+use Rattle.static_semantics.specs.WellFormed.{AreBounds, ScalarFits, KindFits, VarFits, ParamFits}
 use Rattle.static_semantics.specs.Written.{ScalarWritten, KindWritten, VarWritten, ParamWritten, MemberWritten}
 use Rattle.wellformed_law.proofs.Lists.{Within, front, rest}
 use Rattle.wellformed_law.proofs.Adding.{constant_adds, scalar_adds, kind_adds, scalar_bounds_add, kind_bounds_add}

@@ -20,8 +20,8 @@ use Rattle.static_types.specs.Sorts as by_form
 use Rattle.static_types.specs.Sorts.{is_array}
 use Rattle.static_types.specs.Conduct.{is_function_kind, is_barred}
 use Rattle.source_semantics.specs.Run.{Home, routine_named}
-use Rattle.wellformed.specs.Here.{Here, Meant, turn, own_variable, outer_variable, value, meant, scalar_sort, word_sort, element_sort}
-use Rattle.wellformed.specs.Typed.{answer_sort}
+use Rattle.static_semantics.specs.Here.{Here, Meant, turn, own_variable, outer_variable, value, meant, scalar_sort, word_sort, element_sort}
+use Rattle.static_semantics.specs.Typed.{answer_sort}
 use Rattle.static_semantics.specs.Written.{ResultWritten}
 use Rattle.static_semantics.specs.Places.{IsFound}
 use Rattle.static_semantics.specs.Mirrors.{Mirrors, StandsAs, IsVariable}

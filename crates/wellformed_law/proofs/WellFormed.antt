@@ -13,10 +13,10 @@ use Rattle.static_calls.specs.Reaching.{ReachesItself}
 use Rattle.static_semantics.specs.Static.{IsChecked}
 use Rattle.wellformed_law.specs.Levels.{HasPlaceLevels}
 use Rattle.source_semantics.specs.Nesting.{Levels}
-use Rattle.wellformed.specs.Here.{Here, scalar_sort}
-use Rattle.wellformed.specs.Typed.{IsOf}
-use Rattle.wellformed.specs.Statements.{AllFit}
-use Rattle.wellformed.specs.WellFormed.{IsWellFormed}
+use Rattle.static_semantics.specs.Here.{Here, scalar_sort}
+use Rattle.static_semantics.specs.Typed.{IsOf}
+use Rattle.static_semantics.specs.Statements.{AllFit}
+use Rattle.static_semantics.specs.WellFormed.{IsWellFormed}
 use Rattle.static_semantics.specs.Places.{StandApart, NamesFound}
 use Rattle.static_semantics.specs.Written.{ExprWritten, StmtsWritten, IsWritten}
 use Rattle.static_semantics.specs.Things.{ThingsKnown}

@@ -11,9 +11,9 @@ use Rattle.static_declarations.specs.Parts.{answer, stmts_parts, parts}
 use Rattle.static_types.specs.Rules.{StatementFails}
 use Rattle.source_semantics.specs.Names.{constants}
 use Rattle.source_semantics.specs.Nesting.{Levels}
-use Rattle.wellformed.specs.Here.{Here, scalar_sort}
-use Rattle.wellformed.specs.Typed.{IsOf}
-use Rattle.wellformed.specs.Statements.{IsConstant, AllFit}
+use Rattle.static_semantics.specs.Here.{Here, scalar_sort}
+use Rattle.static_semantics.specs.Typed.{IsOf}
+use Rattle.static_semantics.specs.Statements.{IsConstant, AllFit}
 use Rattle.static_semantics.specs.Places.{StandApart, NamesFound}
 use Rattle.static_semantics.specs.Written.{ConstantWritten, ExprWritten, StmtsWritten, IsWritten}
 use Rattle.static_semantics.specs.Things.{ThingsKnown}

@@ -1,7 +1,7 @@
 //! Law: every checked program is well formed.
 //!
-//! Promised: what `static_semantics::rules` calls checked, `wellformed` calls well formed. It joins
-//! the laws of names, scopes, statements and calls with the rules for declarations.
+//! Promised: what `static_semantics::rules` calls checked, `static_semantics` calls well formed. It
+//! joins the laws of names, scopes, statements and calls with the rules for declarations.
 //!
 //! Rules for names give well-formed names and scopes, over the terms of `static_semantics`.
 //! `names_found`: at each place stands one name at most, and each use has its declaration.

@@ -3,7 +3,7 @@
 ghost use Rattle.syntax_tree.specs.Placed.{Prog, plain};
 ghost use Rattle.syntax_tree.specs.declared.place.Place.{Place};
 ghost use Rattle.static_semantics.specs.Static.{IsChecked};
-ghost use Rattle.wellformed.specs.WellFormed.{IsWellFormed};
+ghost use Rattle.static_semantics.specs.WellFormed.{IsWellFormed};
 
 use crate::{
     answers_fit, bodies_fit, calls_have_levels, declarations_are_listed, names_are_found,

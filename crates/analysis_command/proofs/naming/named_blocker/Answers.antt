@@ -7,7 +7,7 @@ use Rattle.syntax_tree.specs.Plain.{Monitor, Process}
 use Rattle.source_semantics.specs.Names.{monitors, processes}
 use Rattle.code_names.specs.Parts.{monitor_of, process_of}
 use Rattle.code_names.specs.Texts.{text_of}
-use Rattle.sched_why.specs.Blockers.{entry_of}
+use Rattle.sched_program.specs.Blockers.{entry_of}
 use Rattle.analysis_command.proofs.Places.{monitor_is, text_at_place}
 use Rattle.analysis_command.proofs.naming.named_blocker.Goals as goal
 

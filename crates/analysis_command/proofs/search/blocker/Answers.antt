@@ -2,7 +2,7 @@ use Rattle.std.proofs.Common.{◌∙◌, Option, None, Some, sym, subst}
 use Rattle.std.proofs.lemmas.List.{length-map}
 use Rattle.syntax_tree.specs.Placed.{placed, plain}
 use Rattle.syntax_tree.specs.declared.decl.Program.{Program as Tree}
-use Rattle.code_goals.specs.declared.nearest.Reached.{Reached}
+use Rattle.code_names.specs.declared.nearest.Reached.{Reached}
 use Rattle.image.specs.Raw.{image_of, routine_of}
 use Rattle.analysis_command.specs.Found.{IsFoundOf, IsNamedAt, IsSomeBlockerAt}
 use Rattle.analysis_command.proofs.Blocking.{places_long}

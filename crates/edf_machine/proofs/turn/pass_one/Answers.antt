@@ -2,7 +2,7 @@ use Rattle.std.proofs.Common.{◌≡◌, ◌∙◌, ◌++◌, ℕ, Some, arith, 
 use Rattle.machine_semantics.specs.State.{State}
 use Rattle.machine_semantics.specs.Tick.{Ticked}
 use Rattle.vm_stretch.specs.Stretch.{pass}
-use Rattle.machine_safety_spec.specs.Queues.{AreQueued}
+use Rattle.machine_semantics.specs.Queues.{AreQueued}
 use Rattle.vm_state.specs.Board.{state_of}
 use Rattle.edf_semantics.specs.Turn.{turn}
 use Rattle.edf_machine.specs.Turn.{HasPassed}

@@ -1,6 +1,6 @@
 use Rattle.std.proofs.Common.{map, ◌∷◌, [], List, length, get_or, ◌≤◌, arith, refl}
 use Rattle.std.proofs.lemmas.List.{get_or_default}
-use Rattle.table_program.proofs.Turns.{seen_more, turned, ended}
+use Rattle.table_format.proofs.Turns.{seen_more, turned, ended}
 use Rattle.table_reader.specs.declared.line.StayWords.{StayWords}
 use Rattle.table_reader.specs.Reading.{seen}
 use Rattle.table_reader.proofs.Items.{no_stay}

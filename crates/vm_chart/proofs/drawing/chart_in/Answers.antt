@@ -5,8 +5,8 @@ use Rattle.image.specs.Raw.{image_of, named_of, process_of}
 use Rattle.machine_semantics.specs.Image.{Image, Script}
 use Rattle.machine_semantics.specs.Run.{events}
 use Rattle.run_chart.specs.Chart.{chart_in}
-use Rattle.chart_lines.specs.Traces.{AreDrawn}
-use Rattle.chart_lines.specs.declared.trace.Trace.{Trace}
+use Rattle.run_chart.specs.Traces.{AreDrawn}
+use Rattle.run_chart.specs.declared.trace.Trace.{Trace}
 use Rattle.vm_releases.specs.Begin.{script_of}
 use Rattle.vm_runner.specs.Runnable.{IsRunnable}
 use Rattle.vm_state.specs.Plan.{IsOf}

@@ -1,6 +1,6 @@
 use Rattle.std.proofs.Common.{◌<◌, ◌+◌, length, arith, refl, ◌∙◌}
 use Rattle.std.proofs.lemmas.List.{length-set}
-use Rattle.chart_lines.specs.Columns.{end_of}
+use Rattle.run_chart.specs.Columns.{end_of}
 use Rattle.vm_chart.specs.Follows.{IsDrawnTo}
 use Rattle.vm_chart.proofs.Ending.{column_over}
 use Rattle.vm_chart.proofs.Following.{end_by_next}

@@ -1,5 +1,5 @@
 use Rattle.std.proofs.Common.{◌≡◌, ◌+◌, length}
-use Rattle.chart_lines.specs.Columns.{end_of}
+use Rattle.run_chart.specs.Columns.{end_of}
 use Rattle.vm_chart.specs.Follows.{IsDrawnTo}
 use Rattle.vm_chart.proofs.Tracing.{Split}
 use Rattle.vm_chart.proofs.traces.end_all.Given as goal

@@ -1,7 +1,7 @@
 use Rattle.std.proofs.Common.{◌≡◌, ◌<◌, ◌+◌, ◌++◌, ℕ, List, length, arith, refl, ap, sym, subst, ◌∙◌}
 use Rattle.std.proofs.lemmas.List.{length-append, length-set}
 use Rattle.base.specs.declared.event.Event.{Event}
-use Rattle.chart_lines.specs.Traces.{Counts}
+use Rattle.run_chart.specs.Traces.{Counts}
 use Rattle.vm_chart.specs.Follows.{IsDrawnTo, events_before}
 use Rattle.vm_chart.proofs.Tracing.{before_later, notes, split_end, split_next, split_on, split_start}
 use Rattle.vm_chart.proofs.traces.note_all.Goals as goal

@@ -2,7 +2,7 @@ use Rattle.std.proofs.Common.{◌++◌, ◌∷◌, [], subst}
 use Rattle.std.proofs.lemmas.Option.{get_or_from_slice_get}
 use Rattle.base.specs.declared.event.Act.TheVariants as act
 use Rattle.base.specs.declared.event.Event.{Event}
-use Rattle.chart_lines.specs.Traces.{Counts}
+use Rattle.run_chart.specs.Traces.{Counts}
 use Rattle.vm_chart.proofs.Tracing.{timely_next}
 use Rattle.vm_chart.proofs.traces.note_at.Goals as goal
 

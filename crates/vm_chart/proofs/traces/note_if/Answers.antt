@@ -1,8 +1,8 @@
 use Rattle.std.proofs.Common.{◌≡◌, ◌++◌, ◌∷◌, [], ℕ, false, arith, sym, subst}
 use Rattle.std.specs.Prelude.{nat_eq}
 use Rattle.std.proofs.lemmas.Bool.Decides.{nat_tests}
-use Rattle.chart_lines.specs.Traces.{Counts}
-use Rattle.chart_lines.proofs.Tracing.{noted_by_other}
+use Rattle.run_chart.specs.Traces.{Counts}
+use Rattle.run_chart.proofs.Tracing.{noted_by_other}
 use Rattle.vm_chart.proofs.Few.{ended_few}
 use Rattle.vm_chart.proofs.traces.note_if.Goals as goal
 

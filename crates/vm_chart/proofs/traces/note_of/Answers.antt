@@ -3,7 +3,7 @@ use Rattle.std.proofs.lemmas.List.{append-nil, take_all}
 use Rattle.std.proofs.lemmas.Option.{slice_get-get_or}
 use Rattle.base.specs.declared.event.Act.TheVariants as act
 use Rattle.base.specs.declared.event.Event.{Event}
-use Rattle.chart_lines.specs.Traces.{Counts}
+use Rattle.run_chart.specs.Traces.{Counts}
 use Rattle.vm_chart.proofs.Tracing.{counts_next, few_next}
 use Rattle.vm_chart.proofs.traces.note_of.Goals as goal
 

@@ -1,5 +1,5 @@
 use Rattle.std.proofs.Common.{◌≡◌, ◌++◌, take}
-use Rattle.chart_lines.specs.Traces.{Counts}
+use Rattle.run_chart.specs.Traces.{Counts}
 use Rattle.vm_chart.proofs.traces.note_of.Given as goal
 
 abbrev pub ghost-note_at : goal.ghost-note_at

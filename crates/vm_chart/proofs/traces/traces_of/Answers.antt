@@ -2,7 +2,7 @@ use Rattle.std.proofs.Common.{◌≡◌, [], ◌∷◌, ◌+◌, ◌++◌, List,
 use Rattle.std.specs.Prelude.{All}
 use Rattle.std.proofs.lemmas.List.{length-append}
 use Rattle.std.proofs.lemmas.List.Elements.{All-push}
-use Rattle.chart_lines.specs.declared.trace.Trace.{Trace}
+use Rattle.run_chart.specs.declared.trace.Trace.{Trace}
 use Rattle.vm_chart.specs.Follows.{IsFresh}
 use Rattle.vm_chart.proofs.traces.traces_of.Goals as goal
 

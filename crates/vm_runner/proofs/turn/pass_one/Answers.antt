@@ -1,7 +1,7 @@
 use Rattle.std.proofs.Common.{◌∙◌, ◌++◌, ℕ, arith, ap, sym, subst}
 use Rattle.machine_semantics.specs.State.{State}
 use Rattle.machine_semantics.specs.Tick.{Ticked}
-use Rattle.machine_safety_spec.specs.Queues.{AreQueued}
+use Rattle.machine_semantics.specs.Queues.{AreQueued}
 use Rattle.vm_state.specs.Board.{state_of}
 use Rattle.std.specs.Prelude.{Some}
 use Rattle.vm_runner.specs.Turn.{HasPassed}

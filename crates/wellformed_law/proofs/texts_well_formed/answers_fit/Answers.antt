@@ -5,7 +5,7 @@ use Rattle.static_declarations.specs.Things.{named_at}
 use Rattle.static_declarations.specs.Parts.{answer}
 use Rattle.static_types.specs.Types.{is_of}
 use Rattle.static_types.specs.Conduct.{strays}
-use Rattle.wellformed.specs.Typed.{IsOf}
+use Rattle.static_semantics.specs.Typed.{IsOf}
 use Rattle.wellformed_law.proofs.Basics.{keeps_rules, held, not_held}
 use Rattle.wellformed_law.proofs.Uses.{sorts_same}
 use Rattle.wellformed_law.proofs.Expressions.{is_of_fits}

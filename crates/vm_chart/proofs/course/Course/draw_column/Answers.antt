@@ -1,6 +1,6 @@
 use Rattle.std.proofs.Common.{◌≡◌, ℕ, arith, ap, sym, subst, ◌∙◌}
 use Rattle.run_chart.specs.declared.columns.Columns.{Columns}
-use Rattle.chart_lines.specs.Columns.{AreFew, end_of}
+use Rattle.run_chart.specs.Columns.{AreFew, end_of}
 use Rattle.vm_chart.proofs.Following.{on_ok_both}
 use Rattle.vm_chart.proofs.course.Course.draw_column.Goals as goal
 

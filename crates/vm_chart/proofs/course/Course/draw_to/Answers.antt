@@ -1,5 +1,5 @@
 use Rattle.std.proofs.Common.{◌≡◌, ◌+◌, length, arith, ◌∙◌}
-use Rattle.chart_lines.specs.Columns.{end_of}
+use Rattle.run_chart.specs.Columns.{end_of}
 use Rattle.vm_chart.specs.declared.course.Course.{Course}
 use Rattle.vm_chart.specs.Follows.{Each, Follows, IsDrawnTo}
 use Rattle.vm_chart.proofs.Following.{each_at, end_within, follows_to, on_ok, on_ok_both}

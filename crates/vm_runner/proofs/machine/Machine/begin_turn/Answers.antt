@@ -2,7 +2,7 @@ use Rattle.std.proofs.Common.{◌≡◌, ◌<◌, ◌∙◌, false, length, arit
 use Rattle.machine_semantics.specs.Image.{Script}
 use Rattle.machine_semantics.specs.State.{State}
 use Rattle.machine_semantics.specs.Starts.{starts}
-use Rattle.machine_safety_spec.specs.Queues.{AreQueued}
+use Rattle.machine_semantics.specs.Queues.{AreQueued}
 use Rattle.vm_stretch.specs.StartLawsDue.{HasDue}
 use Rattle.vm_stretch.proofs.Counting.{starts_are_few}
 use Rattle.vm_state.specs.Board.{state_of}

@@ -1,6 +1,0 @@
-use Rattle.std.proofs.Common.{◌≡◌, drop}
-use Rattle.run_chart.specs.Spans.{first_width}
-use Rattle.chart_lines.proofs.columns.first_width.Given as goal
-
-abbrev pub invariant-loop-width : goal.invariant-loop-width
-invariant-loop-width l = first_width (drop l.width-index l.widths) l.ticks ≡ first_width l.widths l.ticks

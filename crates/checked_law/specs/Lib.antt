@@ -1,5 +1,0 @@
-pub mod Quiet
-pub mod Ready
-pub mod Generated
-pub mod Runs
-pub mod Small

@@ -1,6 +1,0 @@
-use Rattle.std.proofs.Common.{◌≡◌, drop}
-use Rattle.code_goals.specs.Goals.{earliest_of}
-use Rattle.code_goals.proofs.places.earliest.Given as goal
-
-abbrev pub invariant-loop-index : goal.invariant-loop-index
-invariant-loop-index l = l.best ≡ earliest_of l.row (drop l.index l.called)

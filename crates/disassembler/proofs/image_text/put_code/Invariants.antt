@@ -1,7 +1,0 @@
-use Rattle.std.proofs.Common.{◌≡◌, ◌++◌, take}
-use Rattle.std.specs.List.{flat_map}
-use Rattle.asm_format.specs.Mnemonics.{instr_line}
-use Rattle.disassembler.proofs.image_text.put_code.Given as goal
-
-abbrev pub invariant-loop-instr : goal.invariant-loop-instr
-invariant-loop-instr l = l.text ≡ l.initial.text ++ flat_map instr_line (take l.instr-index l.code)

@@ -1,8 +1,0 @@
-use Rattle.message_calls.proofs.Telling.{tells-rounds, tells-handlers}
-use Rattle.message_calls.proofs.laws.tells_calls.Goals as goal
-
-pub returns-clause-rounds : goal.returns-clause-rounds
-returns-clause-rounds c g place said told = tells-rounds g place said told
-
-pub returns-clause-handlers : goal.returns-clause-handlers
-returns-clause-handlers c g place said told waits = tells-handlers g place said told waits

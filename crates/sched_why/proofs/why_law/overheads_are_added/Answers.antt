@@ -1,8 +1,0 @@
-use Rattle.sched_why.proofs.Overheads.{added, in_time}
-use Rattle.sched_why.proofs.why_law.overheads_are_added.Goals as goal
-
-pub returns-clause-tasks : goal.returns-clause-tasks
-returns-clause-tasks c = added
-
-pub returns-clause-in_time : goal.returns-clause-in_time
-returns-clause-in_time c = in_time

@@ -1,4 +1,0 @@
-pub mod Blockers
-pub mod Levels
-pub mod Fits
-pub mod WhyLaw

@@ -1,6 +1,0 @@
-use Rattle.std.proofs.Common.{drop, ◌≡◌, ◌++◌}
-use Rattle.table_program.specs.Parts.{seen}
-use Rattle.table_program.proofs.names.add_stays.Given as goal
-
-abbrev pub invariant-loop-stay : goal.invariant-loop-stay
-invariant-loop-stay l = seen l.all.items ++ (drop l.stay-index l.stays) ≡ seen l.fn.all.items ++ l.stays

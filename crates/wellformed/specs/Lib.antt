@@ -1,4 +1,0 @@
-pub mod Here
-pub mod Typed
-pub mod Statements
-pub mod WellFormed
