@@ -33,5 +33,5 @@ pub mod Handlers
 pub mod CheckedJoined
 pub mod GeneratedLemmas
 pub mod GeneratedRunsJoined
-pub mod checked_lawTexts
+pub mod CheckedTexts
 pub mod SmallLemmas

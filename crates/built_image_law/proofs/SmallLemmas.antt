@@ -13,7 +13,7 @@ use Rattle.codegen_law.specs.Fitting.{FramesFit}
 use Rattle.code_cost.specs.Rules.{routine_stack, placed_texts_from}
 use Rattle.built_image_law.specs.Runs.{CheckedCodeIsCode}
 use Rattle.built_image_law.specs.Small.{KeepsSizes, ProgramsThatKeepSizesAreSmall, GeneratedCodeIsCode}
-use Rattle.built_image_law.proofs.checked_lawTexts.{IsPlainOf, plain_of_placed}
+use Rattle.built_image_law.proofs.CheckedTexts.{IsPlainOf, plain_of_placed}
 
 pub not_over : (limit n : ℕ) → (limit < n → ⊥) → n ≤ limit
 not_over limit n never = elim (cases_lt limit n) [ inl over ↦ absurd (never over) | inr within ↦ omega (arith, within) ]

@@ -15,7 +15,7 @@ use Rattle.code_cost.specs.Rules.{routine_stack, RoutineTooLarge, ProcessTooLarg
 use Rattle.code_cost.specs.Rules as rules
 use Rattle.load_law.proofs.LoadStacksTrees.{processes_are, texts_are}
 use Rattle.load_law.proofs.Heights.{stacks_are, IsLow, all_low}
-use Rattle.built_image_law.proofs.checked_lawTexts.{plain_text}
+use Rattle.built_image_law.proofs.CheckedTexts.{plain_text}
 use Rattle.load_text_law.proofs.Lists.{load}
 
 module _ (key count : ℕ) (g : Prog Place) (same : plain g ≡ load key count) where

@@ -10,7 +10,7 @@ use Rattle.source_semantics.specs.Names.{process_in}
 use Rattle.code_spec.specs.Layout.{Owner, by_program, by_process, by_monitor}
 use Rattle.code_spec.specs.Numbering.{Text, texts_of, texts_from}
 use Rattle.code_cost.specs.Rules as rules
-use Rattle.built_image_law.proofs.checked_lawTexts.{plain_text}
+use Rattle.built_image_law.proofs.CheckedTexts.{plain_text}
 
 -- ---- processes
 

@@ -17,7 +17,7 @@ use Rattle.valid_image.specs.Tables.{known, part_found, body_found, handler_foun
 use Rattle.loader_code.proofs.Searching.{none_here, one_here, none_left, of_element}
 use Rattle.valid_image_law.specs.Held.{hold}
 use Rattle.loader_code.specs.declared.known.RoutineCost as code
-use Rattle.loader_code.specs.loader_treesTold.{known_of}
+use Rattle.loader_code.specs.TreesTold.{known_of}
 use Rattle.loader.specs.declared.parts.CodeCosts.{CodeCosts}
 use Rattle.loader.specs.declared.parts.ProcessCost.{ProcessCost}
 use Rattle.loader.specs.Found.{AreAlike, Two, two, guard_two, told_process, handler_in}

@@ -20,7 +20,7 @@ use Rattle.loader_code.proofs.Searching.{none_here, none_left, of_element}
 use Rattle.valid_image_law.specs.Held.{hold, held_known}
 use Rattle.loader_code.specs.declared.known.RoutineCost as code
 use Rattle.loader_code.specs.declared.known.PartCost.{PartCost}
-use Rattle.loader_code.specs.loader_treesTold.{found_of, known_of}
+use Rattle.loader_code.specs.TreesTold.{found_of, known_of}
 use Rattle.loader_code.specs.Whole.{stay_in}
 use Rattle.loader.specs.declared.parts.CodeCosts.{CodeCosts}
 use Rattle.loader.specs.Found.{AreAlike}

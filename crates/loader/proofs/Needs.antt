@@ -19,7 +19,7 @@ use Rattle.loader_code.proofs.Searching.{none_here, one_here, none_left, of_elem
 use Rattle.valid_image_law.specs.Held.{held, hold}
 use Rattle.valid_image_law.proofs.Holding.{product}
 use Rattle.loader_code.specs.declared.known.PartCost.{PartCost}
-use Rattle.loader_code.specs.loader_treesTold.{found_of, told_part}
+use Rattle.loader_code.specs.TreesTold.{found_of, told_part}
 use Rattle.loader.specs.declared.parts.CodeCosts.{CodeCosts}
 use Rattle.loader.specs.declared.parts.ProcessCost.{ProcessCost}
 use Rattle.loader.specs.Costs.{routine_needs, process_needs, stack_needs}

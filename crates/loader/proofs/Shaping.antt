@@ -18,7 +18,7 @@ use Rattle.valid_image.specs.Tables.{count, known, routine_found, found_or_nothi
 use Rattle.loader_code.proofs.Searching.{one_here, of_element}
 use Rattle.valid_image_law.specs.Held.{held, hold, held_known}
 use Rattle.loader_code.specs.declared.known.RoutineCost as code
-use Rattle.loader_code.specs.loader_treesTold.{known_of}
+use Rattle.loader_code.specs.TreesTold.{known_of}
 use Rattle.loader.specs.declared.parts.CodeCosts.{CodeCosts}
 use Rattle.loader.specs.Found.{AreAlike}
 use Rattle.loader.specs.Parts.{IsKept}

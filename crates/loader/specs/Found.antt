@@ -5,7 +5,7 @@ use Rattle.machine_semantics.specs.Trees.{Segs}
 use Rattle.valid_image.specs.Found.{Known, Found}
 use Rattle.valid_image.specs.Tables.{nothing_found, part_found}
 use Rattle.valid_image_law.specs.Held.{held_known}
-use Rattle.loader_code.specs.loader_treesTold.{found_of}
+use Rattle.loader_code.specs.TreesTold.{found_of}
 use Rattle.loader.specs.declared.parts.ProcessCost.{ProcessCost}
 
 -- rows that are held alike

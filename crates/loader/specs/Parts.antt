@@ -8,7 +8,7 @@ use Rattle.base.specs.Capped.{cap}
 use Rattle.valid_image.specs.Sizes.{needed_stay}
 use Rattle.valid_image.specs.Tables.{known, routine_found, body_found, handler_found}
 use Rattle.valid_image_law.specs.Held.{hold}
-use Rattle.loader_code.specs.loader_treesTold.{known_of, told_part}
+use Rattle.loader_code.specs.TreesTold.{known_of, told_part}
 use Rattle.loader_code.specs.declared.known.PartCost.{PartCost}
 use Rattle.loader.specs.declared.parts.CodeCosts.{CodeCosts}
 use Rattle.loader.specs.Found.{AreAlike, two, told_process}

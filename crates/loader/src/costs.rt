@@ -1,7 +1,7 @@
 //! Declared costs.
 
 ghost use Rattle.std.specs.Prelude.{◌≡◌, ◌≤◌, ◌+◌, ◌*◌, map};
-ghost use Rattle.loader_code.specs.loader_treesTold.{found_of};
+ghost use Rattle.loader_code.specs.TreesTold.{found_of};
 ghost use Rattle.image.specs.Raw.{image_of, process_of, routine_of};
 ghost use Rattle.base.specs.Capped.{cap};
 ghost use Rattle.valid_image.specs.Fault.{first_in, or_else};
@@ -58,8 +58,8 @@ fn dispatches(over: u16, waits: u64) -> u64
     (2 * u64::from(over) * (1 + waits)).min(OVER)
 }
 
-/// What a routine declares that its code goes beyond.
-fn routine_fault(routine: &RawRoutine, part: &PartCost) -> Option<FaultNumbers>
+/// The first number that a routine declares below what its code comes to, with that.
+pub fn routine_shortfall(routine: &RawRoutine, part: &PartCost) -> Option<FaultNumbers>
     ensures { shown result ≡ routine_needs (routine_of routine.now)
         (found_of part.now.found) part.now.stay }
 {
@@ -83,8 +83,13 @@ fn process_run(over: u16, body: &Cost, handler: &Cost) -> u64
     cap_sum(code, dispatches(over, cap_sum(body.waits, handler.waits)))
 }
 
-/// What a process declares that its code goes beyond, with its dispatches.
-fn process_fault(over: u16, process: &RawProcess, found: &ProcessCost) -> Option<FaultNumbers>
+/// The first number that a process declares below what its code and its dispatches come to, with
+/// that.
+pub fn process_shortfall(
+    over: u16,
+    process: &RawProcess,
+    found: &ProcessCost,
+) -> Option<FaultNumbers>
     ensures { shown result ≡ process_needs over (process_of process.now) (found_of found.now.body)
         (found_of found.now.handler) }
 {
@@ -106,7 +111,7 @@ fn routines_fault(raw: &RawImage, parts: &CodeCosts) -> Option<FaultNumbers>
     let routines = raw.routines.as_slice();
     let kept = parts.routines.as_slice();
     for r in 0..routines.len() {
-        match routine_fault(&routines[r], &kept[r]) {
+        match routine_shortfall(&routines[r], &kept[r]) {
             Some(fault) => return Some(fault),
             None => {}
         }
@@ -122,7 +127,7 @@ fn processes_fault(raw: &RawImage, parts: &CodeCosts) -> Option<FaultNumbers>
     let processes = raw.processes.as_slice();
     let kept = parts.processes.as_slice();
     for k in 0..processes.len() {
-        match process_fault(raw.overhead, &processes[k], &kept[k]) {
+        match process_shortfall(raw.overhead, &processes[k], &kept[k]) {
             Some(fault) => return Some(fault),
             None => {}
         }

@@ -1,7 +1,7 @@
 //! Starts, trees, heights and coverage.
 
 ghost use Rattle.std.specs.Prelude.{◌≡◌, ◌≤◌, ◌<◌, ◌+◌, [], IfNone, IfOk, IfSome, Some, length, map, nat_eq};
-ghost use Rattle.loader_code.specs.loader_treesTold.{EndsAt, found_of, known_of, told, told_part};
+ghost use Rattle.loader_code.specs.TreesTold.{EndsAt, found_of, known_of, told, told_part};
 ghost use Rattle.loader_code.specs.Whole.{stay_in};
 ghost use Rattle.image.specs.Raw.{image_of, process_of, routine_of};
 ghost use Rattle.machine_semantics.specs.Trees.{size};

@@ -1,7 +1,7 @@
 //! Declared sizes.
 
 ghost use Rattle.std.specs.Prelude.{◌≡◌, ◌≤◌, ◌*◌, length, map, sum_by};
-ghost use Rattle.loader_code.specs.loader_treesTold.{found_of};
+ghost use Rattle.loader_code.specs.TreesTold.{found_of};
 ghost use Rattle.image.specs.Raw.{image_of, monitor_of, process_of, routine_of};
 ghost use Rattle.valid_image.specs.Fault.{first_in};
 ghost use Rattle.valid_image.specs.Sizes.{below as defined_below, needed_stack, params_fault as defined_params, size_fault as defined_fault, stack_fault as defined_stack, words_fault as defined_words};
@@ -28,8 +28,8 @@ fn params_fault(routines: &[RawRoutine]) -> Option<FaultNumbers>
     None
 }
 
-/// The locals of a process and the depth of its code are within its stack.
-fn process_stack(process: &RawProcess, found: &ProcessCost) -> Option<FaultNumbers>
+/// The stack of a process, where it is below its locals and the depth of its code, with these.
+pub fn stack_shortfall(process: &RawProcess, found: &ProcessCost) -> Option<FaultNumbers>
     ensures { shown result ≡ stack_needs (process_of process.now) (found_of found.now.body)
         (found_of found.now.handler) }
 {
@@ -47,7 +47,7 @@ fn stack_fault(raw: &RawImage, parts: &CodeCosts) -> Option<FaultNumbers>
     let processes = raw.processes.as_slice();
     let kept = parts.processes.as_slice();
     for k in 0..processes.len() {
-        match process_stack(&processes[k], &kept[k]) {
+        match stack_shortfall(&processes[k], &kept[k]) {
             Some(fault) => return Some(fault),
             None => {}
         }

@@ -9,7 +9,7 @@ use Rattle.valid_image.specs.Found.{Known, Found, amount, is_enter, is_leave, gu
 use Rattle.valid_image_law.specs.Held.{held, hold}
 use Rattle.valid_image_law.proofs.Holding.{holding_changes_nothing, hold_guard}
 use Rattle.loader_code.specs.Steps.{stays_in}
-use Rattle.loader_code.specs.loader_treesTold.{found_of, told_part}
+use Rattle.loader_code.specs.TreesTold.{found_of, told_part}
 use Rattle.loader_code.specs.declared.known.PartCost.{PartCost}
 use Rattle.base.specs.Capped.{cap}
 use Rattle.valid_image.specs.Tables.{found_or_nothing}

@@ -1,4 +1,4 @@
-pub mod loader_treesTold
+pub mod TreesTold
 pub mod Steps
 pub mod Whole
 pub mod Told

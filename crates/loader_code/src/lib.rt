@@ -1,4 +1,4 @@
-//! Pieces of code, their owners, and the operands of instructions.
+//! What code and tree of a part come to; pieces of code, their owners, operands.
 //!
 //! A piece is the code of a routine or a process. An address belongs to the piece with the greatest
 //! start not above it (`Pieces` of `valid_image`). `addresses_by_piece` promises the addresses of
@@ -7,6 +7,13 @@
 //! `operand_fault` promises the first instruction whose operand is out of range, or touches what
 //! the owner of its code may not (`Operands` of `valid_image`), routines before processes, and none
 //! exactly where there is none.
+//!
+//! What a part comes to: height, worst cost, depth. The definition is `founds` of `valid_image`: one
+//! computation over tree and code, or nothing where the code is not of its tree or a rule of heights
+//! fails. `part_found` and `routine_found` promise just that, with costs held at one more than a
+//! thousand million and depths at 4,097 (`specs/TreesTold.antt`). Trees are looked at as they stand
+//! in bytes, so no memory is taken. The calls recurse down the tree; a tree that has more bytes than
+//! code of this length can need is of none, and is not gone over.
 #![tactic(auto)]
 
 mod bases;

@@ -1,7 +1,7 @@
 //! The three questions about the code of a part.
 
 ghost use Rattle.std.specs.Prelude.{◌≡◌, ◌≤◌, IsTrue, length, map, min};
-ghost use Rattle.loader_code.specs.loader_treesTold.{known_of, told};
+ghost use Rattle.loader_code.specs.TreesTold.{known_of, told};
 ghost use Rattle.loader_code.specs.Whole.{is_fitting, monitor_in as stays_of, whole as defined_whole};
 ghost use Rattle.image_format.specs.Stands.{tree_in};
 ghost use Rattle.valid_image.specs.Found.{capped};

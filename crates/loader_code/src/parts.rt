@@ -5,7 +5,7 @@ ghost use Rattle.image_format.specs.TreeBytes.{tree_bytes};
 ghost use Rattle.image.specs.Raw.{routine_of};
 ghost use Rattle.machine_semantics.specs.Trees.{Cons, Nil, Stay, size};
 ghost use Rattle.image_format.specs.Stands.{tree_in};
-ghost use Rattle.loader_code.specs.loader_treesTold.{EndsAt, Reaches, found_of, known_of, told, told_part, IsHeld};
+ghost use Rattle.loader_code.specs.TreesTold.{EndsAt, Reaches, found_of, known_of, told, told_part, IsHeld};
 ghost use Rattle.loader_code.specs.Steps.{stays_in};
 ghost use Rattle.loader_code.specs.Whole.{monitor_in as stays_of, stay_in};
 ghost use Rattle.base.specs.Capped.{cap};

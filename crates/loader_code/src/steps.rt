@@ -2,7 +2,7 @@
 
 ghost use Rattle.std.specs.Prelude.{◌≡◌, ◌≤◌, ◌<◌, ◌+◌, ◌*◌, ◌&&◌, IfSome, Some, map, min, nat_eq, nat_lt, slice_get};
 ghost use Rattle.loader_code.specs.Steps.{step};
-ghost use Rattle.loader_code.specs.loader_treesTold.{EndsAt, IsHeld, Reaches, found_of, known_of, told};
+ghost use Rattle.loader_code.specs.TreesTold.{EndsAt, IsHeld, Reaches, found_of, known_of, told};
 ghost use Rattle.base.specs.Capped.{cap};
 ghost use Rattle.valid_image.specs.Found.{amount, arms, call, guard, is_call as calls, is_exit as exits, is_jump as jumps, is_jump_zero as jumps_at_zero, is_reenter as reenters, is_repeat as repeats, is_repeats as begins, limit_at as limits, loop as loops, wait};
 ghost use Rattle.valid_image_law.specs.Held.{before, held, hold};

@@ -3,7 +3,7 @@
 ghost use Rattle.std.specs.Prelude.{◌≡◌, ◌≤◌, ◌<◌, ◌+◌, IfSome, MatchOption, length, map};
 ghost use Rattle.machine_semantics.specs.Trees.{size, size_of};
 ghost use Rattle.image_format.specs.Stands.{item_in, tree_in};
-ghost use Rattle.loader_code.specs.loader_treesTold.{EndsAt, known_of, told};
+ghost use Rattle.loader_code.specs.TreesTold.{EndsAt, known_of, told};
 ghost use Rattle.valid_image.specs.Found.{found, founds, line};
 ghost use Rattle.valid_image_law.specs.Held.{hold};
 

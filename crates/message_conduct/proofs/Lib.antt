@@ -2,4 +2,4 @@ pub mod Walks
 pub mod Found
 pub mod Telling
 pub mod Examples
-pub mod message_callsTelling
+pub mod CallsTelling

@@ -4,4 +4,4 @@ pub mod Conduct
 pub mod Seen
 pub mod Laws
 pub mod Told
-pub mod message_callsLaws
+pub mod CallLaws

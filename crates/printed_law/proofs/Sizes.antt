@@ -10,7 +10,7 @@ use Rattle.code_spec.specs.Numbering as numbering
 use Rattle.code_cost_spec.specs.Levels.{code_length, stack_of_process}
 use Rattle.code_cost.specs.Rules.{SizeFails, placed_texts_from, routine_stack}
 use Rattle.code_cost.proofs.Parts.{plain_process_at, plain_texts}
-use Rattle.built_image_law.proofs.checked_lawTexts.{IsPlainOf, plain_of_placed, plain_text}
+use Rattle.built_image_law.proofs.CheckedTexts.{IsPlainOf, plain_of_placed, plain_text}
 use Rattle.built_image_law.specs.Limits.{StacksAreInLimits}
 
 pub sizes_kept : StacksAreInLimits → (g h : Prog Place) → plain h ≡ plain g → ((number : ℕ) (place : Place) → ¬ SizeFails g number place) → (number : ℕ) (place : Place) → ¬ SizeFails h number place

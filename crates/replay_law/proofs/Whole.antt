@@ -44,7 +44,7 @@ use Rattle.syntax_tree.specs.Placed.{plain_routine}
 use Rattle.built_image_law.specs.Ready.{IsImageMade}
 use Rattle.built_image_law.specs.Small.{KeepsSizes}
 use Rattle.built_image_law.proofs.SmallLemmas.{not_over}
-use Rattle.built_image_law.proofs.checked_lawTexts.{IsPlainOf, plain_of_placed}
+use Rattle.built_image_law.proofs.CheckedTexts.{IsPlainOf, plain_of_placed}
 use Rattle.front_end.specs.Source.{IsTreeOf}
 use Rattle.static_semantics.specs.Places.{NamesFound}
 use Rattle.static_semantics.specs.Mirrors.{NamesListed}

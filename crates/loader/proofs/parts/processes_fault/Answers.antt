@@ -4,7 +4,7 @@ use Rattle.std.proofs.lemmas.Option.{slice_get_read}
 use Rattle.image.specs.Raw.{process_of}
 use Rattle.machine_isa.specs.declared.instr.Instr.{Instr}
 use Rattle.loader_code.specs.declared.known.RoutineCost as code
-use Rattle.loader_code.specs.loader_treesTold.{known_of}
+use Rattle.loader_code.specs.TreesTold.{known_of}
 use Rattle.valid_image.specs.Tables.{handler_start, part_found}
 use Rattle.valid_image_law.specs.Held.{hold}
 use Rattle.loader.specs.Found.{two, guard_two, told_process, handler_in}

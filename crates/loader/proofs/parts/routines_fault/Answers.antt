@@ -3,7 +3,7 @@ use Rattle.std.specs.Prelude.{nat_eq, slice_get}
 use Rattle.std.proofs.lemmas.Option.{slice_get_read}
 use Rattle.image.specs.Raw.{routine_of}
 use Rattle.base.specs.Capped.{cap}
-use Rattle.loader_code.specs.loader_treesTold.{found_of, known_of}
+use Rattle.loader_code.specs.TreesTold.{found_of, known_of}
 use Rattle.loader_code.specs.Whole.{stay_in}
 use Rattle.valid_image.specs.Found.{guard}
 use Rattle.valid_image.specs.Tables.{monitor_of, routine_found}

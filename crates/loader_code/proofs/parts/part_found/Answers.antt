@@ -1,5 +1,5 @@
 use Rattle.std.proofs.Common.{map}
-use Rattle.loader_code.specs.loader_treesTold.{known_of}
+use Rattle.loader_code.specs.TreesTold.{known_of}
 use Rattle.loader_code.proofs.Short.{long_part}
 use Rattle.loader_code.proofs.parts.part_found.Goals as goal
 

@@ -5,7 +5,7 @@ use Rattle.machine_semantics.specs.Trees.{size}
 use Rattle.image_format.specs.Stands.{tree_in}
 use Rattle.loader_code.specs.Whole.{stay_in}
 use Rattle.base.specs.Capped.{cap}
-use Rattle.loader_code.specs.loader_treesTold.{known_of, told_part, found_of}
+use Rattle.loader_code.specs.TreesTold.{known_of, told_part, found_of}
 use Rattle.valid_image.specs.Found.{is_return, tree_found}
 use Rattle.valid_image.specs.Tables.{count, monitor_of}
 use Rattle.valid_image_law.specs.Held.{hold}

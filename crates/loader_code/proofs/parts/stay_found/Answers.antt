@@ -1,6 +1,6 @@
 use Rattle.std.proofs.Common.{map, sym}
 use Rattle.image_format.specs.Stands.{tree_in}
-use Rattle.loader_code.specs.loader_treesTold.{known_of, told_part, found_of}
+use Rattle.loader_code.specs.TreesTold.{known_of, told_part, found_of}
 use Rattle.loader_code.proofs.Endings.{stay_comes, part_stay}
 use Rattle.loader_code.proofs.parts.stay_found.Goals as goal
 

@@ -2,7 +2,7 @@ use Rattle.std.proofs.Common.{◌≡◌, ◌+◌, None, Some, map, arith, sym, a
 use Rattle.machine_semantics.specs.Trees as tree
 use Rattle.machine_semantics.specs.Trees.{size}
 use Rattle.image_format.specs.Stands.{item_in, tree_in}
-use Rattle.loader_code.specs.loader_treesTold.{known_of, told, found_of}
+use Rattle.loader_code.specs.TreesTold.{known_of, told, found_of}
 use Rattle.loader_code.proofs.Segments.{fork_fails, fork_comes, rep_fails, rep_comes}
 use Rattle.valid_image.specs.Found.{found, founds}
 use Rattle.valid_image_law.specs.Held.{hold}

@@ -1,6 +1,6 @@
 use Rattle.std.proofs.Common.{◌≡◌, ◌+◌, ◌*◌, map}
 use Rattle.machine_semantics.specs.Trees.{size}
-use Rattle.loader_code.specs.loader_treesTold.{EndsAt, found_of, known_of}
+use Rattle.loader_code.specs.TreesTold.{EndsAt, found_of, known_of}
 use Rattle.image_format.specs.Stands.{inner_nesting, nesting, segments_left, tree_in}
 use Rattle.valid_image.specs.Found.{founds, joined}
 use Rattle.valid_image_law.specs.Held.{hold}

@@ -1,5 +1,5 @@
 use Rattle.std.proofs.Common.{◌≡◌, ℕ, ◌+◌, ◌-◌, arith, ap, sym, ◌∙◌}
-use Rattle.loader_code.specs.loader_treesTold.{found_of}
+use Rattle.loader_code.specs.TreesTold.{found_of}
 use Rattle.valid_image.specs.Found.{joined, line}
 use Rattle.valid_image_law.specs.Held.{hold}
 use Rattle.loader_code.proofs.Lines.{on}

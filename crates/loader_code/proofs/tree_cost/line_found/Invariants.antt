@@ -1,5 +1,5 @@
 use Rattle.std.proofs.Common.{◌≡◌, ◌+◌, ◌-◌}
-use Rattle.loader_code.specs.loader_treesTold.{EndsAt, found_of}
+use Rattle.loader_code.specs.TreesTold.{EndsAt, found_of}
 use Rattle.valid_image.specs.Found.{line, joined}
 use Rattle.valid_image_law.specs.Held.{hold}
 use Rattle.loader_code.proofs.tree_cost.line_found.Given as goal

@@ -2,7 +2,7 @@ use Rattle.std.proofs.Common.{Option, Some, None, refl, ap, subst}
 use Rattle.syntax_tree.specs.Placed.{placed}
 use Rattle.syntax_tree.specs.declared.place.Place.{Place}
 use Rattle.static_calls.specs.Reaching.{IsWayBack}
-use Rattle.message_conduct.proofs.message_calls_told.round_told.Goals as goal
+use Rattle.message_conduct.proofs.call_told.round_told.Goals as goal
 
 pub returns-in_default : goal.returns-in_default
 returns-in_default c =

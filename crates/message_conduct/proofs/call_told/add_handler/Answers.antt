@@ -1,5 +1,5 @@
 use Rattle.message_conduct.specs.Told.{handler_sentence}
-use Rattle.message_conduct.proofs.message_calls_told.add_handler.Goals as goal
+use Rattle.message_conduct.proofs.call_told.add_handler.Goals as goal
 
 pub returns : goal.returns
 unfolding handler_sentence

@@ -4,7 +4,7 @@ use Rattle.syntax_tree.specs.Placed.{placed, placed_decl}
 use Rattle.syntax_tree.specs.Parts.{routines}
 use Rattle.message_conduct.specs.Sentences.{name_at}
 use Rattle.message_conduct.specs.Told.{routine_name, round_sentence}
-use Rattle.message_conduct.proofs.message_calls_told.round_text.Goals as goal
+use Rattle.message_conduct.proofs.call_told.round_text.Goals as goal
 
 pub returns : goal.returns
 returns c =

@@ -5,7 +5,7 @@ use Rattle.syntax_tree.specs.Parts.{processes}
 use Rattle.syntax_tree.specs.declared.decl.Process as code
 use Rattle.syntax_tree.specs.declared.place.Place.{Place}
 use Rattle.message_conduct.specs.Told.{handler_sentence, is_handled_at}
-use Rattle.message_conduct.proofs.message_calls_told.handler_told.Goals as goal
+use Rattle.message_conduct.proofs.call_told.handler_told.Goals as goal
 
 abbrev seen : Option (Bor code.Process) → Option (Process Place)
 seen found = option_map (λ p. placed_process p.now) found

@@ -1,6 +1,6 @@
 //! Where there is a sentence. This function does nothing; its contract is the law.
 
-ghost use Rattle.message_conduct.specs.message_callsLaws.{TellsRounds, TellsHandlers};
+ghost use Rattle.message_conduct.specs.CallLaws.{TellsRounds, TellsHandlers};
 
 /// A sentence is there exactly where a routine reaches itself, and wherever a handler reaches a
 /// wait.

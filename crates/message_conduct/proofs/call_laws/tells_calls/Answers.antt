@@ -1,5 +1,5 @@
-use Rattle.message_conduct.proofs.message_callsTelling.{tells-rounds, tells-handlers}
-use Rattle.message_conduct.proofs.message_calls_laws.tells_calls.Goals as goal
+use Rattle.message_conduct.proofs.CallsTelling.{tells-rounds, tells-handlers}
+use Rattle.message_conduct.proofs.call_laws.tells_calls.Goals as goal
 
 pub returns-clause-rounds : goal.returns-clause-rounds
 returns-clause-rounds c g place said told = tells-rounds g place said told
