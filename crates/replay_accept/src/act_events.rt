@@ -30,7 +30,7 @@ fn is_work(doing: Activity) -> bool
 }
 
 /// Whether there is such a process, and it is ready.
-fn is_ready(config: &Config<'_>, process: usize) -> bool
+pub fn is_ready(config: &Config<'_>, process: usize) -> bool
     ensures { IsTrue result ↔ IsReady (config_of config.now) process }
 {
     match config.jobs.get(process) {
@@ -67,7 +67,7 @@ fn is_to_act(rules: &Rules<'_>, config: &Config<'_>, first: Option<usize>, event
 }
 
 /// The next action of the process; `None` where there is no such process.
-fn next_of_process<'a>(
+pub fn next_of_process<'a>(
     rules: &Rules<'a>,
     config: &Config<'a>,
     process: usize,

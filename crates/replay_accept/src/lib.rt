@@ -8,7 +8,8 @@
 //!
 //! The script is a `ScriptCursor` of `replay_script`, which passes its lines as ticks are reached;
 //! until when nothing starts is told by `replay_script`. `is_told` and `may_act` test an act, `act`
-//! does it (`specs/Effects.antt`). Where memory is wanting the configuration is as it was.
+//! does it (`specs/Effects.antt`). `come` lets a start event come, `next_of_process` gives what a
+//! process does next. Where memory is wanting the configuration is as it was.
 #![tactic(auto)]
 
 mod act_events;
@@ -17,7 +18,7 @@ mod begin;
 mod effects;
 mod giving;
 mod perform;
-mod queue;
+pub mod queue;
 mod rules;
 mod running;
 mod saving;
@@ -25,7 +26,9 @@ mod source_actions;
 mod starting;
 mod telling;
 
+pub use act_events::{is_ready, next_of_process};
 pub use perform::{act, may_act};
 pub use rules::Rules;
 pub use running::Running;
+pub use starting::{come, is_release};
 pub use telling::is_told;
