@@ -15,7 +15,8 @@ use Rattle.static_types.specs.Conduct.{is_at}
 use Rattle.static_types.specs.Rules.{statement_rules, StatementFails}
 use Rattle.message_types.specs.Mismatches.{Mismatch, result_of, unfit, stmt_mismatch}
 use Rattle.message_types.specs.Sentences.{sentence}
-use Rattle.message_types.specs.Told.{first_mismatch, mismatch_at, routine_name, type_sentence}
+use Rattle.message_conduct.specs.Told.{routine_name}
+use Rattle.message_types.specs.Told.{first_mismatch, mismatch_at, type_sentence}
 use Rattle.message_types.proofs.Agreeing.{of-stmt, of-unfit}
 
 some-if : (b : Bool) (m : Mismatch) → is_some (if b then Some m else None) ≡ b

@@ -1,22 +1,14 @@
 -- What is said of a place of a program at which types or numbers of arguments do not agree.
-use Rattle.std.specs.Prelude.{ℕ, ◌==◌, List, [], ◌∷◌, Option, Some, None, option_map, unwrap_or, if◌then◌else◌}
+use Rattle.std.specs.Prelude.{ℕ, ◌==◌, List, [], ◌∷◌, Option, Some, None, option_map, if◌then◌else◌}
 use Rattle.std.specs.Option.{option_or}
-use Rattle.syntax_tree.specs.Plain.{Name}
-use Rattle.syntax_tree.specs.Placed.{Scalar, Expr, Stmt, Routine, Prog}
-use Rattle.syntax_tree.specs.Parts.{same_place, routines}
+use Rattle.syntax_tree.specs.Placed.{Scalar, Expr, Stmt, Prog}
+use Rattle.syntax_tree.specs.Parts.{same_place}
 use Rattle.syntax_tree.specs.declared.place.Place.{Place}
 use Rattle.static_declarations.specs.Things.{named_at, sort_of}
 use Rattle.static_declarations.specs.Parts.{Part, statement, answer, stmt_place, parts}
+use Rattle.message_conduct.specs.Told.{routine_name}
 use Rattle.message_types.specs.Mismatches.{Mismatch, result_of, unfit, stmt_mismatch}
 use Rattle.message_types.specs.Sentences.{sentence}
-
--- the name of the first routine whose name stands at the place
-abbrev pub name_at : List (Routine Place) → Place → Option Name
-name_at [] place = None
-name_at (r ∷ rs) place = if same_place r.place place then Some r.name else name_at rs place
-
-abbrev pub routine_name : Prog Place → Place → Name
-routine_name g place = unwrap_or (name_at (routines g.decls) place) []
 
 -- what does not agree in a statement, those in it aside, if it stands at the place
 abbrev pub stmt_mismatch_at : Prog Place → Place → Stmt Place → Option Mismatch
