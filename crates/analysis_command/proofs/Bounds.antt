@@ -8,7 +8,7 @@ use Rattle.command_answers.specs.declared.status.Status.TheVariants as status
 use Rattle.command_answers.specs.Acting.{puts}
 use Rattle.command_answers.specs.Acts.{outcome_of}
 use Rattle.command_refusals.specs.Told.{late_style}
-use Rattle.message_late.specs.Message.{late_message}
+use Rattle.message_program.specs.Late.{late_message}
 use Rattle.analysis_command.specs.declared.texts.JudgedBounds.{JudgedBounds}
 use Rattle.analysis_command.specs.Told.{AreBoundsOf, IsShownLate}
 use Rattle.analysis_command.proofs.Due.{why_told, why_told_late}

@@ -15,7 +15,7 @@ use crate::texts::{JudgedBounds, bounds_of_text, fit_of_text};
 use command_answers::{Content, PreparedCall, Status, put};
 use command_refusals::{refuse_bytes, refuse_text};
 use compile::ProgramTextFault;
-use message_late::late_message;
+use message_program::late_message;
 use static_rule::rule;
 use std::alloc::{AllocError, Global};
 use syntax_tree::{Place, Text};

@@ -11,7 +11,7 @@ use Rattle.compile.specs.declared.compiling.CompileFault.{CompileFault}
 use Rattle.compile.specs.declared.compiling.CompileFault.TheVariants as compile_fault
 use Rattle.compile.specs.Compile.{Compiles, IsImageOf, IsLateWith}
 use Rattle.command_due.specs.Source.{IsLateText}
-use Rattle.message_late.specs.Message.{late_message}
+use Rattle.message_program.specs.Late.{late_message}
 use Rattle.command_answers.specs.declared.act.PreparedCall.{PreparedCall}
 use Rattle.command_answers.specs.declared.status.Status.TheVariants as status
 use Rattle.command_answers.specs.Acting.{puts}

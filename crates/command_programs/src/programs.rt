@@ -24,7 +24,7 @@ use command_answers::{
 use command_refusals::refuse_text;
 use compile::{Built, CompileFault, ProgramTextFault};
 use image::{ImageNames, write_image};
-use message_late::late_message;
+use message_program::late_message;
 use outside::Files;
 use sched_table::Table;
 use std::alloc::{AllocError, Global};

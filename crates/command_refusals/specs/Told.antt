@@ -14,7 +14,7 @@ use Rattle.command_due.specs.TableDue.{table_fault_line}
 use Rattle.command_due.specs.EdfDue.{IsJudgedText}
 use Rattle.command_due.specs.ReplayDue.{log_fault_line, refused_line}
 use Rattle.message_program.specs.Program.{IsProgramMessage}
-use Rattle.message_late.specs.Message.{late_message, demand_message}
+use Rattle.message_program.specs.Late.{late_message, demand_message}
 use Rattle.message_table.specs.Message.{table_message}
 use Rattle.message_log.specs.Image.{image_message, image_text_message, valid_message}
 use Rattle.message_script.specs.Message.{script_message}

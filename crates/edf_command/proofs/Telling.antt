@@ -13,7 +13,7 @@ use Rattle.command_answers.specs.declared.status.Status.TheVariants as status
 use Rattle.command_answers.specs.Acting.{puts}
 use Rattle.command_answers.specs.Acts.{number_of, outcome_of}
 use Rattle.command_answers.specs.Files.{Held}
-use Rattle.message_late.specs.Message.{demand_message}
+use Rattle.message_program.specs.Late.{demand_message}
 use Rattle.command_refusals.specs.Refusals.{Explains, HasFeasibleNames, IsExplained, IsLaterTold, IsScriptedTold}
 use Rattle.command_refusals.specs.Told.{IsDemandedTold, IsScriptTold}
 use Rattle.edf_command.specs.declared.judging.Subject.{Subject}

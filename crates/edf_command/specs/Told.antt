@@ -1,7 +1,7 @@
 -- What is told of a program that was judged, where the call is refused.
 use Rattle.std.specs.Prelude.{◌≡◌, ◌⊎◌, ℕ, List, Option, IsSomeAnd}
 use Rattle.command_due.specs.CommandsDue.{Outcome}
-use Rattle.message_late.specs.Message.{demand_message}
+use Rattle.message_program.specs.Late.{demand_message}
 use Rattle.command_refusals.specs.Told.{IsScriptTold}
 use Rattle.edf_command.specs.declared.judging.Subject.{Subject}
 use Rattle.edf_command.specs.Judged.{IsMet}

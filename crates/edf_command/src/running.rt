@@ -12,14 +12,14 @@ ghost use Rattle.edf_command.specs.Judged.{IsMet, IsScriptDue, IsSubject};
 ghost use Rattle.script.specs.Scripts.{IsScript, longest_text};
 ghost use Rattle.command_refusals.specs.Refusals.{Explains};
 ghost use Rattle.command_refusals.specs.Told.{IsScriptTold};
-ghost use Rattle.message_late.specs.Message as message_of;
+ghost use Rattle.message_program.specs.Late as message_of;
 
 use crate::judging::Subject;
 use crate::report;
 use command_answers::{Content, Dispatch, PreparedCall, PreparedRun, Status, judge_script, put};
 use command_refusals::refuse_script;
 use edf_correct::edf_ready::edf_images_are_ready;
-use message_late::demand_message;
+use message_program::demand_message;
 use script::Script;
 use std::alloc::{AllocError, Global};
 use syntax_tree::Text;

@@ -3,3 +3,4 @@ pub mod Program
 pub mod Rules
 pub mod Seen
 pub mod Word
+pub mod Late

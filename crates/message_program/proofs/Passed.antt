@@ -6,7 +6,7 @@ use Rattle.std.proofs.lemmas.List.{drop_all, drop_more}
 use Rattle.std.proofs.lemmas.Option.{slice_get-get_or, slice_get_past}
 use Rattle.sched_table.specs.declared.table.Row.{Row}
 use Rattle.sched_table.specs.Late.{late, late_or}
-use Rattle.message_late.specs.Message.{late_row}
+use Rattle.message_program.specs.Late.{late_row}
 
 none_is : (bound : Option ℕ) → is_some bound ≡ false → is_none bound ≡ true
 none_is None none = refl

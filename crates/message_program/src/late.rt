@@ -1,8 +1,8 @@
 //! The message for a program of which a process has no bound.
 
 ghost use Rattle.std.specs.Prelude.{◌≡◌, ◌++◌, IfOk, OnOk};
-ghost use Rattle.message_late.specs.Message.{advice_line, call_words, deadline_words};
-ghost use Rattle.message_late.specs.Message.{late_message, overhead, unnamed_line, untimely_line};
+ghost use Rattle.message_program.specs.Late.{advice_line, call_words, deadline_words};
+ghost use Rattle.message_program.specs.Late.{late_message, overhead, unnamed_line, untimely_line};
 
 use crate::process::{LateProcess, late_process};
 use crate::ticks::add_between;

@@ -5,7 +5,7 @@ use Rattle.std.specs.Fmt.{digits}
 use Rattle.image.specs.declared.names.ImageNames.{ImageNames}
 use Rattle.sched_demand.specs.declared.judging.Judgement.TheVariants.{Late}
 use Rattle.sched_table.specs.declared.table.Table.{Table}
-use Rattle.message_late.specs.Message.{demand_message, late_message}
+use Rattle.message_program.specs.Late.{demand_message, late_message}
 
 pub names : ImageNames
 names = record { processes = codes "q" ∷ []; monitors = []; conditions = []; devices = []; events = [] }

@@ -1,7 +1,7 @@
 //! The message for a program that earliest deadlines do not bring in time.
 
 ghost use Rattle.std.specs.Prelude.{◌≡◌, ◌++◌, IfOk, OnOk};
-ghost use Rattle.message_late.specs.Message.{demand_message, needed, too_many};
+ghost use Rattle.message_program.specs.Late.{demand_message, needed, too_many};
 ghost use Rattle.message_text.specs.Words.{plain};
 
 use message_text::add_plain;

@@ -1,7 +1,7 @@
 use Rattle.std.proofs.Common.{◌≡◌, drop}
 use Rattle.sched_table.specs.Late.{late}
-use Rattle.message_late.specs.Message.{late_row}
-use Rattle.message_late.proofs.process.late_process.Given as goal
+use Rattle.message_program.specs.Late.{late_row}
+use Rattle.message_program.proofs.process.late_process.Given as goal
 
 abbrev pub invariant-loop-index : goal.invariant-loop-index
 invariant-loop-index l = record {

@@ -1,7 +1,7 @@
 //! The first process without a bound.
 
 ghost use Rattle.std.specs.Prelude.{◌≡◌, IfSome, Some, option_map, slice_get};
-ghost use Rattle.message_late.specs.Message.{late_row};
+ghost use Rattle.message_program.specs.Late.{late_row};
 ghost use Rattle.sched_table.specs.Late.{late};
 
 use sched_table::Row;

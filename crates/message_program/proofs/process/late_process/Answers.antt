@@ -3,8 +3,8 @@ use Rattle.std.specs.Prelude.{not}
 use Rattle.std.proofs.lemmas.List.{drop_all}
 use Rattle.sched_table.specs.declared.table.Row.{Row}
 use Rattle.sched_table.specs.Late.{late}
-use Rattle.message_late.proofs.Passed.{name_taken, name_passed, row_passed, no_rows}
-use Rattle.message_late.proofs.process.late_process.Goals as goal
+use Rattle.message_program.proofs.Passed.{name_taken, name_passed, row_passed, no_rows}
+use Rattle.message_program.proofs.process.late_process.Goals as goal
 
 abbrev no_row : Row
 no_row = record { frame = 0; deadline = 0; rank = 0; cost = record { run = 0; susp = 0; waits = 0 }; block = 0; bound = None; size = record { words = 0; stack = 0 } }
