@@ -6,7 +6,7 @@ use Rattle.syntax_tree.specs.Placed.{Decl, monitor, process}
 use Rattle.syntax.specs.Words as w
 use Rattle.syntax.specs.Words.{named, number}
 use Rattle.syntax_printer.specs.Canonical.{Line, line_text, text_of, stmt_lines, stmts_lines, header, entry_lines, lines_of, decl_lines, end_line, process_words, deadline_words, first_words, canonical}
-use Rattle.table_format.specs.declared.table.Stay.{Stay}
+use Rattle.table_format.specs.declared.table.TaskStay.{TaskStay}
 use Rattle.table_format.specs.declared.table.TaskLine.{TaskLine}
 use Rattle.table_format.specs.declared.table.TaskTable.{TaskTable}
 use Rattle.table_format.specs.Rules.{stays, monitors, least_cost}
@@ -28,11 +28,11 @@ var_line tail = w.VAR ∷ named (of_x tail) ∷ w.COLON ∷ w.INT ∷ []
 
 -- ---- calls
 
-call_text : (tail : Name) (s : Stay) → s.monitor ++ (codes " . stay" ++ (decimal s.ticks ++ (tail ++ codes " ( )\n"))) ≡ text_of (stmt_lines (stay_call tail s))
+call_text : (tail : Name) (s : TaskStay) → s.monitor ++ (codes " . stay" ++ (decimal s.ticks ++ (tail ++ codes " ( )\n"))) ≡ text_of (stmt_lines (stay_call tail s))
 call_text tail s =
     sym (append-nil (s.monitor ++ (codes " . stay" ++ ((decimal s.ticks ++ tail) ++ codes " ( )\n"))) ∙ ap (λ (t : List ℕ). s.monitor ++ (codes " . stay" ++ t)) (append_assoc (decimal s.ticks) tail (codes " ( )\n")))
 
-pub call_put : (tail : Name) (s : Stay) (m d old new : List ℕ) → m ≡ s.monitor → d ≡ decimal s.ticks → new ≡ old ++ (m ++ (codes " . stay" ++ (d ++ (tail ++ codes " ( )\n"))))
+pub call_put : (tail : Name) (s : TaskStay) (m d old new : List ℕ) → m ≡ s.monitor → d ≡ decimal s.ticks → new ≡ old ++ (m ++ (codes " . stay" ++ (d ++ (tail ++ codes " ( )\n"))))
     → new ≡ old ++ statements_text (stay_call tail s ∷ [])
 call_put tail s m d old new m_is d_is put =
     is_put old new _ (statements_text (stay_call tail s ∷ [])) put
@@ -85,7 +85,7 @@ entry_text tail ticks =
 
 -- ---- monitors
 
-pub monitor_text : (tail : Name) (all : List Stay) (name : Name)
+pub monitor_text : (tail : Name) (all : List TaskStay) (name : Name)
     → ((codes "monitor " ++ (name ++ codes "\n")) ++ entries_text tail (ticks_in name all)) ++ (codes "end " ++ (name ++ codes "\n"))
     ≡ declarations_text (monitor (monitor_with tail all name) ∷ [])
 unfolding entries_text declarations_text
@@ -238,7 +238,7 @@ pub event_put : (o : Option Name) (e name old new : List ℕ) → e ≡ name →
 event_put o e name old new so some put =
     put ∙ ap (λ (s : List ℕ). old ++ (codes "event " ++ (s ++ codes "\n"))) so ∙ ap (λ (s : List ℕ). old ++ s) (event_text name) ∙ ap (λ (x : Option Name). old ++ declarations_text (event_of x)) (sym some)
 
-pub monitor_put : (tail : Name) (all : List Stay) (name : Name) (ticks : List ℕ) (old t_1 t_2 t_3 : List ℕ) → ticks ≡ ticks_in name all
+pub monitor_put : (tail : Name) (all : List TaskStay) (name : Name) (ticks : List ℕ) (old t_1 t_2 t_3 : List ℕ) → ticks ≡ ticks_in name all
     → t_1 ≡ old ++ (codes "monitor " ++ (name ++ codes "\n")) → t_2 ≡ t_1 ++ entries_text tail ticks → t_3 ≡ t_2 ++ (codes "end " ++ (name ++ codes "\n"))
     → t_3 ≡ old ++ declarations_text (monitor (monitor_with tail all name) ∷ [])
 monitor_put tail all name ticks old t_1 t_2 t_3 is e_1 e_2 e_3 =
@@ -252,14 +252,14 @@ process_put tail p left old t_1 t_2 t_3 t_4 t_5 t_6 is e_1 e_2 e_3 e_4 e_5 e_6 =
     is_put old t_6 _ _ (join old t_5 t_6 _ _ (join old t_4 t_5 _ _ (join old t_3 t_4 _ _ (join old t_2 t_3 _ _ (join old t_1 t_2 _ _ e_1 e_2) e_3) e_4)
     (e_5 ∙ ap (λ n. t_4 ++ statements_text (spend tail n)) is)) e_6) (process_text tail p)
 
-pub program_put : (tail : Name) (t : TaskTable) (all : List Stay) (old t_1 t_2 t_3 t_4 t_5 : List ℕ) → all ≡ stays t → old ≡ []
+pub program_put : (tail : Name) (t : TaskTable) (all : List TaskStay) (old t_1 t_2 t_3 t_4 t_5 : List ℕ) → all ≡ stays t → old ≡ []
     → t_1 ≡ old ++ (codes "program " ++ (t.name ++ codes "\n")) → t_2 ≡ t_1 ++ declarations_text (flat_map (λ p. event_of p.event) t.tasks)
     → t_3 ≡ t_2 ++ declarations_text (map (λ name. monitor (monitor_with tail all name)) (monitors_of all))
     → t_4 ≡ t_3 ++ declarations_text (map (λ p. process (table_process tail p)) t.tasks) → t_5 ≡ t_4 ++ (codes "end " ++ (t.name ++ codes "\n"))
     → t_5 ≡ canonical (program_with tail t)
 program_put tail t all old t_1 t_2 t_3 t_4 t_5 is none e_1 e_2 e_3 e_4 e_5 =
     is_put old t_5 _ (canonical (program_with tail t)) (join old t_4 t_5 _ _ (join old t_3 t_4 _ _ (join old t_2 t_3 _ _ (join old t_1 t_2 _ _ e_1 e_2)
-    (e_3 ∙ ap (λ (every : List Stay). t_2 ++ declarations_text (map (λ name. monitor (monitor_with tail every name)) (monitors_of every))) is)) e_4) e_5) (program_text tail t)
+    (e_3 ∙ ap (λ (every : List TaskStay). t_2 ++ declarations_text (map (λ name. monitor (monitor_with tail every name)) (monitors_of every))) is)) e_4) e_5) (program_text tail t)
     ∙ ap (λ (s : List ℕ). s ++ canonical (program_with tail t)) none
 
 -- with the tail of the table it is the text of the table

@@ -4,7 +4,7 @@ use Rattle.std.specs.Prelude.{◌≡◌, ◌≢◌, ◌<◌, ◌≤◌, ◌+◌,
 use Rattle.syntax.specs.Spellings.{is_number}
 use Rattle.text_fields.specs.Fields.{IsWord, Lacks}
 use Rattle.text_fields.specs.LineFields.{value, is_numeral as has_no_leading_zero}
-use Rattle.table_format.specs.declared.table.Stay.{Stay}
+use Rattle.table_format.specs.declared.table.TaskStay.{TaskStay}
 use Rattle.table_format.specs.declared.table.TaskLine.{TaskLine}
 use Rattle.table_format.specs.declared.table.TaskTable.{TaskTable}
 use Rattle.table_format.specs.Spelling.{Word, SaidStay, SaidLine, first_line, process_line, last_line, lines_before_end, table_bytes}
@@ -16,7 +16,7 @@ use Rattle.table_format.specs.Rules.{IsName, monitors_named, names_of_line, name
 abbrev pub is_numeral : Word → Bool
 is_numeral word = is_number word && has_no_leading_zero word
 
-abbrev pub stay_meant : SaidStay → Stay
+abbrev pub stay_meant : SaidStay → TaskStay
 stay_meant s = record { monitor = s.monitor; ticks = value s.ticks }
 
 -- what the words say, numbers by their values, which may be of any size

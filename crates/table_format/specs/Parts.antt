@@ -5,7 +5,7 @@ use Rattle.std.specs.Borrow.{Bor}
 use Rattle.syntax_tree.specs.Plain.{Name}
 use Rattle.syntax_tree.specs.Placed.{Stmt, Decl, Monitor}
 use Rattle.syntax_printer.specs.Canonical.{stmts_lines, entry_lines, decl_lines, lines_of, text_of}
-use Rattle.table_format.specs.declared.table.Stay.{Stay}
+use Rattle.table_format.specs.declared.table.TaskStay.{TaskStay}
 use Rattle.table_format.specs.declared.table.TaskLine.{TaskLine}
 use Rattle.table_format.specs.Rules.{same_name, distinct}
 use Rattle.table_format.specs.Spending.{Nowhere, in_turn}
@@ -22,23 +22,23 @@ unfoldable pub declarations_text : List (Decl Nowhere) → List ℕ
 declarations_text decls = text_of (lines_of decl_lines decls)
 
 -- the names that the table does not give, each with its tail
-abbrev pub made_with : (tail : Name) → List Stay → List Name
+abbrev pub made_with : (tail : Name) → List TaskStay → List Name
 made_with tail stays = (codes "x" ++ tail) ∷ (codes "i" ++ tail) ∷ (codes "j" ++ tail) ∷ map (λ s. stay_name s.ticks ++ tail) stays
 
 -- whether a name is one of those made with this tail
-abbrev pub are_met : (names : List Name) → List Stay → (tail : Name) → Bool
+abbrev pub are_met : (names : List Name) → List TaskStay → (tail : Name) → Bool
 are_met names stays tail = list_any (λ name. list_any (λ made. same_name name made) (made_with tail stays)) names
 
 -- the first tail without one of these names in its way
-abbrev pub first_free : (names : List Name) → List Stay → Name
+abbrev pub first_free : (names : List Name) → List TaskStay → Name
 first_free names stays = tail_of (prefix_len (λ number. are_met names stays (tail_of number)) (range_with_len 0 (length names + 1)))
 
 -- the tail of this number, where none of these names is in its way
-abbrev pub tried : (names : List Name) → List Stay → (number : ℕ) → Option Name
+abbrev pub tried : (names : List Name) → List TaskStay → (number : ℕ) → Option Name
 tried names stays number = if are_met names stays (tail_of number) then None else Some (tail_of number)
 
 -- the monitors of these stays, each once
-abbrev pub monitors_of : List Stay → List Name
+abbrev pub monitors_of : List TaskStay → List Name
 monitors_of stays = distinct same_name (map (λ s. s.monitor) stays)
 
 -- a name behind others, unless it is one of them
@@ -46,7 +46,7 @@ abbrev pub with_name : List Name → Name → List Name
 with_name names name = if list_any (λ other. same_name other name) names then names else names ++ name ∷ []
 
 -- the different stays in a monitor
-abbrev pub ticks_in : (name : Name) → List Stay → List ℕ
+abbrev pub ticks_in : (name : Name) → List TaskStay → List ℕ
 ticks_in name stays = distinct nat_eq (map (λ s. s.ticks) (filter (λ s. same_name name s.monitor) stays))
 
 -- ticks behind others, unless they are among them
@@ -54,7 +54,7 @@ abbrev pub with_ticks : List ℕ → ℕ → List ℕ
 with_ticks all ticks = if list_any (λ other. nat_eq other ticks) all then all else all ++ ticks ∷ []
 
 -- the ticks of a stay behind others, where it is in the monitor of this name
-abbrev pub with_stay : (name : Name) → List ℕ → Stay → List ℕ
+abbrev pub with_stay : (name : Name) → List ℕ → TaskStay → List ℕ
 with_stay name all s = if same_name name s.monitor then with_ticks all s.ticks else all
 
 -- ---- texts
@@ -63,7 +63,7 @@ unfoldable pub entries_text : (tail : Name) → List ℕ → List ℕ
 entries_text tail all = text_of (lines_of entry_lines (map (stay_entry tail) all))
 
 -- the monitor of this name where these are the stays
-abbrev pub monitor_with : (tail : Name) → List Stay → (name : Name) → Monitor Nowhere
+abbrev pub monitor_with : (tail : Name) → List TaskStay → (name : Name) → Monitor Nowhere
 monitor_with tail stays name = record {
   name = name;
   place = tt;

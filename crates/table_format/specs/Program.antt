@@ -4,7 +4,7 @@ use Rattle.std.specs.List.{list_any, prefix_len, range_with_len}
 use Rattle.syntax_tree.specs.Plain.{Name}
 use Rattle.syntax_tree.specs.Placed.{Var, int, scalar, Stmt, perform_entry, no_exprs, procedure, Routine, Monitor, Activation, periodic, at_event, Process, Decl, event, monitor, process, Prog}
 use Rattle.syntax_printer.specs.Canonical.{canonical}
-use Rattle.table_format.specs.declared.table.Stay.{Stay}
+use Rattle.table_format.specs.declared.table.TaskStay.{TaskStay}
 use Rattle.table_format.specs.declared.table.TaskLine.{TaskLine}
 use Rattle.table_format.specs.declared.table.TaskTable.{TaskTable}
 use Rattle.table_format.specs.Rules.{names, stays, monitors, same_name, distinct, least_cost}
@@ -79,7 +79,7 @@ activation_of p None = periodic (of_number p.frame) (option_map of_number p.dead
 activation_of p (Some e) = at_event e tt (of_number p.frame) (option_map of_number p.deadline)
 
 -- M . stayS ( )
-abbrev pub stay_call : (tail : Name) → Stay → Stmt Nowhere
+abbrev pub stay_call : (tail : Name) → TaskStay → Stmt Nowhere
 stay_call tail s = perform_entry tt s.monitor (stay_name s.ticks ++ tail) tt no_exprs
 
 -- the stays in order, then the ticks of the cost that are left

@@ -4,7 +4,7 @@ use Rattle.std.specs.Int.{IsInRange}
 use Rattle.std.specs.Cmp.Lexicographic.{pointwise}
 use Rattle.syntax.specs.Spellings.{HasKind}
 use Rattle.syntax.specs.declared.token.TokenKind.TheVariants.{Ident}
-use Rattle.table_format.specs.declared.table.Stay.{Stay}
+use Rattle.table_format.specs.declared.table.TaskStay.{TaskStay}
 use Rattle.table_format.specs.declared.table.TaskLine.{TaskLine}
 use Rattle.table_format.specs.declared.table.TaskTable.{TaskTable}
 use Rattle.table_format.specs.Spelling.{Word, table_bytes}
@@ -30,7 +30,7 @@ names_of_line p = task_names p ++ monitors_named p
 abbrev pub names_of_tasks : TaskTable → List Word
 names_of_tasks t = t.name ∷ flat_map task_names t.tasks
 
-abbrev pub stays : TaskTable → List Stay
+abbrev pub stays : TaskTable → List TaskStay
 stays t = flat_map (λ p. p.stays) t.tasks
 
 -- the monitors, as often as they are named

@@ -2,7 +2,7 @@
 -- ended by LF.
 use Rattle.std.specs.Prelude.{ℕ, List, [], ◌∷◌, ◌++◌, Option, Some, None, codes, decimal, map, flat_map, option_map}
 use Rattle.text_fields.specs.Fields.{spaced}
-use Rattle.table_format.specs.declared.table.Stay.{Stay}
+use Rattle.table_format.specs.declared.table.TaskStay.{TaskStay}
 use Rattle.table_format.specs.declared.table.TaskLine.{TaskLine}
 use Rattle.table_format.specs.declared.table.TaskTable.{TaskTable}
 
@@ -45,7 +45,7 @@ process_words s =
     ++ (with_key (codes "first") s.first
     ++ codes "cost" ∷ s.cost ∷ flat_map stay_words s.stays)))
 
-abbrev pub said_stay : Stay → SaidStay
+abbrev pub said_stay : TaskStay → SaidStay
 said_stay s = record { monitor = s.monitor; ticks = decimal s.ticks }
 
 -- the words that say this, numbers in decimal

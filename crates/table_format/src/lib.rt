@@ -24,5 +24,5 @@ mod text;
 
 pub use monitors::monitor_names;
 pub use names::all_stays;
-pub use table::{Stay, TaskLine, TaskTable};
+pub use table::{TaskLine, TaskStay, TaskTable};
 pub use text::table_text;

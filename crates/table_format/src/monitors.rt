@@ -6,7 +6,7 @@ ghost use Rattle.syntax_tree.specs.Placed.{monitor};
 ghost use Rattle.table_format.specs.Rules.{same_name};
 ghost use Rattle.table_format.specs.Parts.{declarations_text, entries_text, monitor_with, monitors_of, seen, ticks_in, with_name, with_stay, with_ticks};
 
-use crate::Stay;
+use crate::TaskStay;
 use crate::parts::add_parts;
 use crate::spending::add_spending;
 use itoa::Buffer;
@@ -32,7 +32,7 @@ fn add_once<'a>(monitors: &mut Vec<&'a [u8]>, name: &'a [u8]) -> Result<(), Allo
 }
 
 /// The monitors of some stays, each once, in the order in which they stand first.
-pub fn monitor_names<'a>(alloc: Global, stays: &[&'a Stay]) -> Result<Vec<&'a [u8]>, AllocError>
+pub fn monitor_names<'a>(alloc: Global, stays: &[&'a TaskStay]) -> Result<Vec<&'a [u8]>, AllocError>
     ensures { IfOk result (λ all. seen all.items ≡ monitors_of (seen stays.now)) }
 {
     let mut all = Vec::new(alloc);
@@ -62,7 +62,7 @@ fn add_new(all: &mut Vec<u64>, ticks: u64) -> Result<(), AllocError>
 
 /// Puts the ticks of the stay at the end of a list, where it is one in the monitor of this name,
 /// unless they are there.
-fn add_ticks(all: &mut Vec<u64>, stay: &Stay, name: &[u8]) -> Result<(), AllocError>
+fn add_ticks(all: &mut Vec<u64>, stay: &TaskStay, name: &[u8]) -> Result<(), AllocError>
     ensures { OnOk result (all.new.items ≡ with_stay name.now all.old.items stay.now) }
 {
     if name == stay.monitor.as_bytes() {
@@ -72,7 +72,7 @@ fn add_ticks(all: &mut Vec<u64>, stay: &Stay, name: &[u8]) -> Result<(), AllocEr
 }
 
 /// The different stays in the monitor of this name, in the order in which they stand first.
-fn ticks_in_monitor(alloc: Global, stays: &[&Stay], name: &[u8]) -> Result<Vec<u64>, AllocError>
+fn ticks_in_monitor(alloc: Global, stays: &[&TaskStay], name: &[u8]) -> Result<Vec<u64>, AllocError>
     ensures { IfOk result (λ all. all.items ≡ ticks_in name.now (seen stays.now)) }
 {
     let mut all = Vec::new(alloc);
@@ -109,7 +109,7 @@ pub fn add_monitor(
     alloc: Global,
     text: &mut Text,
     tail: &[u8],
-    stays: &[&Stay],
+    stays: &[&TaskStay],
     name: &[u8],
 ) -> Result<(), AllocError>
     ensures { OnOk result (text.new ≡ text.old ++

@@ -7,13 +7,13 @@ ghost use Rattle.table_format.specs.Program.{made_tail as tail_of_table, stay_na
 ghost use Rattle.table_format.specs.Parts.{are_met, first_free, made_with as made_of, seen, tried};
 
 use crate::parts::add_parts;
-use crate::{Stay, TaskLine, TaskTable};
+use crate::{TaskLine, TaskStay, TaskTable};
 use itoa::Buffer;
 use std::alloc::{AllocError, Global};
 use syntax_tree::{List, Text};
 
 /// Puts some stays at the end of a list.
-fn add_stays<'a>(all: &mut Vec<&'a Stay>, stays: &'a [Stay]) -> Result<(), AllocError>
+fn add_stays<'a>(all: &mut Vec<&'a TaskStay>, stays: &'a [TaskStay]) -> Result<(), AllocError>
     ensures { OnOk result (seen all.new.items ≡ seen all.old.items ++ stays.now) }
 {
     for stay in stays {
@@ -23,7 +23,7 @@ fn add_stays<'a>(all: &mut Vec<&'a Stay>, stays: &'a [Stay]) -> Result<(), Alloc
 }
 
 /// The stays of some process lines, in order.
-pub fn all_stays(alloc: Global, tasks: &[TaskLine]) -> Result<Vec<&Stay>, AllocError>
+pub fn all_stays(alloc: Global, tasks: &[TaskLine]) -> Result<Vec<&TaskStay>, AllocError>
     ensures { IfOk result (λ all. seen all.items ≡ flat_map (λ p. p.stays) tasks.now) }
 {
     let mut all = Vec::new(alloc);
@@ -48,7 +48,7 @@ fn add_task_names<'a>(all: &mut Vec<&'a [u8]>, task: &'a TaskLine) -> Result<(),
 }
 
 /// Puts the monitors of some stays at the end of a list.
-fn add_monitors<'a>(all: &mut Vec<&'a [u8]>, stays: &[&'a Stay]) -> Result<(), AllocError>
+fn add_monitors<'a>(all: &mut Vec<&'a [u8]>, stays: &[&'a TaskStay]) -> Result<(), AllocError>
     ensures { OnOk result
         (seen all.new.items ≡ seen all.old.items ++ map (λ s. s.monitor) (seen stays.now)) }
 {
@@ -73,7 +73,7 @@ fn add_names<'a>(all: &mut Vec<&'a [u8]>, tasks: &'a [TaskLine]) -> Result<(), A
 fn all_names<'a>(
     alloc: Global,
     table: &'a TaskTable,
-    stays: &[&'a Stay],
+    stays: &[&'a TaskStay],
 ) -> Result<Vec<&'a [u8]>, AllocError>
     requires { seen stays.now ≡ stays_of table.now }
     ensures { IfOk result (λ all. seen all.items ≡ names_of table.now) }
@@ -123,7 +123,7 @@ fn add_entry(
 fn add_entries(
     alloc: Global,
     made: &mut List<Text>,
-    stays: &[&Stay],
+    stays: &[&TaskStay],
     tail: &[u8],
 ) -> Result<(), AllocError>
     ensures { OnOk result
@@ -136,7 +136,7 @@ fn add_entries(
 }
 
 /// The names that a program with these stays has besides those of its table, with this tail.
-fn made_with(alloc: Global, stays: &[&Stay], tail: &[u8]) -> Result<List<Text>, AllocError>
+fn made_with(alloc: Global, stays: &[&TaskStay], tail: &[u8]) -> Result<List<Text>, AllocError>
     ensures { IfOk result (λ made. made ≡ made_of tail.now (seen stays.now)) }
 {
     let mut made = List::new(alloc);
@@ -177,7 +177,7 @@ fn tail_of(alloc: Global, number: usize) -> Result<Text, AllocError>
 fn is_in_the_way(
     alloc: Global,
     names: &[&[u8]],
-    stays: &[&Stay],
+    stays: &[&TaskStay],
     tail: &[u8],
 ) -> Result<bool, AllocError>
     ensures { IfOk result (λ met. met ≡ are_met (seen names.now) (seen stays.now) tail.now) }
@@ -190,7 +190,7 @@ fn is_in_the_way(
 fn try_tail(
     alloc: Global,
     names: &[&[u8]],
-    stays: &[&Stay],
+    stays: &[&TaskStay],
     number: usize,
 ) -> Result<Option<Text>, AllocError>
     ensures { IfOk result (λ found. found ≡ tried (seen names.now) (seen stays.now) number) }
@@ -203,7 +203,7 @@ fn try_tail(
 }
 
 /// The first tail with which no name that is made is one of these names.
-fn free_tail(alloc: Global, names: &[&[u8]], stays: &[&Stay]) -> Result<Text, AllocError>
+fn free_tail(alloc: Global, names: &[&[u8]], stays: &[&TaskStay]) -> Result<Text, AllocError>
     ensures { IfOk result (λ tail. tail ≡ first_free (seen names.now) (seen stays.now)) }
 {
     let all = names.len() + 1;
@@ -216,7 +216,7 @@ fn free_tail(alloc: Global, names: &[&[u8]], stays: &[&Stay]) -> Result<Text, Al
 }
 
 /// The tail of the names that the program of a table with these stays has besides its own.
-pub fn made_tail(alloc: Global, table: &TaskTable, stays: &[&Stay]) -> Result<Text, AllocError>
+pub fn made_tail(alloc: Global, table: &TaskTable, stays: &[&TaskStay]) -> Result<Text, AllocError>
     requires { seen stays.now ≡ stays_of table.now }
     ensures { IfOk result (λ tail. tail ≡ tail_of_table table.now) }
 {

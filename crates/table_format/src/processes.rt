@@ -8,7 +8,7 @@ ghost use Rattle.table_format.specs.Parts.{activation_text, declarations_text, o
 
 use crate::parts::add_parts;
 use crate::spending::add_spending;
-use crate::{Stay, TaskLine};
+use crate::{TaskLine, TaskStay};
 use itoa::Buffer;
 use std::alloc::AllocError;
 use syntax_tree::Text;
@@ -47,7 +47,7 @@ fn add_activation(text: &mut Text, task: &TaskLine) -> Result<(), AllocError>
 }
 
 /// Puts the calls in which a process stays in monitors at the end of a text.
-fn add_calls(text: &mut Text, tail: &[u8], stays: &[Stay]) -> Result<(), AllocError>
+fn add_calls(text: &mut Text, tail: &[u8], stays: &[TaskStay]) -> Result<(), AllocError>
     ensures { OnOk result
         (text.new ≡ text.old ++ statements_text (map (stay_call tail.now) stays.now)) }
 {

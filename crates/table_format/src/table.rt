@@ -4,7 +4,7 @@ use syntax_tree::{List, Name};
 
 /// Once in each activation the process is inside the monitor for so many ticks.
 #[derive(Debug, Drop)]
-pub struct Stay {
+pub struct TaskStay {
     pub monitor: Name,
     pub ticks: u64,
 }
@@ -19,7 +19,7 @@ pub struct TaskLine {
     pub deadline: Option<u64>,
     pub first: Option<u64>,
     pub cost: u64,
-    pub stays: List<Stay>,
+    pub stays: List<TaskStay>,
 }
 
 /// A table: its name and its process lines.

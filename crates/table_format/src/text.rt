@@ -11,7 +11,7 @@ use crate::monitors::{add_monitor, monitor_names};
 use crate::names::{all_stays, made_tail};
 use crate::parts::add_parts;
 use crate::processes::add_process;
-use crate::{Stay, TaskLine, TaskTable};
+use crate::{TaskLine, TaskStay, TaskTable};
 use std::alloc::{AllocError, Global};
 use syntax_tree::{Name, Text};
 
@@ -41,7 +41,7 @@ fn add_monitors(
     alloc: Global,
     text: &mut Text,
     tail: &[u8],
-    stays: &[&Stay],
+    stays: &[&TaskStay],
     names: &[&[u8]],
 ) -> Result<(), AllocError>
     ensures { OnOk result (text.new ≡ text.old ++ declarations_text
@@ -70,7 +70,7 @@ fn add_all_monitors(
     alloc: Global,
     text: &mut Text,
     tail: &[u8],
-    stays: &[&Stay],
+    stays: &[&TaskStay],
 ) -> Result<(), AllocError>
     ensures { OnOk result (text.new ≡ text.old ++ declarations_text
         (map (λ name. monitor (monitor_with tail.now (seen stays.now) name))
@@ -84,7 +84,7 @@ fn add_all_monitors(
 fn text_with(
     alloc: Global,
     table: &TaskTable,
-    stays: &[&Stay],
+    stays: &[&TaskStay],
     tail: &[u8],
 ) -> Result<Text, AllocError>
     requires { seen stays.now ≡ stays_of table.now }

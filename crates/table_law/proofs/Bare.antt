@@ -4,7 +4,7 @@ use Rattle.std.specs.Prelude.{flat_map, option_map}
 use Rattle.syntax_tree.specs.Plain.{Name}
 use Rattle.syntax_tree.specs.Placed.{Stmt, stmts, periodic, at_event, Decl, event, monitor, process, optional}
 use Rattle.syntax_tree.specs.Bare.{bare_constant, bare_stmts, bare_routine, bare_monitor, bare_activation, bare_process, bare_decl, bare}
-use Rattle.table_format.specs.declared.table.Stay.{Stay}
+use Rattle.table_format.specs.declared.table.TaskStay.{TaskStay}
 use Rattle.table_format.specs.declared.table.TaskLine.{TaskLine}
 use Rattle.table_format.specs.declared.table.TaskTable.{TaskTable}
 use Rattle.table_format.specs.Rules.{monitors, least_cost}
@@ -25,7 +25,7 @@ spending tail n ss (by_five m _ more is few spends) = (let rest = spending tail 
 spending tail n ss (by_short turns m _ more is some few least most spends) = (let rest = spending tail m more spends in λ i. stmts (short_turns tail turns) (rest i))
 spending tail n ss (by_long turns m _ more is some few least most spends) = (let rest = spending tail m more spends in λ i. stmts (long_turns tail turns) (rest i))
 
-calling : (tail : Name) (stays : List Stay) (ss : List (Stmt Nowhere)) → IsBare ss → IsBare (map (stay_call tail) stays ++ ss)
+calling : (tail : Name) (stays : List TaskStay) (ss : List (Stmt Nowhere)) → IsBare ss → IsBare (map (stay_call tail) stays ++ ss)
 calling tail [] ss same = same
 calling tail (s ∷ stays) ss same = (let rest = calling tail stays ss same in λ i. stmts (stay_call tail s) (rest i))
 

@@ -3,7 +3,7 @@ use Rattle.std.proofs.Common.{◌≡◌, ◌≢◌, ◌⊎◌, inl, inr, ◌<◌
 use Rattle.std.proofs.lemmas.List.{append_assoc, append-nil, map-append}
 use Rattle.std.proofs.lemmas.Grind.{flat_map-append}
 use Rattle.std.proofs.lemmas.List.Elements.{All-head, All-tail, All-contains, Contains-append_left, Contains-append_right, Contains-append_cases, Contains-get_or, filter-append}
-use Rattle.table_format.specs.declared.table.Stay.{Stay}
+use Rattle.table_format.specs.declared.table.TaskStay.{TaskStay}
 use Rattle.table_format.specs.declared.table.TaskLine.{TaskLine}
 use Rattle.table_format.specs.declared.table.TaskTable.{TaskTable}
 use Rattle.table_format.specs.Spelling.{Word}
@@ -68,11 +68,11 @@ module _ (t : TaskTable) (begun : IsBegun t) (u : TaskTable) (p : TaskLine) (lat
       let here = ap (flat_map task_names) whole ∙ flat_map-append task_names u.tasks (p ∷ later) in
       cc
 
-  monitors_are : names_of_monitors t ≡ names_of_monitors u ++ (monitors_named p ++ map (λ (s : Stay). s.monitor) (flat_map (λ (q : TaskLine). q.stays) later))
+  monitors_are : names_of_monitors t ≡ names_of_monitors u ++ (monitors_named p ++ map (λ (s : TaskStay). s.monitor) (flat_map (λ (q : TaskLine). q.stays) later))
   monitors_are =
-      ap (map (λ (s : Stay). s.monitor)) (ap (flat_map (λ (q : TaskLine). q.stays)) whole ∙ flat_map-append (λ (q : TaskLine). q.stays) u.tasks (p ∷ later))
-      ∙ map-append (λ (s : Stay). s.monitor) (stays u) (p.stays ++ flat_map (λ (q : TaskLine). q.stays) later)
-      ∙ ap (λ xs. names_of_monitors u ++ xs) (map-append (λ (s : Stay). s.monitor) p.stays (flat_map (λ (q : TaskLine). q.stays) later))
+      ap (map (λ (s : TaskStay). s.monitor)) (ap (flat_map (λ (q : TaskLine). q.stays)) whole ∙ flat_map-append (λ (q : TaskLine). q.stays) u.tasks (p ∷ later))
+      ∙ map-append (λ (s : TaskStay). s.monitor) (stays u) (p.stays ++ flat_map (λ (q : TaskLine). q.stays) later)
+      ∙ ap (λ xs. names_of_monitors u ++ xs) (map-append (λ (s : TaskStay). s.monitor) p.stays (flat_map (λ (q : TaskLine). q.stays) later))
 
   differ : AllPairs (λ one other. one ≢ other) (names_of_tasks u ++ (task_names p ++ flat_map task_names later))
   differ = subst (AllPairs (λ (one other : Word). one ≢ other)) tasks_are begun.differ
@@ -94,7 +94,7 @@ module _ (t : TaskTable) (begun : IsBegun t) (u : TaskTable) (p : TaskLine) (lat
   own_monitor : (m : Word) → Contains (monitors_named p) m → Contains (names_of_monitors t) m
   own_monitor m at =
       subst (λ (xs : List Word). Contains xs m) (sym monitors_are)
-      (Contains-append_right (names_of_monitors u) _ m (Contains-append_left (monitors_named p) (map (λ (s : Stay). s.monitor) (flat_map (λ (q : TaskLine). q.stays) later)) m at))
+      (Contains-append_right (names_of_monitors u) _ m (Contains-append_left (monitors_named p) (map (λ (s : TaskStay). s.monitor) (flat_map (λ (q : TaskLine). q.stays) later)) m at))
 
   -- the names of tasks up to this line are names of tasks
   up_to : names_of_tasks t ≡ names_of_tasks (with_line u p) ++ flat_map task_names later
@@ -142,12 +142,12 @@ module _ (t : TaskTable) (begun : IsBegun t) (u : TaskTable) (p : TaskLine) (lat
       ap (flat_map (λ (q : TaskLine). q.stays)) (whole ∙ sym (append_assoc u.tasks (p ∷ []) later))
       ∙ flat_map-append (λ (q : TaskLine). q.stays) (u.tasks ++ p ∷ []) later
 
-  monitors_up_to : names_of_monitors t ≡ names_of_monitors (with_line u p) ++ map (λ (s : Stay). s.monitor) (flat_map (λ (q : TaskLine). q.stays) later)
-  monitors_up_to = ap (map (λ (s : Stay). s.monitor)) stays_up_to ∙ map-append (λ (s : Stay). s.monitor) (stays (with_line u p)) (flat_map (λ (q : TaskLine). q.stays) later)
+  monitors_up_to : names_of_monitors t ≡ names_of_monitors (with_line u p) ++ map (λ (s : TaskStay). s.monitor) (flat_map (λ (q : TaskLine). q.stays) later)
+  monitors_up_to = ap (map (λ (s : TaskStay). s.monitor)) stays_up_to ∙ map-append (λ (s : TaskStay). s.monitor) (stays (with_line u p)) (flat_map (λ (q : TaskLine). q.stays) later)
 
   small : IsSmall (with_line u p)
   small =
-      let more = distinct_more same_name (names_of_monitors (with_line u p)) (map (λ (s : Stay). s.monitor) (flat_map (λ (q : TaskLine). q.stays) later)) in
+      let more = distinct_more same_name (names_of_monitors (with_line u p)) (map (λ (s : TaskStay). s.monitor) (flat_map (λ (q : TaskLine). q.stays) later)) in
       let monitors_is : monitors t ≡ monitors (with_line u p) ++ more.0 = ap (distinct same_name) monitors_up_to ∙ more.1 in
       let tasks_len = ap length whole ∙ length-append u.tasks (p ∷ later) in
       let here_len = length-append u.tasks (p ∷ []) in

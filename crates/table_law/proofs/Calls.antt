@@ -8,7 +8,7 @@ use Rattle.source_semantics.specs.Names.{monitor_number, routine_count}
 use Rattle.source_semantics.specs.Ranks.{uses_all, reached, monitors_of}
 use Rattle.code_spec.specs.Numbering.{Called, calls_entry, stmts_calls, routine_calls}
 use Rattle.sched_program.specs.Tasks.{process_calls}
-use Rattle.table_format.specs.declared.table.Stay.{Stay}
+use Rattle.table_format.specs.declared.table.TaskStay.{TaskStay}
 use Rattle.table_format.specs.declared.table.TaskLine.{TaskLine}
 use Rattle.table_format.specs.Rules.{least_cost}
 use Rattle.table_format.specs.Spending.{Nowhere, in_turn, spend}
@@ -42,15 +42,15 @@ entry_calls tail ticks fits =
 
 -- ---- processes
 
-abbrev pub call_of : (tail : Name) → Stay → Called
+abbrev pub call_of : (tail : Name) → TaskStay → Called
 call_of tail s = calls_entry s.monitor (stay_name s.ticks ++ tail)
 
-stays_calls : (tail : Name) (all : List Stay) (ss : List (Stmt Nowhere)) → stmts_calls (plain_stmts (in_turn ss)) ≡ []
+stays_calls : (tail : Name) (all : List TaskStay) (ss : List (Stmt Nowhere)) → stmts_calls (plain_stmts (in_turn ss)) ≡ []
     → stmts_calls (plain_stmts (in_turn (map (stay_call tail) all ++ ss))) ≡ map (call_of tail) all
 stays_calls tail [] ss none = none
 stays_calls tail (s ∷ all) ss none = ap (λ (cs : List Called). call_of tail s ∷ cs) (stays_calls tail all ss none)
 
-stays_uses : (g : Program) (calls : Name → List ℕ) (tail : Name) (all : List Stay) (ss : List (Stmt Nowhere)) → uses_all g calls (plain_stmts (in_turn ss)) ≡ []
+stays_uses : (g : Program) (calls : Name → List ℕ) (tail : Name) (all : List TaskStay) (ss : List (Stmt Nowhere)) → uses_all g calls (plain_stmts (in_turn ss)) ≡ []
     → uses_all g calls (plain_stmts (in_turn (map (stay_call tail) all ++ ss))) ≡ map (λ s. monitor_number g s.monitor) all
 stays_uses g calls tail [] ss none = none
 stays_uses g calls tail (s ∷ all) ss none = ap (λ (ns : List ℕ). monitor_number g s.monitor ∷ ns) (stays_uses g calls tail all ss none)
@@ -68,4 +68,4 @@ module _ (tail : Name) (line : TaskLine) (fit : LineFits line) where
   line_uses g =
       let calls = reached g (plain_process (table_process tail line)) (routine_count g) in
       ap (λ (ns : List ℕ). ns ++ []) (stays_uses g calls tail line.stays (spend tail (line.cost - least_cost line)) (uses_nothing g calls tail (line.cost - least_cost line) _ spends))
-      ∙ append-nil (map (λ (s : Stay). monitor_number g s.monitor) line.stays)
+      ∙ append-nil (map (λ (s : TaskStay). monitor_number g s.monitor) line.stays)

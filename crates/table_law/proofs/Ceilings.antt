@@ -7,7 +7,7 @@ use Rattle.syntax_tree.specs.Plain.{Name, Process, Program}
 use Rattle.syntax_tree.specs.Placed.{plain, plain_process}
 use Rattle.source_semantics.specs.Names.{processes, monitor_number, place_of}
 use Rattle.source_semantics.specs.Ranks.{rank, ceiling, monitors_of, includes, least_rank, min_with}
-use Rattle.table_format.specs.declared.table.Stay.{Stay}
+use Rattle.table_format.specs.declared.table.TaskStay.{TaskStay}
 use Rattle.table_format.specs.declared.table.TaskLine.{TaskLine}
 use Rattle.table_format.specs.declared.table.TaskTable.{TaskTable}
 use Rattle.table_format.specs.Rules as of_table
@@ -145,7 +145,7 @@ module _ (tail : Name) (t : TaskTable) (fits : TableFits t) (ranks : (k : ℕ) �
   pub line_of : (k : ℕ) (p : Process) → slice_get (processes program) k ≡ Some p → (line : TaskLine) × (slice_get t.tasks k ≡ Some line) × (p ≡ plain_process (table_process tail line))
   line_of k p is = got_map (λ q. plain_process (table_process tail q)) t.tasks k p (ap (λ (ps : List Process). slice_get ps k) (sym (processes_are tail t)) ∙ is)
 
-  same_monitor : (k : ℕ) (line : TaskLine) → slice_get t.tasks k ≡ Some line → (s : Stay) → Elem s line.stays → (name : Name) → monitor_number program s.monitor ≡ monitor_number program name → s.monitor ≡ name
+  same_monitor : (k : ℕ) (line : TaskLine) → slice_get t.tasks k ≡ Some line → (s : TaskStay) → Elem s line.stays → (name : Name) → monitor_number program s.monitor ≡ monitor_number program name → s.monitor ≡ name
   same_monitor k line there s e name same =
       place_once s.monitor name (of_table.monitors t) (monitor_in tail t fits s (stay_in tail t fits k line there s e)) (sym (number_is tail t s.monitor) ∙ (same ∙ number_is tail t name))
 

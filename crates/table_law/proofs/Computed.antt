@@ -10,7 +10,7 @@ use Rattle.sched_response.specs.declared.tasks.Task.{Task}
 use Rattle.sched_response.specs.Demand.{task_at, activation, asked, demand_at, IsBound}
 use Rattle.table_format.specs.Spelling.{Word}
 use Rattle.table_format.specs.Rules.{monitors_named}
-use Rattle.table_format.specs.declared.table.Stay.{Stay}
+use Rattle.table_format.specs.declared.table.TaskStay.{TaskStay}
 use Rattle.table_format.specs.declared.table.TaskLine.{TaskLine}
 use Rattle.table_law.proofs.Members.{Elem}
 use Rattle.table_law.specs.Tasks.{deadline_of_line, rank_of_line, IsRankIn, IsTableCeiling, IsStayBelow, IsTableBlock, IsTaskOfLine}
@@ -60,8 +60,8 @@ module _ (held n : ℕ) (l : IsStayBelow example_table held n) where
   stay_of line same = elem_from line.stays l.stay (subst (λ (x : TaskLine). Contains x.stays l.stay) (sym same) l.stays)
 
   third_stays : Elem l.stay third_line.stays → n ≤ 12
-  third_stays (inl is) = omega (arith, l.so_long, ap (λ (s : Stay). s.ticks) is)
-  third_stays (inr (inl is)) = omega (arith, l.so_long, ap (λ (s : Stay). s.ticks) is)
+  third_stays (inl is) = omega (arith, l.so_long, ap (λ (s : TaskStay). s.ticks) is)
+  third_stays (inr (inl is)) = omega (arith, l.so_long, ap (λ (s : TaskStay). s.ticks) is)
   third_stays (inr (inr e)) = absurd e
 
   most : (k : ℕ) → 1 ≤ held → l.number ≡ k → n ≤ 12

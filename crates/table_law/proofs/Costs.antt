@@ -16,7 +16,7 @@ use Rattle.code_cost_spec.specs.Names.{View, Names, Calls, range_seen, view_of}
 use Rattle.code_cost_spec.specs.Costs.{run, load_ticks, check_ticks, store_ticks, call_cost, stmts_cost}
 use Rattle.code_cost_spec.specs.Lengths.{check_length}
 use Rattle.code_cost_spec.specs.Levels.{routine_names, process_names, calls_at, calls_of, stay_of_entry, cost_of_process}
-use Rattle.table_format.specs.declared.table.Stay.{Stay}
+use Rattle.table_format.specs.declared.table.TaskStay.{TaskStay}
 use Rattle.table_format.specs.declared.table.TaskLine.{TaskLine}
 use Rattle.table_format.specs.declared.table.TaskTable.{TaskTable}
 use Rattle.table_format.specs.Rules.{same_name, stays, monitors, names_of_monitors, least_cost}
@@ -101,20 +101,20 @@ module _ (tail : Name) (t : TaskTable) (fits : TableFits t) where
   abbrev program : Program
   program = plain (program_with tail t)
 
-  monitor_in : (s : Stay) → Elem s (stays t) → Elem s.monitor (monitors t)
+  monitor_in : (s : TaskStay) → Elem s (stays t) → Elem s.monitor (monitors t)
   monitor_in s e = elem_distinct same_name same_is s.monitor (names_of_monitors t) (elem_map (λ z. z.monitor) s (stays t) e)
 
-  ticks_in : (s : Stay) → Elem s (stays t) → Elem s.ticks (stays_in t s.monitor)
+  ticks_in : (s : TaskStay) → Elem s (stays t) → Elem s.ticks (stays_in t s.monitor)
   ticks_in s e = elem_distinct nat_eq eqb-true s.ticks _
       (elem_map (λ z. z.ticks) s _ (elem_filter (λ z. same_name s.monitor z.monitor) s (stays t) (same_self s.monitor) e))
 
-  sole : (s : Stay) → StayFits s → Every (λ y. stay_name y ++ tail ≡ stay_name s.ticks ++ tail → y ≡ s.ticks) (stays_in t s.monitor)
+  sole : (s : TaskStay) → StayFits s → Every (λ y. stay_name y ++ tail ≡ stay_name s.ticks ++ tail → y ≡ s.ticks) (stays_in t s.monitor)
   sole s fit = weaker TicksFit (λ y. stay_name y ++ tail ≡ stay_name s.ticks ++ tail → y ≡ s.ticks)
       (λ y small same. decimal_injective y s.ticks (omega (arith, small.few)) (omega (arith, fit.ticks.few))
       (append_cancel_left (codes "stay") (decimal y) (decimal s.ticks) (append_cancel_right (stay_name y) (stay_name s.ticks) tail same)))
       (stays_in t s.monitor) (stays_in_fit t fits s.monitor)
 
-  pub entry_found : (s : Stay) → Elem s (stays t) → StayFits s
+  pub entry_found : (s : TaskStay) → Elem s (stays t) → StayFits s
       → entry_in program s.monitor (stay_name s.ticks ++ tail) ≡ Some (record { owner = by_monitor (monitor_number program s.monitor); routine = plain_routine (stay_entry tail s.ticks) })
   entry_found s e fit =
       let number = monitor_number program s.monitor in
@@ -125,7 +125,7 @@ module _ (tail : Name) (t : TaskTable) (fits : TableFits t) where
       ∙ ap (λ o. entry_of number o name) found_monitor
       ∙ ap (option_map (λ r. record { owner = by_monitor number; routine = r })) found_entry
 
-  some_routine : (s : Stay) → Elem s (stays t) → 1 ≤ routine_count program
+  some_routine : (s : TaskStay) → Elem s (stays t) → 1 ≤ routine_count program
   some_routine s e =
       let in_it = elem_map plain_routine (stay_entry tail s.ticks) (map (stay_entry tail) (stays_in t s.monitor)) (elem_map (stay_entry tail) s.ticks (stays_in t s.monitor) (ticks_in s e)) in
       omega (arith, elem_some (plain_routine (stay_entry tail s.ticks)) (mon tail t s.monitor).entries in_it, routines_counted tail t s.monitor (monitor_in s e))
@@ -135,7 +135,7 @@ module _ (tail : Name) (t : TaskTable) (fits : TableFits t) where
   called_at monitor ticks fit zero some = absurd (omega arith)
   called_at monitor ticks fit (suc deep) some = called tail program monitor ticks fit deep
 
-  one_call : (s : Stay) → Elem s (stays t) → StayFits s → (args : List plain_of.Param → Cost) → Takes (args []) 0
+  one_call : (s : TaskStay) → Elem s (stays t) → StayFits s → (args : List plain_of.Param → Cost) → Takes (args []) 0
       → Takes (call_cost (calls_of program) (entry_in program s.monitor (stay_name s.ticks ++ tail)) args) (15 + s.ticks)
   one_call s e fit args none =
       let it = called_at (monitor_number program s.monitor) s.ticks fit.ticks (routine_count program) (some_routine s e) in
@@ -145,7 +145,7 @@ module _ (tail : Name) (t : TaskTable) (fits : TableFits t) where
   nothing_taken : Takes (run 0) 0
   nothing_taken = record { runs = refl; suspended = refl; waits = refl }
 
-  all_calls : (n : Names) (all : List Stay) → Every StayFits all → Every (λ s. Elem s (stays t)) all → (ss : List (Stmt Nowhere)) (left : ℕ)
+  all_calls : (n : Names) (all : List TaskStay) → Every StayFits all → Every (λ s. Elem s (stays t)) all → (ss : List (Stmt Nowhere)) (left : ℕ)
       → Takes (stmts_cost program n (calls_of program) (plain_stmts (in_turn ss))) left
       → Takes (stmts_cost program n (calls_of program) (plain_stmts (in_turn (map (stay_call tail) all ++ ss)))) (sum_of (λ s. 15 + s.ticks) all + left)
   all_calls n [] fit there ss left takes = record { runs = omega (arith, takes.runs); suspended = takes.suspended; waits = takes.waits }
@@ -156,7 +156,7 @@ module _ (tail : Name) (t : TaskTable) (fits : TableFits t) where
 
   -- ---- processes
 
-  summed : (all : List Stay) (a : ℕ) → fold (λ n s. n + (15 + s.ticks)) a all ≡ a + sum_of (λ s. 15 + s.ticks) all
+  summed : (all : List TaskStay) (a : ℕ) → fold (λ n s. n + (15 + s.ticks)) a all ≡ a + sum_of (λ s. 15 + s.ticks) all
   summed [] a = omega arith
   summed (s ∷ all) a = omega (arith, summed all (a + (15 + s.ticks)))
 

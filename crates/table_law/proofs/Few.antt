@@ -3,7 +3,7 @@ use Rattle.std.proofs.Common.{◌≡◌, ◌≤◌, ◌+◌, ℕ, Bool, true, fa
 use Rattle.std.specs.Prelude.{cond, filter}
 use Rattle.std.specs.Cmp.Lexicographic.{pointwise}
 use Rattle.std.proofs.lemmas.Bool.{and_parts, eqb-true, eq-eqb}
-use Rattle.table_format.specs.declared.table.Stay.{Stay}
+use Rattle.table_format.specs.declared.table.TaskStay.{TaskStay}
 use Rattle.table_format.specs.declared.table.TaskTable.{TaskTable}
 use Rattle.table_format.specs.Rules.{same_name, distinct, stays, names_of_monitors, monitors}
 use Rattle.table_format.specs.Program.{stays_in}
@@ -90,14 +90,14 @@ split_length {A} test (x ∷ xs) = by (test x) (split_length test xs)
 
 -- ---- in monitors
 
-abbrev of_monitor : List ℕ → List Stay → List Stay
+abbrev of_monitor : List ℕ → List TaskStay → List TaskStay
 of_monitor name xs = filter (λ s. same_name name s.monitor) xs
 
-abbrev outside : List ℕ → List Stay → List Stay
+abbrev outside : List ℕ → List TaskStay → List TaskStay
 outside name xs = filter (λ s. not (same_name name s.monitor)) xs
 
 -- another monitor's stays are among those outside
-kept : (one name : List ℕ) → same_name one name ≡ false → (xs : List Stay) → of_monitor name (outside one xs) ≡ of_monitor name xs
+kept : (one name : List ℕ) → same_name one name ≡ false → (xs : List TaskStay) → of_monitor name (outside one xs) ≡ of_monitor name xs
 kept one name differ [] = refl
 kept one name differ (s ∷ xs) = by (same_name one s.monitor) refl (same_name name s.monitor) refl (kept one name differ xs)
   where
@@ -108,19 +108,19 @@ kept one name differ (s ∷ xs) = by (same_name one s.monitor) refl (same_name n
         let wrong : false ≡ true = sym differ ∙ ap (same_name one) same ∙ same_self one in
         absurd cc
     by true is false also more = more
-    by false is true also more = ap (λ c. cond c (s ∷ of_monitor name (outside one xs)) (of_monitor name (outside one xs))) also ∙ ap (λ (ys : List Stay). s ∷ ys) more
+    by false is true also more = ap (λ c. cond c (s ∷ of_monitor name (outside one xs)) (of_monitor name (outside one xs))) also ∙ ap (λ (ys : List TaskStay). s ∷ ys) more
     by false is false also more = ap (λ c. cond c (s ∷ of_monitor name (outside one xs)) (of_monitor name (outside one xs))) also ∙ more
 
 abbrev pub sum_of : {A : Type 0} → (A → ℕ) → List A → ℕ
 sum_of f [] = 0
 sum_of f (x ∷ xs) = f x + sum_of f xs
 
-moved : (one : List ℕ) (xs : List Stay) (names : List (List ℕ)) → Every (λ name. same_name one name ≡ false) names
+moved : (one : List ℕ) (xs : List TaskStay) (names : List (List ℕ)) → Every (λ name. same_name one name ≡ false) names
     → sum_of (λ name. length (of_monitor name xs)) names ≡ sum_of (λ name. length (of_monitor name (outside one xs))) names
 moved one xs [] differ = refl
-moved one xs (name ∷ names) differ = omega (arith, ap (λ (ys : List Stay). length ys) (kept one name differ.0 xs), moved one xs names differ.1)
+moved one xs (name ∷ names) differ = omega (arith, ap (λ (ys : List TaskStay). length ys) (kept one name differ.0 xs), moved one xs names differ.1)
 
-all_within : (names : List (List ℕ)) (xs : List Stay) → AllDiffer same_name names → sum_of (λ name. length (of_monitor name xs)) names ≤ length xs
+all_within : (names : List (List ℕ)) (xs : List TaskStay) → AllDiffer same_name names → sum_of (λ name. length (of_monitor name xs)) names ≤ length xs
 all_within [] xs differ = omega arith
 all_within (name ∷ names) xs differ =
     omega (arith, moved name xs names differ.0, all_within names (outside name xs) differ.1, split_length (λ s. same_name name s.monitor) xs)

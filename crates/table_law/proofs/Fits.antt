@@ -1,7 +1,7 @@
 -- What the parts of a table keep to.
 use Rattle.std.proofs.Common.{◌≡◌, ◌≤◌, ◌+◌, ◌-◌, ◌⊎◌, inl, inr, ℕ, List, [], ◌∷◌, Option, Some, None, map, arith}
 use Rattle.std.specs.Prelude.{IfSome, option_to_list}
-use Rattle.table_format.specs.declared.table.Stay.{Stay}
+use Rattle.table_format.specs.declared.table.TaskStay.{TaskStay}
 use Rattle.table_format.specs.declared.table.TaskLine.{TaskLine}
 use Rattle.table_format.specs.declared.table.TaskTable.{TaskTable}
 use Rattle.table_format.specs.Rules.{IsName, task_names, monitors_named, names_of_line, stays, names_of_monitors, monitors, same_name, least_cost, IsTaskLine, IsBegun}
@@ -14,7 +14,7 @@ pub record TicksFit (ticks : ℕ) : Type 0 where
   pub few : ticks ≤ 1000000000
   pub met : IsMet (ticks - 3)
 
-pub record StayFits (s : Stay) : Type 0 where
+pub record StayFits (s : TaskStay) : Type 0 where
   pub monitor : IsName s.monitor
   pub ticks : TicksFit s.ticks
 
@@ -56,7 +56,7 @@ ticks_fit : (ticks : ℕ) → (3 ≤ ticks) × (ticks ≤ 1000000000) → (ticks
 ticks_fit ticks range (inl three) = record { some = range.0; few = range.1; met = inl (omega (arith, three)) }
 ticks_fit ticks range (inr more) = record { some = range.0; few = range.1; met = inr (omega (arith, more)) }
 
-stays_fit : (ss : List Stay) → Every (λ s. IsName s.monitor) ss → Every (λ s. (3 ≤ s.ticks) × (s.ticks ≤ 1000000000)) ss → Every (λ s. (s.ticks ≡ 3) ⊎ (6 ≤ s.ticks)) ss → Every StayFits ss
+stays_fit : (ss : List TaskStay) → Every (λ s. IsName s.monitor) ss → Every (λ s. (3 ≤ s.ticks) × (s.ticks ≤ 1000000000)) ss → Every (λ s. (s.ticks ≡ 3) ⊎ (6 ≤ s.ticks)) ss → Every StayFits ss
 stays_fit [] names ranges met = tt
 stays_fit (s ∷ ss) names ranges met =
     (record { monitor = names.0; ticks = ticks_fit s.ticks ranges.0 met.0 }, stays_fit ss names.1 ranges.1 met.1)

@@ -7,7 +7,7 @@ use Rattle.std.proofs.lemmas.Fmt.{decimal_injective}
 use Rattle.syntax_tree.specs.Plain.{Name}
 use Rattle.syntax.specs.Spellings.{is_digit, is_number}
 use Rattle.syntax_printer.proofs.Spelled.{decimal_reads}
-use Rattle.table_format.specs.declared.table.Stay.{Stay}
+use Rattle.table_format.specs.declared.table.TaskStay.{TaskStay}
 use Rattle.table_format.specs.declared.table.TaskTable.{TaskTable}
 use Rattle.table_format.specs.Rules.{same_name, names, stays, IsBegun}
 use Rattle.table_format.specs.Program.{stay_name, made_names, tail_of, is_made_with, is_in_the_way, made_tail}
@@ -44,7 +44,7 @@ number_clear (d ∷ ds) are = digits_clear (d ∷ ds) are
 stay_clear : (ticks : ℕ) → ticks ≤ 1000000000 → IsClear (stay_name ticks)
 stay_clear ticks few = (refl, (refl, (refl, (refl, number_clear (decimal ticks) (decimal_reads ticks (omega (arith, few))).are))))
 
-stays_clear : (ss : List Stay) → Every StayFits ss → Every IsClear (map (λ s. stay_name s.ticks) ss)
+stays_clear : (ss : List TaskStay) → Every StayFits ss → Every IsClear (map (λ s. stay_name s.ticks) ss)
 stays_clear [] fits = tt
 stays_clear (s ∷ ss) fits = (stay_clear s.ticks fits.0.ticks.few, stays_clear ss fits.1)
 

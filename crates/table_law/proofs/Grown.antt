@@ -9,7 +9,7 @@ use Rattle.syntax.specs.StmtGrammar.{AreStmts}
 use Rattle.syntax.specs.ExprGrammar.{Each}
 use Rattle.syntax.specs.Grammar.{MOST_LEVELS, IsDeadline, IsFirst, IsActivation, IsEntry, IsMonitor, IsProcess, IsDecl, IsProg}
 use Rattle.syntax_reading.specs.TreeWords.{stmts_words, activation_words, deadline_words, first_words, process_words, decl_words, each_words, entry_words, optional_words, monitor_words, prog_words}
-use Rattle.table_format.specs.declared.table.Stay.{Stay}
+use Rattle.table_format.specs.declared.table.TaskStay.{TaskStay}
 use Rattle.table_format.specs.declared.table.TaskLine.{TaskLine}
 use Rattle.table_format.specs.declared.table.TaskTable.{TaskTable}
 use Rattle.table_format.specs.Rules.{monitors, least_cost}
@@ -80,7 +80,7 @@ spending tail n ss (by_long turns m _ more is some few least most spends) ws = (
   spending tail m more spends ws,
 )
 
-calling : (tail : Name) (stays : List Stay) (ss : List (Stmt Nowhere)) → Grown ss → Grown (map (stay_call tail) stays ++ ss)
+calling : (tail : Name) (stays : List TaskStay) (ss : List (Stmt Nowhere)) → Grown ss → Grown (map (stay_call tail) stays ++ ss)
 calling tail [] ss grown ws = grown ws
 calling tail (s ∷ stays) ss grown ws =
     (_, (_, refl, (_, (tt, refl), (_, refl, (_, (tt, refl), (_, refl, (tt, refl)))))), calling tail stays ss grown ws)

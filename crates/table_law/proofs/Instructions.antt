@@ -10,7 +10,7 @@ use Rattle.code_spec.specs.Numbering.{Text, Called, called_text, stmts_calls, ro
 use Rattle.code_cost_spec.specs.Names.{Names}
 use Rattle.code_cost_spec.specs.Lengths.{call_length, stmts_length, process_length, routine_length}
 use Rattle.code_cost_spec.specs.Levels.{routine_names, process_names, routines_length, processes_length, code_length}
-use Rattle.table_format.specs.declared.table.Stay.{Stay}
+use Rattle.table_format.specs.declared.table.TaskStay.{TaskStay}
 use Rattle.table_format.specs.declared.table.TaskLine.{TaskLine}
 use Rattle.table_format.specs.declared.table.TaskTable.{TaskTable}
 use Rattle.table_format.specs.Rules as of_table
@@ -133,7 +133,7 @@ module _ (tail : Name) (t : TaskTable) (fits : TableFits t) where
   call_short None = omega arith
   call_short (Some x) = omega arith
 
-  calls_short : (n : Names) (all : List Stay) (ss : List (Stmt Nowhere))
+  calls_short : (n : Names) (all : List TaskStay) (ss : List (Stmt Nowhere))
       → stmts_length program n (plain_stmts (in_turn (map (stay_call tail) all ++ ss))) ≤ length all + stmts_length program n (plain_stmts (in_turn ss))
   calls_short n [] ss = omega arith
   calls_short n (s ∷ all) ss = omega (arith, calls_short n all ss, call_short (entry_in program s.monitor (stay_name s.ticks ++ tail)))

@@ -3,7 +3,7 @@ use Rattle.std.proofs.Common.{◌≤◌, ◌<◌, ℕ, zero, suc, List, [], ◌�
 use Rattle.std.specs.Prelude.{Contains}
 use Rattle.std.proofs.lemmas.Fmt.{length-decimal-le}
 use Rattle.syntax_tree.specs.Plain.{Name}
-use Rattle.table_format.specs.declared.table.Stay.{Stay}
+use Rattle.table_format.specs.declared.table.TaskStay.{TaskStay}
 use Rattle.table_format.specs.declared.table.TaskTable.{TaskTable}
 use Rattle.table_format.specs.Rules.{stays, IsBegun}
 use Rattle.table_format.specs.Program.{stay_name, made_names, tail_of, made_tail}
@@ -19,7 +19,7 @@ one_of_all [] x all (k, below, is) = absurd (omega (arith, below))
 one_of_all (y ∷ xs) x all (zero, below, is) = subst IsShort is all.0
 one_of_all (y ∷ xs) x all (suc k, below, is) = one_of_all xs x all.1 (k, omega (arith, below), is)
 
-stays_short : (ss : List Stay) → Every StayFits ss → Every IsShort (map (λ s. stay_name s.ticks) ss)
+stays_short : (ss : List TaskStay) → Every StayFits ss → Every IsShort (map (λ s. stay_name s.ticks) ss)
 stays_short [] fits = tt
 stays_short (s ∷ ss) fits =
     let few = fits.0.ticks.few in

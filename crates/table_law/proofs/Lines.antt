@@ -5,7 +5,7 @@ use Rattle.std.proofs.lemmas.List.Elements.{All-nil, All-cons, All-head, All-tai
 use Rattle.std.proofs.lemmas.Fmt.{decimal_injective}
 use Rattle.std.specs.Prelude.{IsTrue}
 use Rattle.text_fields.specs.Fields.{Lacks, IsWord}
-use Rattle.table_format.specs.declared.table.Stay.{Stay}
+use Rattle.table_format.specs.declared.table.TaskStay.{TaskStay}
 use Rattle.table_format.specs.declared.table.TaskLine.{TaskLine}
 use Rattle.table_format.specs.declared.table.TaskTable.{TaskTable}
 use Rattle.table_format.specs.Spelling.{Word, line_of, SaidStay, SaidLine, with_key, stay_words, process_words, said_stay, said, first_line, process_line, last_line, lines_before_end, table_bytes}
@@ -16,7 +16,7 @@ use Rattle.table_law.proofs.Numbers.{letters_word, number_word, decimal_numeral,
 
 -- ---- a process line by its words
 
-abbrev pub Low : Stay → Type 0
+abbrev pub Low : TaskStay → Type 0
 Low s = s.ticks < 2 ^ 64
 
 -- the numbers are all small
@@ -49,17 +49,17 @@ same_option : (o : Option ℕ) → IfSome o (λ d. d < 2 ^ 64) → option_map Ra
 same_option None low = refl
 same_option (Some d) low = ap Some (value_decimal d low)
 
-stay_is : (m : Word) (a b : ℕ) → a ≡ b → (let s : Stay = record { monitor = m; ticks = a } in s) ≡ record { monitor = m; ticks = b }
+stay_is : (m : Word) (a b : ℕ) → a ≡ b → (let s : TaskStay = record { monitor = m; ticks = a } in s) ≡ record { monitor = m; ticks = b }
 stay_is m a b e = cc
 
-same_stays : (ss : List Stay) → All Low ss → map stay_meant (map said_stay ss) ≡ ss
+same_stays : (ss : List TaskStay) → All Low ss → map stay_meant (map said_stay ss) ≡ ss
 same_stays [] low = refl
 same_stays (s ∷ ss) low =
     let first = stay_is s.monitor _ s.ticks (value_decimal s.ticks (All-head Low s ss low)) in
     let more = same_stays ss (All-tail Low s ss low) in
     cc
 
-line_is : (name : Word) (event : Option Word) (frame frame' : ℕ) (deadline deadline' : Option ℕ) (first first' : Option ℕ) (cost cost' : ℕ) (stays stays' : List Stay)
+line_is : (name : Word) (event : Option Word) (frame frame' : ℕ) (deadline deadline' : Option ℕ) (first first' : Option ℕ) (cost cost' : ℕ) (stays stays' : List TaskStay)
     → frame ≡ frame' → deadline ≡ deadline' → first ≡ first' → cost ≡ cost' → stays ≡ stays'
     → (let p : TaskLine = record { name = name; event = event; frame = frame; deadline = deadline; first = first; cost = cost; stays = stays } in p)
     ≡ record { name = name; event = event; frame = frame'; deadline = deadline'; first = first'; cost = cost'; stays = stays' }
@@ -140,7 +140,7 @@ decimals : (o : Option ℕ) → IfSome o (λ d. d < 2 ^ 64) → All Numeral (opt
 decimals None low = All-nil Numeral
 decimals (Some d) low = All-cons Numeral (decimal d) [] (decimal_numeral d low) (All-nil Numeral)
 
-stay_decimals : (ss : List Stay) → All Low ss → All Numeral (map (λ s. s.ticks) (map said_stay ss))
+stay_decimals : (ss : List TaskStay) → All Low ss → All Numeral (map (λ s. s.ticks) (map said_stay ss))
 stay_decimals [] low = All-nil Numeral
 stay_decimals (s ∷ ss) low = All-cons Numeral (decimal s.ticks) (map (λ x. x.ticks) (map said_stay ss)) (decimal_numeral s.ticks (All-head Low s ss low)) (stay_decimals ss (All-tail Low s ss low))
 

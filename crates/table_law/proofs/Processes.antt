@@ -13,7 +13,7 @@ use Rattle.static_names.specs.declared.kind.NameUse.TheVariants as want_is
 use Rattle.static_names.specs.Reach.{same, Names, first, within, or_else, Site, inside, through, members_of}
 use Rattle.static_names.specs.Occurrences.{Occurrence, closes, declarations, var_name, routine_name, entry_name, decl_name, others, constant_names, optional_names, activation_names, kind_names, vars_names, routines_names, stmts_names, handler_names, process_scope, process_inner, process_names, inner_names, entries_at, program_name}
 use Rattle.static_names.specs.Resolved.{IsNamed}
-use Rattle.table_format.specs.declared.table.Stay.{Stay}
+use Rattle.table_format.specs.declared.table.TaskStay.{TaskStay}
 use Rattle.table_format.specs.declared.table.TaskLine.{TaskLine}
 use Rattle.table_format.specs.declared.table.TaskTable.{TaskTable}
 use Rattle.table_format.specs.Rules as of_table
@@ -108,7 +108,7 @@ elem_some (Some k) e is = (let same_one : e ≡ k = cc in inl same_one)
 
 -- a process may call these
 abbrev May : TaskLine → Name → Name → Name → Type 0
-May line tail name entry = (s : Stay) × Elem s line.stays × (name ≡ s.monitor) × (entry ≡ stay_name s.ticks ++ tail)
+May line tail name entry = (s : TaskStay) × Elem s line.stays × (name ≡ s.monitor) × (entry ≡ stay_name s.ticks ++ tail)
 
 record EventAt (d : Decl Place) (e : Name) : Type 0 where
   at : Place
@@ -173,20 +173,20 @@ module _ (t : TaskTable) (begun : IsBegun t) (g : Prog Place) (like : bare g ≡
         let in_tasks = elem_flat (λ p. p.name ∷ option_to_list p.event) e line t.tasks (inr (elem_some line.event e is)) listed in
         elem_of (λ n. Contains (names t) n) e (t.name ∷ flat_map of_table.task_names t.tasks) (tasks_there t) (inr in_tasks)
 
-    monitor_in : (s : Stay) → Elem s line.stays → Elem s.monitor (of_table.monitors t)
+    monitor_in : (s : TaskStay) → Elem s line.stays → Elem s.monitor (of_table.monitors t)
     monitor_in s e = elem_distinct same_name same_is s.monitor (names_of_monitors t) (elem_map (λ z. z.monitor) s (stays t) (elem_flat (λ p. p.stays) s line t.tasks e listed))
 
-    monitor_there : (s : Stay) → Elem s line.stays → Elem (monitor (table_monitor tail t s.monitor)) (program_with tail t).decls
+    monitor_there : (s : TaskStay) → Elem s line.stays → Elem (monitor (table_monitor tail t s.monitor)) (program_with tail t).decls
     monitor_there s e =
         elem_right (monitor (table_monitor tail t s.monitor)) (flat_map (λ p. event_of p.event) t.tasks) _
         (elem_left (monitor (table_monitor tail t s.monitor)) (map (λ name. monitor (table_monitor tail t name)) (of_table.monitors t)) _
         (elem_map (λ name. monitor (table_monitor tail t name)) s.monitor (of_table.monitors t) (monitor_in s e)))
 
-    ticks_in : (s : Stay) → Elem s line.stays → Elem s.ticks (stays_in t s.monitor)
+    ticks_in : (s : TaskStay) → Elem s line.stays → Elem s.ticks (stays_in t s.monitor)
     ticks_in s e = elem_distinct nat_eq eqb-true s.ticks _
         (elem_map (λ z. z.ticks) s _ (elem_filter (λ z. same_name s.monitor z.monitor) s (stays t) (same_self s.monitor) (elem_flat (λ p. p.stays) s line t.tasks e listed)))
 
-    monitor_named : (s : Stay) → Elem s line.stays → Contains (names t) s.monitor
+    monitor_named : (s : TaskStay) → Elem s line.stays → Contains (names t) s.monitor
     monitor_named s e = elem_of (λ n. Contains (names t) n) s.monitor (of_table.monitors t) (monitors_there t) (monitor_in s e)
 
     process_fine : LineFits line → (p : Process Place) → bare_process p ≡ table_process tail line → (more : List Occurrence) → Fine more → Fine (process_names site p more)

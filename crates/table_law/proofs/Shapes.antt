@@ -5,7 +5,7 @@ use Rattle.syntax_tree.specs.Plain.{Name}
 use Rattle.syntax_tree.specs.declared.place.Place.{Place}
 use Rattle.syntax_tree.specs.Placed.{Constant, literal_constant, named_constant, scalar, int, boolean, subrange, array, Kind, Var, literal, truth, variable, element, call, minus, negation, paren, row, no_exprs, exprs, whole, part, Stmt, assign, assign_entry, assign_empty, perform, perform_entry, when, when_else, loop, exit_when, get, put, wait, signal, broadcast, except, assert, Stmts, no_stmts, stmts, Routine, Monitor, Process, Decl, constant, device, event, routine, monitor, process, Prog, optional}
 use Rattle.syntax_tree.specs.Bare.{bare_constant, bare_kind, bare_var, bare_stmt, bare_stmts, bare_routine, bare_monitor, bare_process, bare_decl, bare}
-use Rattle.table_format.specs.declared.table.Stay.{Stay}
+use Rattle.table_format.specs.declared.table.TaskStay.{TaskStay}
 use Rattle.table_format.specs.declared.table.TaskLine.{TaskLine}
 use Rattle.table_format.specs.declared.table.TaskTable.{TaskTable}
 use Rattle.table_format.specs.Rules.{IsName, monitors, least_cost}
@@ -181,7 +181,7 @@ module _ (tail : Name) (May : Name → Name → Type 0) where
       (let it = front_of ss (long_turns tail k) (in_turn more) same in
       subst (λ us. IsBody tail May us) (sym it.is) (turn_twice it.first k it.first_like some few it.others (spending m more spends it.others it.others_like)))
 
-  pub calling : (stays : List Stay) (list : List (Stmt Nowhere)) → Every (λ s. May s.monitor (stay_name s.ticks ++ tail)) stays
+  pub calling : (stays : List TaskStay) (list : List (Stmt Nowhere)) → Every (λ s. May s.monitor (stay_name s.ticks ++ tail)) stays
       → ((ss : Stmts Place) → bare_stmts ss ≡ in_turn list → IsBody tail May ss)
       → (ss : Stmts Place) → bare_stmts ss ≡ in_turn (map (stay_call tail) stays ++ list) → IsBody tail May ss
   calling [] list may behind ss same = behind ss same
@@ -224,7 +224,7 @@ entry_is tail ticks fits r same =
 
 -- what a process may call
 abbrev pub Stayed : TaskLine → Name → (monitor entry : Name) → Type 0
-Stayed p tail name entry = (s : Stay) × (name ≡ s.monitor) × (entry ≡ stay_name s.ticks ++ tail)
+Stayed p tail name entry = (s : TaskStay) × (name ≡ s.monitor) × (entry ≡ stay_name s.ticks ++ tail)
 
 pub record IsProcessOf (tail : Name) (line : TaskLine) (p : Process Place) : Type 0 where
   pub like : bare_process p ≡ table_process tail line
@@ -234,7 +234,7 @@ pub record IsProcessOf (tail : Name) (line : TaskLine) (p : Process Place) : Typ
   pub routines : p.routines ≡ []
   pub handler : p.handler ≡ None
 
-may_stay : (tail : Name) (line : TaskLine) (stays : List Stay) → Every (λ s. Stayed line tail s.monitor (stay_name s.ticks ++ tail)) stays
+may_stay : (tail : Name) (line : TaskLine) (stays : List TaskStay) → Every (λ s. Stayed line tail s.monitor (stay_name s.ticks ++ tail)) stays
 may_stay tail line [] = tt
 may_stay tail line (s ∷ stays) = ((s, refl, refl), may_stay tail line stays)
 

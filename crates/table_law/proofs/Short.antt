@@ -7,7 +7,7 @@ use Rattle.syntax_tree.specs.Placed.{Stmt, Decl, monitor, process}
 use Rattle.syntax.specs.Words as w
 use Rattle.syntax.specs.Words.{Word, named, number}
 use Rattle.syntax_reading.specs.TreeWords.{stmts_words, activation_words, deadline_words, first_words, process_words, decl_words, each_words, entry_words, optional_words, monitor_words, prog_words}
-use Rattle.table_format.specs.declared.table.Stay.{Stay}
+use Rattle.table_format.specs.declared.table.TaskStay.{TaskStay}
 use Rattle.table_format.specs.declared.table.TaskLine.{TaskLine}
 use Rattle.table_format.specs.declared.table.TaskTable.{TaskTable}
 use Rattle.table_format.specs.Rules.{IsName, monitors, stays, least_cost}
@@ -72,7 +72,7 @@ module _ (tail : Name) (made : MadeShort tail) where
   spending n ss (by_long turns m _ more is some few least most spends) ws =
       omega (arith, made.i, made.j, one_digits, thousand_digits, digits 5 turns (omega arith) (omega (arith, few)) (omega (arith, few)), short_part m more (omega (arith, most)) spends ws)
 
-  calling : (all : List Stay) (ss : List (Stmt Nowhere)) → Every StayFits all → ((ws : List Word) → weight (stmts_words (in_turn ss) ws) ≤ 148 + weight ws)
+  calling : (all : List TaskStay) (ss : List (Stmt Nowhere)) → Every StayFits all → ((ws : List Word) → weight (stmts_words (in_turn ss) ws) ≤ 148 + weight ws)
       → (ws : List Word) → weight (stmts_words (in_turn (map (stay_call tail) all ++ ss)) ws) ≤ 89 * length all + 148 + weight ws
   calling [] ss fits behind ws = omega (arith, behind ws)
   calling (s ∷ all) ss fits behind ws = omega (arith, fits.0.monitor.2, made.stay s.ticks fits.0.ticks.few, calling all ss fits.1 behind ws)

@@ -10,7 +10,7 @@ use Rattle.syntax.specs.Words as w
 use Rattle.syntax.specs.Words.{Word, named, number}
 use Rattle.syntax_reading.specs.TreeWords.{stmts_words, activation_words, deadline_words, first_words, process_words, decl_words, each_words, entry_words, optional_words, monitor_words, prog_words}
 use Rattle.syntax_printer.proofs.Spelled.{IsSpelled, AreSpelled, decimal_reads}
-use Rattle.table_format.specs.declared.table.Stay.{Stay}
+use Rattle.table_format.specs.declared.table.TaskStay.{TaskStay}
 use Rattle.table_format.specs.declared.table.TaskLine.{TaskLine}
 use Rattle.table_format.specs.declared.table.TaskTable.{TaskTable}
 use Rattle.table_format.specs.Rules.{IsName, monitors, least_cost}
@@ -95,7 +95,7 @@ module _ (tail : Name) (made : MadeSpelled tail) where
     ),
   )
 
-  calling : (stays : List Stay) (ss : List (Stmt Nowhere)) → Every StayFits stays → ((ws : List Word) → AreSpelled ws → AreSpelled (stmts_words (in_turn ss) ws))
+  calling : (stays : List TaskStay) (ss : List (Stmt Nowhere)) → Every StayFits stays → ((ws : List Word) → AreSpelled ws → AreSpelled (stmts_words (in_turn ss) ws))
       → (ws : List Word) → AreSpelled ws → AreSpelled (stmts_words (in_turn (map (stay_call tail) stays ++ ss)) ws)
   calling [] ss fits behind ws rest = behind ws rest
   calling (s ∷ stays) ss fits behind ws rest =

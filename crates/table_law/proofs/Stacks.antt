@@ -9,7 +9,7 @@ use Rattle.code_spec.specs.Numbering.{Text, entry_in}
 use Rattle.code_cost_spec.specs.Names.{Calls}
 use Rattle.code_cost_spec.specs.Heights.{call_height, stmts_height, routine_height}
 use Rattle.code_cost_spec.specs.Levels.{calls_at, calls_of, stack_of_process}
-use Rattle.table_format.specs.declared.table.Stay.{Stay}
+use Rattle.table_format.specs.declared.table.TaskStay.{TaskStay}
 use Rattle.table_format.specs.declared.table.TaskLine.{TaskLine}
 use Rattle.table_format.specs.declared.table.TaskTable.{TaskTable}
 use Rattle.table_format.specs.Rules.{stays, least_cost}
@@ -45,20 +45,20 @@ module _ (tail : Name) (t : TaskTable) (fits : TableFits t) where
   abbrev program : Program
   program = plain (program_with tail t)
 
-  one_call : (s : Stay) → Elem s (stays t) → StayFits s → call_height program (calls_of program) (entry_in program s.monitor (stay_name s.ticks ++ tail)) 0 ≤ 10
+  one_call : (s : TaskStay) → Elem s (stays t) → StayFits s → call_height program (calls_of program) (entry_in program s.monitor (stay_name s.ticks ++ tail)) 0 ≤ 10
   one_call s e fit =
       let number = monitor_number program s.monitor in
       let words = entry_words tail program number s.ticks fit.ticks in
       let height = called_height tail program number s.ticks fit.ticks (routine_count program) in
       subst (λ o. call_height program (calls_of program) o 0 ≤ 10) (sym (entry_found tail t fits s e fit)) (omega (arith, words, height))
 
-  all_calls : (o : Owner) (all : List Stay) → Every StayFits all → Every (λ s. Elem s (stays t)) all → (ss : List (Stmt Nowhere))
+  all_calls : (o : Owner) (all : List TaskStay) → Every StayFits all → Every (λ s. Elem s (stays t)) all → (ss : List (Stmt Nowhere))
       → stmts_height program o (calls_of program) (plain_stmts (in_turn ss)) ≤ 4
       → stmts_height program o (calls_of program) (plain_stmts (in_turn (map (stay_call tail) all ++ ss))) ≤ 10
   all_calls o [] fit there ss small = omega (arith, small)
   all_calls o (s ∷ all) fit there ss small = omega (arith, one_call s there.0 fit.0, all_calls o all fit.1 there.1 ss small)
 
-  calls_loops : (all : List Stay) (ss : List (Stmt Nowhere)) → loops (plain_stmts (in_turn ss)) ≤ 3 → loops (plain_stmts (in_turn (map (stay_call tail) all ++ ss))) ≤ 3
+  calls_loops : (all : List TaskStay) (ss : List (Stmt Nowhere)) → loops (plain_stmts (in_turn ss)) ≤ 3 → loops (plain_stmts (in_turn (map (stay_call tail) all ++ ss))) ≤ 3
   calls_loops [] ss few = few
   calls_loops (s ∷ all) ss few = omega (arith, calls_loops all ss few)
 

@@ -4,7 +4,7 @@ use Rattle.std.specs.Prelude.{flat_map}
 use Rattle.syntax_tree.specs.Plain.{Name}
 use Rattle.syntax_tree.specs.Placed.{Stmt, Decl, monitor, process}
 use Rattle.syntax_printer.specs.Canonical.{Line, stmts_lines, lines_of, entry_lines, process_lines, monitor_lines, decl_lines, end_line, program_lines}
-use Rattle.table_format.specs.declared.table.Stay.{Stay}
+use Rattle.table_format.specs.declared.table.TaskStay.{TaskStay}
 use Rattle.table_format.specs.declared.table.TaskLine.{TaskLine}
 use Rattle.table_format.specs.declared.table.TaskTable.{TaskTable}
 use Rattle.table_format.specs.Rules.{monitors, least_cost}
@@ -23,7 +23,7 @@ spending tail n ss (by_five m _ more is few spends) = (tt, spending tail m more 
 spending tail n ss (by_short turns m _ more is some few least most spends) = (tt, (tt, spending tail m more spends))
 spending tail n ss (by_long turns m _ more is some few least most spends) = (tt, (tt, (tt, (tt, spending tail m more spends))))
 
-calling : (tail : Name) (stays : List Stay) (ss : List (Stmt Nowhere)) → Every HasWord (stmts_lines (in_turn ss)) → Every HasWord (stmts_lines (in_turn (map (stay_call tail) stays ++ ss)))
+calling : (tail : Name) (stays : List TaskStay) (ss : List (Stmt Nowhere)) → Every HasWord (stmts_lines (in_turn ss)) → Every HasWord (stmts_lines (in_turn (map (stay_call tail) stays ++ ss)))
 calling tail [] ss all = all
 calling tail (s ∷ stays) ss all = (tt, calling tail stays ss all)
 

@@ -8,7 +8,7 @@ use Rattle.sched_response.specs.Demand.{task_at, Solves, IsBound}
 use Rattle.sched_response.specs.Ranked.{IsGreatest}
 use Rattle.table_format.specs.Spelling.{Word}
 use Rattle.table_format.specs.Rules.{monitors_named}
-use Rattle.table_format.specs.declared.table.Stay.{Stay}
+use Rattle.table_format.specs.declared.table.TaskStay.{TaskStay}
 use Rattle.table_format.specs.declared.table.TaskLine.{TaskLine}
 use Rattle.table_format.specs.declared.table.TaskTable.{TaskTable}
 
@@ -54,7 +54,7 @@ pub record IsStayBelow (t : TaskTable) (held_up ticks : ℕ) : Type 0 where
   pub line : TaskLine
   pub there : slice_get t.tasks number ≡ Some line
   pub lower : held_up < rank_of_line t number
-  pub stay : Stay
+  pub stay : TaskStay
   pub stays : Contains line.stays stay
   pub ceiling : ℕ
   pub is_ceiling : IsTableCeiling t stay.monitor ceiling

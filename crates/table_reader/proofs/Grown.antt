@@ -4,7 +4,7 @@ use Rattle.std.proofs.lemmas.List.{append_assoc, append-nil, map-append}
 use Rattle.std.proofs.lemmas.Grind.{flat_map-append}
 use Rattle.std.proofs.lemmas.List.Elements.{All-append, All-contains, All-contains_itself, All-push, All-weaker, Contains-append_left, Contains-append_right, Contains-append_cases, Contains-get_or}
 use Rattle.std.proofs.lemmas.List.Quantifiers.{all_pairs_push}
-use Rattle.table_format.specs.declared.table.Stay.{Stay}
+use Rattle.table_format.specs.declared.table.TaskStay.{TaskStay}
 use Rattle.table_format.specs.declared.table.TaskLine.{TaskLine}
 use Rattle.table_format.specs.declared.table.TaskTable.{TaskTable}
 use Rattle.table_format.specs.Spelling.{Word}
@@ -59,10 +59,10 @@ module _ (t : TaskTable) (begun : IsBegun t) (p : TaskLine) (free : ¬ HasTakenN
   differ = subst Differ (sym (tasks_more t p)) (differ_with p.event (λ event. free (inr (inl event))))
 
   stays_more : stays (with_line t p) ≡ stays t ++ p.stays
-  stays_more = flat_map-append (λ (q : TaskLine). q.stays) t.tasks (p ∷ []) ∙ ap (λ (xs : List Stay). stays t ++ xs) (append-nil p.stays)
+  stays_more = flat_map-append (λ (q : TaskLine). q.stays) t.tasks (p ∷ []) ∙ ap (λ (xs : List TaskStay). stays t ++ xs) (append-nil p.stays)
 
   monitors_more : names_of_monitors (with_line t p) ≡ names_of_monitors t ++ monitors_named p
-  monitors_more = ap (map (λ (s : Stay). s.monitor)) stays_more ∙ map-append (λ (s : Stay). s.monitor) (stays t) p.stays
+  monitors_more = ap (map (λ (s : TaskStay). s.monitor)) stays_more ∙ map-append (λ (s : TaskStay). s.monitor) (stays t) p.stays
 
   -- a monitor so far is no name of a task of the line
   own_new : (m : Word) → Contains (names t) m → (o : Option Word) → (IsSomeAnd o (λ event. Contains (p.name ∷ names t) event) → ⊥) → ¬ Contains (p.name ∷ option_to_list o) m

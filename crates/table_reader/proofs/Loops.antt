@@ -7,7 +7,7 @@ use Rattle.std.proofs.lemmas.List.{take_more, map-append, take_all}
 use Rattle.std.proofs.lemmas.List.Elements.{All-nil, All-cons, All-head, All-tail, All-more, All-get_or, All-push}
 use Rattle.std.proofs.lemmas.List.Sums.{sum_by_more}
 use Rattle.text_fields.specs.LineFields.{value}
-use Rattle.table_format.specs.declared.table.Stay.{Stay}
+use Rattle.table_format.specs.declared.table.TaskStay.{TaskStay}
 use Rattle.table_format.specs.declared.table.TaskLine.{TaskLine}
 use Rattle.table_format.specs.Spelling.{Word, SaidStay, said_stay}
 use Rattle.table_format.specs.Rules.{CanBeMet}
@@ -41,23 +41,23 @@ not_all P xs i x below is bad all =
 
 -- ---- the cost that is left
 
-abbrev pub IsMet : Stay → Type 0
+abbrev pub IsMet : TaskStay → Type 0
 IsMet s = (s.ticks ≡ 3) ⊎ (6 ≤ s.ticks)
 
-abbrev pub taken_by : Stay → ℕ
+abbrev pub taken_by : TaskStay → ℕ
 taken_by s = 15 + s.ticks
 
-pub met_more : (stays : List Stay) (i : ℕ) (s : Stay) → i < length stays → s ≡ get_or stays i s → All IsMet (take i stays) → IsMet s → All IsMet (take (i + 1) stays)
+pub met_more : (stays : List TaskStay) (i : ℕ) (s : TaskStay) → i < length stays → s ≡ get_or stays i s → All IsMet (take i stays) → IsMet s → All IsMet (take (i + 1) stays)
 met_more stays i s below is so_far here = All-more IsMet stays i s below so_far (subst IsMet is here)
 
-pub left_more : (stays : List Stay) (i : ℕ) (s : Stay) (cost left : ℕ) → i < length stays → s ≡ get_or stays i s → left ≡ cost - (3 + sum_by taken_by (take i stays))
+pub left_more : (stays : List TaskStay) (i : ℕ) (s : TaskStay) (cost left : ℕ) → i < length stays → s ≡ get_or stays i s → left ≡ cost - (3 + sum_by taken_by (take i stays))
     → left - 15 - s.ticks ≡ cost - (3 + sum_by taken_by (take (i + 1) stays))
 left_more stays i s cost left below is so_far =
     let sum = sum_by_more taken_by stays i s below in
     let this : taken_by s ≡ taken_by (get_or stays i s) = ap taken_by is in
     omega (arith, sum, this, so_far)
 
-pub not_met : (p : TaskLine) (i : ℕ) (s : Stay) → i < length p.stays → s ≡ get_or p.stays i s → s.ticks ≢ 3 → s.ticks < 6 → ¬ CanBeMet p
+pub not_met : (p : TaskLine) (i : ℕ) (s : TaskStay) → i < length p.stays → s ≡ get_or p.stays i s → s.ticks ≢ 3 → s.ticks < 6 → ¬ CanBeMet p
 not_met p i s below is other low met =
     elim (subst IsMet (sym is) (All-get_or IsMet p.stays i s below met.stay)) [
       | inl three ↦ other three
@@ -86,29 +86,29 @@ cost_not_met p i left all so_far other low met =
 
 -- ---- stays by their words
 
-abbrev pub InRange : Stay → Type 0
+abbrev pub InRange : TaskStay → Type 0
 InRange s = IsInRange 3 1000000000 s.ticks
 
 stay_at : (words : List StayWords) (i : ℕ) (w : StayWords) → i < length words → w ≡ get_or words i w → map stay_of (take (i + 1) words) ≡ map stay_of (take i words) ++ stay_of w ∷ []
 stay_at words i w below is =
     ap (map stay_of) (take_more words i w below ∙ ap (λ (x : StayWords). take i words ++ x ∷ []) (sym is)) ∙ map-append stay_of (take i words) (w ∷ [])
 
-stay_is : (m n : Word) (a b : ℕ) → m ≡ n → a ≡ b → (let s : Stay = record { monitor = m; ticks = a } in s) ≡ record { monitor = n; ticks = b }
+stay_is : (m n : Word) (a b : ℕ) → m ≡ n → a ≡ b → (let s : TaskStay = record { monitor = m; ticks = a } in s) ≡ record { monitor = n; ticks = b }
 stay_is m n a b e f = cc
 
 said_is : (m n : Word) (a b : Word) → m ≡ n → a ≡ b → (let s : SaidStay = record { monitor = m; ticks = a } in s) ≡ record { monitor = n; ticks = b }
 said_is m n a b e f = cc
 
-pub stays_more : (words : List StayWords) (i : ℕ) (w : StayWords) (old new : List Stay) (monitor : Word) (ticks : ℕ) → i < length words → w ≡ get_or words i w
+pub stays_more : (words : List StayWords) (i : ℕ) (w : StayWords) (old new : List TaskStay) (monitor : Word) (ticks : ℕ) → i < length words → w ≡ get_or words i w
     → AreStays (map stay_of (take i words)) old → monitor ≡ w.monitor.now → IsNumber 3 1000000000 w.ticks.now ticks
     → new ≡ old ++ (record { monitor = monitor; ticks = ticks }) ∷ [] → AreStays (map stay_of (take (i + 1) words)) new
 stays_more words i w old new monitor ticks below at so_far named number is =
     let more = stay_at words i w below at in
-    let one : (let s : Stay = record { monitor = monitor; ticks = ticks } in s) ≡ stay_meant (stay_of w) = stay_is monitor w.monitor.now ticks (value w.ticks.now) named number.is in
+    let one : (let s : TaskStay = record { monitor = monitor; ticks = ticks } in s) ≡ stay_meant (stay_of w) = stay_is monitor w.monitor.now ticks (value w.ticks.now) named number.is in
     let told : (let s : SaidStay = record { monitor = monitor; ticks = decimal ticks } in s) ≡ stay_of w = said_is monitor w.monitor.now (decimal ticks) w.ticks.now named number.spelled in
-    let s : Stay = record { monitor = monitor; ticks = ticks } in
+    let s : TaskStay = record { monitor = monitor; ticks = ticks } in
     let are : new ≡ map stay_meant (map stay_of (take i words) ++ stay_of w ∷ []) =
-    is ∙ (ap (λ (xs : List Stay). xs ++ s ∷ []) so_far.are ∙ (ap (λ (x : Stay). map stay_meant (map stay_of (take i words)) ++ x ∷ []) one
+    is ∙ (ap (λ (xs : List TaskStay). xs ++ s ∷ []) so_far.are ∙ (ap (λ (x : TaskStay). map stay_meant (map stay_of (take i words)) ++ x ∷ []) one
     ∙ sym (map-append stay_meant (map stay_of (take i words)) (stay_of w ∷ [])))) in
     let spelled : map said_stay new ≡ map stay_of (take i words) ++ stay_of w ∷ [] =
     ap (map said_stay) is ∙ (map-append said_stay old (s ∷ [])
@@ -119,7 +119,7 @@ stays_more words i w old new monitor ticks below at so_far named number is =
       within = subst (All InRange) (sym is) (All-push InRange old s so_far.within number.within);
     }
 
-pub stays_done : (words : List StayWords) (i : ℕ) (stays : List Stay) → length words ≤ i → AreStays (map stay_of (take i words)) stays → AreStays (map stay_of words) stays
+pub stays_done : (words : List StayWords) (i : ℕ) (stays : List TaskStay) → length words ≤ i → AreStays (map stay_of (take i words)) stays → AreStays (map stay_of words) stays
 stays_done words i stays all so_far = subst (λ (ws : List StayWords). AreStays (map stay_of ws) stays) (take_all i words all) so_far
 
 means_ranges : (words : List StayWords) → All InRange (map stay_meant (map stay_of words)) → All (λ (w : StayWords). IsInRange 3 1000000000 (value w.ticks.now)) words

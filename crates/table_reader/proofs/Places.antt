@@ -3,7 +3,7 @@ use Rattle.std.proofs.Common.{◌≡◌, List, [], ◌∷◌, ◌++◌, map, opt
 use Rattle.table_format.specs.Spelling.{Word, SaidStay}
 use Rattle.table_format.specs.Rules.{names_of_line}
 use Rattle.table_format.specs.Faults.{stay_meant, meant, numbers}
-use Rattle.table_format.specs.declared.table.Stay.{Stay}
+use Rattle.table_format.specs.declared.table.TaskStay.{TaskStay}
 use Rattle.table_reader.specs.declared.line.StayWords.{StayWords}
 use Rattle.table_reader.specs.declared.line.LineWords.{LineWords}
 use Rattle.table_reader.specs.Reading.{bytes_of, stay_of, line_seen}
@@ -14,7 +14,7 @@ monitor_seen s = s.monitor.now
 abbrev pub ticks_seen : StayWords → Word
 ticks_seen s = s.ticks.now
 
-monitors_are : (stays : List StayWords) → map monitor_seen stays ≡ map (λ (s : Stay). s.monitor) (map stay_meant (map stay_of stays))
+monitors_are : (stays : List StayWords) → map monitor_seen stays ≡ map (λ (s : TaskStay). s.monitor) (map stay_meant (map stay_of stays))
 monitors_are [] = refl
 monitors_are (s ∷ stays) = ap (λ (words : List Word). s.monitor.now ∷ words) (monitors_are stays)
 

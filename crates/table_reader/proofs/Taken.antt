@@ -8,7 +8,7 @@ use Rattle.std.proofs.lemmas.List.Elements.{Contains-append_left, Contains-appen
 use Rattle.std.proofs.lemmas.Grind.{flat_map-append}
 use Rattle.std.proofs.lemmas.List.{append-nil}
 use Rattle.std.proofs.lemmas.Slice.Eq.{bytes_eq-Decides}
-use Rattle.table_format.specs.declared.table.Stay.{Stay}
+use Rattle.table_format.specs.declared.table.TaskStay.{TaskStay}
 use Rattle.table_format.specs.declared.table.TaskLine.{TaskLine}
 use Rattle.table_format.specs.declared.table.TaskTable.{TaskTable}
 use Rattle.table_format.specs.Spelling.{Word, SaidStay}
@@ -45,11 +45,11 @@ any_map test f (x ∷ xs) = ap (λ b. test (f x) || b) (any_map test f xs)
 
 -- the monitors of lines, each by its stays
 pub among_monitors : (tasks : List TaskLine) (name : Word)
-    → list_any (λ (p : TaskLine). list_any (λ (s : Stay). same_name s.monitor name) p.stays) tasks
-    ≡ is_among (map (λ (s : Stay). s.monitor) (flat_map (λ (p : TaskLine). p.stays) tasks)) name
+    → list_any (λ (p : TaskLine). list_any (λ (s : TaskStay). same_name s.monitor name) p.stays) tasks
+    ≡ is_among (map (λ (s : TaskStay). s.monitor) (flat_map (λ (p : TaskLine). p.stays) tasks)) name
 among_monitors tasks name =
-    sym (any_map (λ other. same_name other name) (λ (s : Stay). s.monitor) (flat_map (λ (p : TaskLine). p.stays) tasks)
-    ∙ any_flat (λ (s : Stay). same_name s.monitor name) (λ (p : TaskLine). p.stays) tasks)
+    sym (any_map (λ other. same_name other name) (λ (s : TaskStay). s.monitor) (flat_map (λ (p : TaskLine). p.stays) tasks)
+    ∙ any_flat (λ (s : TaskStay). same_name s.monitor name) (λ (p : TaskLine). p.stays) tasks)
 
 pub among_both : (t : TaskTable) (name : Word) (one other : Bool) → one ≡ is_among (names_of_tasks t) name → other ≡ is_among (names_of_monitors t) name → (one || other) ≡ is_among (names t) name
 among_both t name one other is also =
@@ -133,7 +133,7 @@ pub taken_is : (t : TaskTable) (p : TaskLine) (test : Bool) → test ≡ is_take
 taken_is t p test is = ((λ so. taken_means t p (sym is ∙ so)), λ taken. is ∙ taken_from t p taken)
 
 -- the monitors of a line by its words
-pub monitors_seen : (stays : List StayWords) → map (λ (s : Stay). s.monitor) (map stay_meant (map stay_of stays)) ≡ map (λ (s : StayWords). s.monitor.now) stays
+pub monitors_seen : (stays : List StayWords) → map (λ (s : TaskStay). s.monitor) (map stay_meant (map stay_of stays)) ≡ map (λ (s : StayWords). s.monitor.now) stays
 monitors_seen [] = refl
 monitors_seen (s ∷ stays) = ap (λ (xs : List Word). s.monitor.now ∷ xs) (monitors_seen stays)
 
@@ -156,9 +156,9 @@ pub among_first : (t : TaskTable) (name : Word) → true ≡ is_among (names_of_
 among_first t name is = among_both t name true (is_among (names_of_monitors t) name) is refl
 
 pub among_second : (t : TaskTable) (name : Word) (tasks : List TaskLine) (rest : Bool) → false ≡ is_among (names_of_tasks t) name → tasks ≡ t.tasks
-    → rest ≡ list_any (λ (p : TaskLine). list_any (λ (s : Stay). same_name s.monitor name) p.stays) tasks → rest ≡ is_among (names t) name
+    → rest ≡ list_any (λ (p : TaskLine). list_any (λ (s : TaskStay). same_name s.monitor name) p.stays) tasks → rest ≡ is_among (names t) name
 among_second t name tasks rest none are is =
-    among_both t name false rest none (is ∙ (among_monitors tasks name ∙ ap (λ (ps : List TaskLine). is_among (map (λ (s : Stay). s.monitor) (flat_map (λ (p : TaskLine). p.stays) ps)) name) are))
+    among_both t name false rest none (is ∙ (among_monitors tasks name ∙ ap (λ (ps : List TaskLine). is_among (map (λ (s : TaskStay). s.monitor) (flat_map (λ (p : TaskLine). p.stays) ps)) name) are))
 
 monitors_test : (t : TaskTable) (p : TaskLine) (stays : List StayWords) → monitors_named p ≡ map (λ (s : StayWords). s.monitor.now) stays
     → list_any (IsMonitorTaken t p) (monitors_named p) ≡ list_any (λ (s : StayWords). IsMonitorTaken t p s.monitor.now) stays

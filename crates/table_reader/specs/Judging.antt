@@ -3,7 +3,7 @@ use Rattle.std.specs.Prelude.{◌≡◌, ◌+◌, ◌||◌, ℕ, Bool, false, Li
 use Rattle.std.specs.Int.{IsInRange}
 use Rattle.std.specs.List.{list_any}
 use Rattle.text_fields.specs.LineFields.{value}
-use Rattle.table_format.specs.declared.table.Stay.{Stay}
+use Rattle.table_format.specs.declared.table.TaskStay.{TaskStay}
 use Rattle.table_format.specs.declared.table.TaskLine.{TaskLine}
 use Rattle.table_format.specs.declared.table.TaskTable.{TaskTable}
 use Rattle.table_format.specs.Spelling.{Word, SaidStay, SaidLine, said_stay, said}
@@ -55,7 +55,7 @@ pub record AreNumbers (h : HeadWords) (n : Numbers) : Type 0 where
   pub first : IsNumberIf 0 1000000000 (bytes_of h.first) n.first
   pub cost : IsNumber 4 1000000000 h.cost.now n.cost
 
-pub record AreStays (words : List SaidStay) (stays : List Stay) : Type 0 where
+pub record AreStays (words : List SaidStay) (stays : List TaskStay) : Type 0 where
   pub are : stays ≡ map stay_meant words
   pub spelled : map said_stay stays ≡ words
   pub within : All (λ s. IsInRange 3 1000000000 s.ticks) stays

@@ -9,7 +9,7 @@ ghost use Rattle.table_reader.specs.Reading.{line_seen};
 
 use crate::line::{LineWords, StayWords};
 use std::alloc::{AllocError, Global};
-use table_format::{Stay, TaskLine, TaskTable, all_stays, monitor_names};
+use table_format::{TaskLine, TaskStay, TaskTable, all_stays, monitor_names};
 use text_fields::is_same;
 
 /// Whether the name is that of the process or of the event of a line.
@@ -40,7 +40,7 @@ fn is_of_tasks(table: &TaskTable, name: &[u8]) -> bool
 }
 
 /// Whether the name is that of a monitor of some stays.
-fn is_of_stays(stays: &[Stay], name: &[u8]) -> bool
+fn is_of_stays(stays: &[TaskStay], name: &[u8]) -> bool
     ensures { result ≡ list_any (λ s. same_name s.monitor name.now) stays.now }
 {
     stays.iter().any(|stay| stay.monitor.as_bytes() == name)

@@ -12,7 +12,7 @@ ghost use Rattle.table_reader.specs.Reading.{bytes_of, line_seen, said_with, sta
 use crate::line::{HeadWords, LineWords, StayWords};
 use std::alloc::{AllocError, Global};
 use syntax_tree::{List, Name};
-use table_format::{Stay, TaskLine};
+use table_format::{TaskLine, TaskStay};
 use text_fields::unsigned;
 
 /// The greatest number of a table.
@@ -82,7 +82,7 @@ fn numbers_of(head: HeadWords<'_>) -> Option<Numbers>
 }
 
 /// The stays of these words; None where one is out of its range.
-fn stays_of(alloc: Global, words: &[StayWords<'_>]) -> Result<Option<List<Stay>>, AllocError>
+fn stays_of(alloc: Global, words: &[StayWords<'_>]) -> Result<Option<List<TaskStay>>, AllocError>
     requires { All (λ s. IsTrue (is_numeral s.ticks.now)) words.now }
     ensures { IfOk result (λ found. MatchOption found
         (¬ All (λ s. IsInRange 3 1000000000 s.ticks) (map stay_meant (map stay_of words.now)))
@@ -94,7 +94,7 @@ fn stays_of(alloc: Global, words: &[StayWords<'_>]) -> Result<Option<List<Stay>>
             return Ok(None);
         };
         let monitor = Name::new(alloc, word.monitor)?;
-        stays.push(Stay { monitor, ticks })?;
+        stays.push(TaskStay { monitor, ticks })?;
     }
     Ok(Some(stays))
 }
