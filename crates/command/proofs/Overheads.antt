@@ -4,7 +4,7 @@ use Rattle.std.specs.Prelude.{String, if◌then◌else◌, map, option_map, stri
 use Rattle.std.specs.Global.{Global}
 use Rattle.command_words.specs.declared.stop.Breakpoint.{Breakpoint}
 use Rattle.command_words.specs.Calls.{Call, asm, chart, check, compile, dis, edf, fit, go, json, migrate, over_of, print, replay, run, slack, table, watch, why}
-use Rattle.command_words.specs.Words.{IsCommand, asm_row, chart_of, chart_row, check_row, compile_row, dis_row, edf_row, fit_row, go_row, image_row_of, json_row, last_overhead, migrate_row, number_up_to, print_row, replay_row, row_of, run_row, slack_row, stop_of, table_row, watch_row, why_row}
+use Rattle.command_words.specs.Words.{IsCommand, asm_row, chart_of, chart_row, check_row, compile_row, dis_row, edf_row, fit_row, go_row, image_row_of, json_row, last_overhead, migrate_row, number_up_to, plain_row_of, print_row, replay_row, row_of, run_row, slack_row, stop_of, table_row, watch_row, why_row}
 use Rattle.command_words.specs.WordsLaws.{OverheadsAreDecimal}
 
 same_call : (c d : Call) → Some c ≡ Some d → over_of c ≤ 1000 → over_of d ≤ 1000
@@ -141,6 +141,12 @@ image_row_low word words call is =
     either_row (bytes_eq word (codes "asm")) (asm_row words) _ call (asm_low words call) (λ r5.
     either_row (bytes_eq word (codes "table")) (table_row words) None call (table_low words call) (no_call call) r5) r4) r3) r2) r1) r0) is
 
+plain_row_low : (word : List ℕ) (words : List (List ℕ)) (call : Call) → plain_row_of word words ≡ Some call → over_of call ≤ 1000
+plain_row_low word words call is =
+    either_row (bytes_eq word (codes "print")) (print_row words) _ call (print_low words call) (λ r0.
+    either_row (bytes_eq word (codes "replay")) (replay_row words) _ call (replay_low words call) (λ r1.
+    either_row (bytes_eq word (codes "edf")) (edf_row words) (image_row_of word words) call (edf_low words call) (image_row_low word words call) r1) r0) is
+
 over_low : OverheadsAreDecimal → (words : List (List ℕ)) (call : Call) → row_of words ≡ Some call → over_of call ≤ 1000
 over_low law [] call is = absurd cc
 over_low law (word ∷ words) call is =
@@ -150,10 +156,7 @@ over_low law (word ∷ words) call is =
     either_row (bytes_eq word (codes "json")) (json_row words) _ call (json_low law words call) (λ r3.
     either_row (bytes_eq word (codes "slack")) (slack_row words) _ call (slack_low law words call) (λ r4.
     either_row (bytes_eq word (codes "why")) (why_row words) _ call (why_low law words call) (λ r5.
-    either_row (bytes_eq word (codes "fit")) (fit_row words) _ call (fit_low law words call) (λ r6.
-    either_row (bytes_eq word (codes "print")) (print_row words) _ call (print_low words call) (λ r7.
-    either_row (bytes_eq word (codes "replay")) (replay_row words) _ call (replay_low words call) (λ r8.
-    either_row (bytes_eq word (codes "edf")) (edf_row words) (image_row_of word words) call (edf_low words call) (image_row_low word words call) r8) r7) r6) r5) r4) r3) r2) r1) r0) is
+    either_row (bytes_eq word (codes "fit")) (fit_row words) (plain_row_of word words) call (fit_low law words call) (plain_row_low word words call) r5) r4) r3) r2) r1) r0) is
 
 pub command_low : OverheadsAreDecimal → (words : List (String Global)) (call : Call) → IsCommand words call → over_of call ≤ 1000
 command_low law words call is = over_low law (map string_bytes words) call is.row

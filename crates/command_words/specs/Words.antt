@@ -123,7 +123,14 @@ image_row_of word words =
     (if bytes_eq word (codes "asm") then asm_row words else
     (if bytes_eq word (codes "table") then table_row words else None))))))
 
--- the table: first the commands on a program, then the others
+-- the commands on a program that take no overhead, then those
+abbrev pub plain_row_of : (word : List ℕ) (words : List (List ℕ)) → Option Call
+plain_row_of word words =
+    if bytes_eq word (codes "print") then print_row words else
+    (if bytes_eq word (codes "replay") then replay_row words else
+    (if bytes_eq word (codes "edf") then edf_row words else image_row_of word words))
+
+-- the table: first the commands on a program with an overhead, then the others
 abbrev pub row_of : List (List ℕ) → Option Call
 row_of [] = None
 row_of (word ∷ words) =
@@ -133,10 +140,7 @@ row_of (word ∷ words) =
     (if bytes_eq word (codes "json") then json_row words else
     (if bytes_eq word (codes "slack") then slack_row words else
     (if bytes_eq word (codes "why") then why_row words else
-    (if bytes_eq word (codes "fit") then fit_row words else
-    (if bytes_eq word (codes "print") then print_row words else
-    (if bytes_eq word (codes "replay") then replay_row words else
-    (if bytes_eq word (codes "edf") then edf_row words else image_row_of word words)))))))))
+    (if bytes_eq word (codes "fit") then fit_row words else plain_row_of word words))))))
 
 abbrev pub IsWord : String Global → Type 0
 IsWord word = IsTrue (is_word (string_bytes word))

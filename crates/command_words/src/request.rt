@@ -4,7 +4,7 @@ use crate::words_command::Command;
 use crate::words_load::Load;
 
 /// What words ask for.
-#[derive(Clone, Copy, Debug, PartialEq, Eq)]
+#[derive(Clone, Copy)]
 pub enum Request<'a> {
     /// A command on what files hold.
     Command(Command<'a>),

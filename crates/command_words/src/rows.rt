@@ -2,7 +2,7 @@
 
 ghost use Rattle.std.specs.Prelude.{◌≡◌, ◌≤◌, ◌<◌, ◌^◌, map, option_map, string_bytes, IfSome};
 ghost use Rattle.command_words.specs.Calls.{over_of};
-ghost use Rattle.command_words.specs.Words.{number_up_to, overhead_of, last_overhead, go_row, check_row, compile_row, json_row, slack_row, print_row, run_row, migrate_row, asm_row, dis_row, watch_row, replay_row, edf_row, why_row, fit_row, chart_row, table_row, stop_of, image_row_of, row_of, call_of};
+ghost use Rattle.command_words.specs.Words.{number_up_to, overhead_of, last_overhead, go_row, check_row, compile_row, json_row, slack_row, print_row, run_row, migrate_row, asm_row, dis_row, watch_row, replay_row, edf_row, why_row, fit_row, chart_row, table_row, stop_of, image_row_of, plain_row_of, row_of, call_of};
 
 use crate::stop::Breakpoint;
 use crate::words_command::Command;
@@ -387,6 +387,23 @@ fn image_row<'x>(word: &str, rest: &'x [String]) -> Option<Command<'x>>
     }
 }
 
+/// The row of the word of a command on a program that takes no overhead, or of one on an image, if
+/// it is one.
+fn plain_row<'x>(word: &str, rest: &'x [String]) -> Option<Command<'x>>
+    ensures row { option_map call_of result ≡ plain_row_of word.now (map string_bytes rest.now) }
+    ensures over { IfSome result (λ c. over_of (call_of c) ≤ 1000) }
+{
+    if word == "print" {
+        print(rest)
+    } else if word == "replay" {
+        replay(rest)
+    } else if word == "edf" {
+        edf(rest)
+    } else {
+        image_row(word, rest)
+    }
+}
+
 /// The row of the table that the words are in, if any.
 pub fn row(words: &[String]) -> Option<Command<'_>>
     ensures row { option_map call_of result ≡ row_of (map string_bytes words.now) }
@@ -410,13 +427,7 @@ pub fn row(words: &[String]) -> Option<Command<'_>>
         why(rest)
     } else if word == "fit" {
         fit(rest)
-    } else if word == "print" {
-        print(rest)
-    } else if word == "replay" {
-        replay(rest)
-    } else if word == "edf" {
-        edf(rest)
     } else {
-        image_row(word, rest)
+        plain_row(word, rest)
     }
 }

@@ -1,7 +1,7 @@
 //! Where a run stops to be watched.
 
 /// Where a run stops to be watched.
-#[derive(Clone, Copy, Debug, PartialEq, Eq)]
+#[derive(Clone, Copy)]
 pub enum Breakpoint {
     /// Before a tick, from 0 to 1,000,000,000.
     Tick(u64),

@@ -4,7 +4,7 @@ use crate::stop::Breakpoint;
 
 /// A command, with the names of the files that its words give, and its overhead in ticks, 0 where
 /// no word gives one.
-#[derive(Clone, Copy, Debug, PartialEq, Eq)]
+#[derive(Clone, Copy)]
 pub enum Command<'a> {
     /// Runs a program over a script, and stores its image.
     Go {
