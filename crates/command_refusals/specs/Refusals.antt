@@ -6,6 +6,8 @@ use Rattle.syntax_tree.specs.Placed.{Prog, plain}
 use Rattle.image.specs.Named.{NamedImage}
 use Rattle.image.specs.declared.names.ImageNames.{ImageNames}
 use Rattle.image.specs.declared.raw.RawImage.{RawImage}
+use Rattle.script.specs.declared.script.ScriptLine.{ScriptLine}
+use Rattle.script.specs.Scripts.{IsScript}
 use Rattle.built_image.specs.Named.{names_of}
 use Rattle.command_words.specs.Calls.{Call, go, check, compile, json, slack, print, run, migrate, asm, dis, watch, replay, edf, why, fit, chart, table}
 use Rattle.command_due.specs.Source.{IsTimelyText, IsWritten}
@@ -35,6 +37,11 @@ HasImageNames bytes names = (raw : RawImage) × IsImageFile bytes raw × (names 
 -- of a file that is read second: the script, or the script and the log
 abbrev pub IsLaterTold : (Names : List ℕ → ImageNames → Type 0) (Later : ImageNames → List ℕ → Type 0) (bytes : List ℕ) (later : Option (List ℕ)) → Type 0
 IsLaterTold Names Later bytes later = (names : ImageNames) × Names bytes names × IsSomeAnd later (Later names)
+
+-- of a log, by the program of the source's text and by the script
+abbrev pub IsReplayTold : (bytes : List ℕ) (script log : Option (List ℕ)) (Told : Prog Place → List ScriptLine → ℕ → List ℕ → Type 0) → Type 0
+IsReplayTold bytes script log Told =
+    (g : Prog Place) × (lines : List ScriptLine) × (end : ℕ) × IsWritten bytes g × IsSomeAnd script (λ text. IsScript (names_of (plain g)) text lines end) × IsSomeAnd log (Told g lines end)
 
 -- of a call that reads a script: the source is told, or the script for its names
 abbrev pub IsScriptedTold : (Told : List ℕ → Type 0) (Names : List ℕ → ImageNames → Type 0) (file : List ℕ) (source script : Option (List ℕ)) (outcome : Outcome) (message : List ℕ) → Type 0
@@ -67,7 +74,7 @@ IsToldOf (edf program script) held outcome message =
 IsToldOf (replay program script log) held outcome message =
     IsSomeAnd (held program) (λ bytes. IsTextTold program bytes outcome message
     ⊎ IsLaterTold HasWrittenNames (λ names text. IsScriptTold names script text outcome message) bytes (held script)
-    ⊎ IsLaterTold HasWrittenNames (λ names text. IsLogTold names log text outcome message) bytes (held log))
+    ⊎ IsReplayTold bytes (held script) (held log) (λ g lines end text. IsLogTold g lines end log text outcome message))
 
 -- what is told of an act that refuses
 abbrev pub Explains : (told : Type 0) → PreparedCall → Type 0

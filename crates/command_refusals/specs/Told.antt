@@ -1,6 +1,13 @@
 -- What a person is told of a call that is refused: the message of the fault whose line is put.
 use Rattle.std.specs.Prelude.{◌≡◌, ◌⊎◌, ℕ, List}
+use Rattle.base.specs.declared.event.Event.{Event}
 use Rattle.syntax_tree.specs.declared.place.Place.{Place}
+use Rattle.syntax_tree.specs.Placed.{Prog, plain}
+use Rattle.source_semantics.specs.Config.{start}
+use Rattle.script.specs.declared.script.ScriptLine.{ScriptLine}
+use Rattle.script.specs.Meaning.{said}
+use Rattle.built_image.specs.Named.{names_of}
+use Rattle.event_log.specs.Logs.{IsLog}
 use Rattle.image.specs.Named.{NamedImage}
 use Rattle.image.specs.declared.names.ImageNames.{ImageNames}
 use Rattle.valid_image.specs.Valid.{Shown}
@@ -18,7 +25,10 @@ use Rattle.message_program.specs.Late.{late_message, demand_message}
 use Rattle.message_table.specs.Message.{table_message}
 use Rattle.message_log.specs.Image.{image_message, image_text_message, valid_message}
 use Rattle.message_script.specs.Message.{script_message}
-use Rattle.message_log.specs.Log.{log_message, refused_message}
+use Rattle.message_log.specs.Log.{log_message}
+use Rattle.message_log.specs.Refused.{refused_message}
+use Rattle.replay_reason_spec.specs.Findings.{IsRefusedFor}
+use Rattle.replay_reason_spec.specs.declared.reason.Reason.{Reason}
 
 -- ---- program texts
 
@@ -102,11 +112,15 @@ pub record IsMisreadTold (names : ImageNames) (file bytes : List ℕ) (outcome :
   pub put : outcome ≡ told 9 (log_fault_line fault)
   pub is : message ≡ log_message file bytes names fault
 
--- the line of a log at which its events are no run
-pub record IsRefusedTold (file bytes : List ℕ) (outcome : Outcome) (message : List ℕ) : Type 0 where
+-- the line of a log at which its events are no run of the program over the script, and why
+pub record IsRefusedTold (g : Prog Place) (lines : List ScriptLine) (end : ℕ) (file bytes : List ℕ) (outcome : Outcome) (message : List ℕ) : Type 0 where
   pub line : ℕ
   pub put : outcome ≡ told 9 (refused_line line)
-  pub is : message ≡ refused_message file bytes line
+  pub events : List Event
+  pub log : IsLog (names_of (plain g)) bytes events
+  pub why : Reason
+  pub refused : IsRefusedFor (plain g) (said lines end) (start (plain g)) events line why
+  pub is : message ≡ refused_message file bytes line (names_of (plain g)) why
 
-abbrev pub IsLogTold : (names : ImageNames) (file bytes : List ℕ) (outcome : Outcome) (message : List ℕ) → Type 0
-IsLogTold names file bytes outcome message = IsMisreadTold names file bytes outcome message ⊎ IsRefusedTold file bytes outcome message
+abbrev pub IsLogTold : (g : Prog Place) (lines : List ScriptLine) (end : ℕ) (file bytes : List ℕ) (outcome : Outcome) (message : List ℕ) → Type 0
+IsLogTold g lines end file bytes outcome message = IsMisreadTold (names_of (plain g)) file bytes outcome message ⊎ IsRefusedTold g lines end file bytes outcome message

@@ -12,11 +12,13 @@ ghost use Rattle.replay.specs.Lines.{line_of, status_of};
 ghost use Rattle.command_due.specs.ReplayDue as due;
 ghost use Rattle.command_due.specs.ReplayDue.{IsJudged};
 ghost use Rattle.command_refusals.specs.Refusals.{Explains};
-ghost use Rattle.command_refusals.specs.Told.{IsLogTold, IsMisreadTold, IsRefusedTold};
+ghost use Rattle.command_refusals.specs.Told.{IsLogTold, IsMisreadTold};
 ghost use Rattle.message_log.specs.Log as message_of;
+ghost use Rattle.message_log.specs.Refused as refused_by;
 ghost use Rattle.script.specs.Meaning.{said};
 ghost use Rattle.source_semantics.specs.Config.{start};
-ghost use Rattle.source_semantics.specs.Verdicts.{Judges};
+ghost use Rattle.replay_reason_spec.specs.Findings.{Finds, verdict_of};
+ghost use Rattle.replay.specs.Explained.{IsFindingTold};
 ghost use Rattle.syntax_tree.specs.Placed.{placed, plain};
 
 use crate::logs::judge_log;
@@ -27,47 +29,53 @@ use command_answers::{Content, PreparedCall, Status, log_fault_line, put, refuse
 use event_log::LogFault;
 use image::ImageNames;
 use message_log::{log_message, long_message, refused_message};
+use replay_reason_spec::{Finding, Reason};
 use script::Script;
-use source_semantics::Verdict;
 use std::alloc::{AllocError, Global};
 use syntax_tree::Text;
 
-/// The message for a log whose event on this line is refused.
+/// The message for a log for these names whose event on this line is refused, for this reason.
 fn message_of_refused(
     alloc: Global,
     file: &str,
     content: &Content,
+    names: &ImageNames,
     line: u32,
+    why: &Reason,
 ) -> Result<Text, AllocError>
     ensures { IfOk result (λ message. (log : List ℕ) → IsContent longest_text content.now log →
-        length log ≤ longest_text → message ≡ message_of.refused_message file.now log line) }
+        length log ≤ longest_text →
+        message ≡ refused_by.refused_message file.now log line names.now why.now) }
 {
     match content {
-        Content::Bytes(text) => refused_message(alloc, file, text.as_slice(), line),
+        Content::Bytes(text) => refused_message(alloc, file, text.as_slice(), line, names, why),
         Content::TooLong => long_message(alloc, file),
     }
 }
 
-/// The act that puts the verdict on a log of so many events. Where it is refused, the message takes
-/// the place of the given one.
+/// The act that puts the verdict on a log of so many events, for these names. Where it is refused,
+/// the message takes the place of the given one.
 fn put_verdict<'a>(
     alloc: Global,
     message: &mut Text,
     file: &str,
     content: &Content,
-    verdict: Verdict,
+    names: &ImageNames,
+    found: &Finding,
     count: u64,
 ) -> Result<PreparedCall<'a>, AllocError>
-    ensures act { IfOk result (λ act. act ≡ puts (status_of verdict) (line_of verdict count)) }
+    ensures act { IfOk result (λ act. act ≡ puts (status_of (verdict_of found.now))
+        (line_of (verdict_of found.now) count)) }
     ensures told { IfOk result (λ act. (log : List ℕ) → IsContent longest_text content.now log →
         length log ≤ longest_text →
-        Explains (IsRefusedTold file.now log (outcome_of act) message.new) act) }
+        Explains (IsFindingTold names.now file.now log found.now (outcome_of act) message.new)
+        act) }
 {
-    match verdict {
-        Verdict::Run => Ok(put(Status::Done, run_line(alloc, count)?)),
-        Verdict::Refused { line } => {
-            *message = message_of_refused(alloc, file, content, line)?;
-            Ok(put(Status::Log, refused_line(alloc, line)?))
+    match found {
+        Finding::Run => Ok(put(Status::Done, run_line(alloc, count)?)),
+        Finding::Refused { line, reason } => {
+            *message = message_of_refused(alloc, file, content, names, *line, reason)?;
+            Ok(put(Status::Log, refused_line(alloc, *line)?))
         }
     }
 }
@@ -111,20 +119,20 @@ fn refuse_log<'a>(
     }
 }
 
-/// The verdict on the events of a log, by a program that has no fault.
-fn verdict_on(
+/// What is found of the events of a log, by a program that has no fault.
+fn finding_on(
     alloc: Global,
     source: &Source<'_>,
     script: &Script,
     events: &[Event],
-) -> Result<Verdict, AllocError>
+) -> Result<Finding, AllocError>
     ghost text: { List ℕ }
     requires written { IsWritten text (placed source.now.program) }
     requires end { script.now.end < 2 ^ 61 }
     requires few { length events.now < 4294967295 }
-    ensures { IfOk result (λ verdict. Judges (plain (placed source.now.program))
+    ensures { IfOk result (λ found. Finds (plain (placed source.now.program))
         (said script.now.lines script.now.end) (start (plain (placed source.now.program)))
-        events.now verdict) }
+        events.now found) }
 {
     replay(alloc, &source.program, script, events)
 }
@@ -145,12 +153,14 @@ pub fn log_act<'a>(
         (outcome_of act)) }
     ensures quiet { IfOk result IsQuiet }
     ensures told { IfOk result (λ act. (log : List ℕ) → IsContent longest_text content.now log →
-        Explains (IsLogTold source.now.names file.now log (outcome_of act) message.new) act) }
+        Explains (IsLogTold (placed source.now.program) script.now.lines script.now.end file.now
+        log (outcome_of act) message.new) act) }
 {
     match judge_log(alloc, content, &source.names) {
         Ok(events) => {
-            let verdict = verdict_on(alloc, source, script, events.as_slice())?;
-            put_verdict(alloc, message, file, content, verdict, events.len() as u64)
+            let found = finding_on(alloc, source, script, events.as_slice())?;
+            let count = events.len() as u64;
+            put_verdict(alloc, message, file, content, &source.names, &found, count)
         }
         Err(fault) => refuse_log(alloc, message, file, content, &source.names, &fault),
     }

@@ -1,8 +1,9 @@
 //! The verdict on a log, and what is due of the command.
 //!
 //! `start` makes of a program what its events are judged by, and the configuration before the first
-//! event. `judge` of `judge_events` judges the events in turn: the verdict of the meaning
-//! (`Judges` of `specs/Verdicts.antt` in `source_semantics`). Time is not asked.
+//! event. `judge` of `judge_events` judges the events in turn: the verdict of the meaning, and
+//! where it refuses a line the reason (`Finds` of `specs/Findings.antt` in `replay_reason_spec`),
+//! which `replay_reason` finds. Time is not asked.
 //!
 //! `prepare_replay` reads and judges the program first, the script where the program has no fault,
 //! the log where the script has none, and leaves what is due of them (`command_due`).

@@ -55,7 +55,8 @@ fn log_on<'a, F: Files>(
     ensures writes { (F.state files.new).writes ≡ (F.state files.old).writes }
     ensures told { IfOk result (λ act. OnTrue F.tells
         (IsSomeAnd ((F.state files.old).held log.now) (λ other. Explains
-        (IsLogTold source.now.names log.now other (outcome_of act) message.new) act))) }
+        (IsLogTold (placed source.now.program) script.now.lines script.now.end log.now other
+        (outcome_of act) message.new) act))) }
 {
     let content = read(files, log, LONGEST_LOG)?;
     match log_act(alloc, message, log, source, script, &content) {
@@ -88,8 +89,8 @@ fn script_on<'a, F: Files>(
     ensures reads { HasTried (script.now ∷ log.now ∷ []) (F.state files.old).reads
         (F.state files.new).reads (status_of result) }
     ensures writes { (F.state files.new).writes ≡ (F.state files.old).writes }
-    ensures told { IfOk result (λ act. OnTrue F.tells (Explains (IsScriptOrLogTold source.now.names
-        script.now log.now ((F.state files.old).held script.now)
+    ensures told { IfOk result (λ act. OnTrue F.tells (Explains (IsScriptOrLogTold
+        (placed source.now.program) script.now log.now ((F.state files.old).held script.now)
         ((F.state files.old).held log.now) (outcome_of act) message.new) act)) }
 {
     let content = read(files, script, LONGEST_SCRIPT)?;

@@ -2,43 +2,21 @@
 
 ghost use Rattle.std.specs.Prelude.{IfOk, ℕ, ◌≡◌, ◌≤◌};
 ghost use Rattle.syntax_tree.specs.Plain.{Program};
-ghost use Rattle.source_semantics.specs.Config.{queue as queue_now};
-ghost use Rattle.source_semantics.specs.Source.{effect, is_empty};
+ghost use Rattle.source_semantics.specs.Source.{effect};
 ghost use Rattle.replay_state.specs.View.{action_of, config_of};
 ghost use Rattle.replay_accept.specs.Running.{program_of};
-ghost use Rattle.replay_accept.specs.Told.{first_of};
 ghost use Rattle.replay_script.specs.Cursors.{IsWithin, script_in};
 ghost use Rattle.replay_reason_spec.specs.Events.{act_of};
 ghost use Rattle.replay_reason_spec.specs.Reasons.{ActsNext, IsAllowed};
 ghost use Rattle.replay_reason.specs.Following.{Follows};
 
-use crate::acting::{first_ready, next_of_process};
-use replay_accept::Rules;
+use crate::acting::first_ready;
+use replay_accept::queue::{first, is_nobody_in, queue};
+use replay_accept::{Rules, next_of_process};
 use replay_reason_spec::{SourceAct, SourceEvent};
 use replay_script::{ScriptCursor, device_value};
-use replay_state::{Action, Config, queue_at};
+use replay_state::{Action, Config};
 use std::alloc::AllocError;
-
-/// The processes in the condition's queue, the first to be taken out first.
-fn queue<'c>(config: &'c Config<'_>, condition: usize) -> &'c [usize]
-    ensures { result.now ≡ queue_now (config_of config.now) condition }
-{
-    queue_at(config.queues.as_slice(), condition)
-}
-
-/// The first of the queue.
-fn first(queue: &[usize]) -> Option<usize>
-    ensures { result ≡ first_of queue.now }
-{
-    queue.first().copied()
-}
-
-/// Whether nobody stands in the queue.
-fn is_nobody_in(queue: &[usize]) -> bool
-    ensures { result ≡ is_empty queue.now }
-{
-    queue.is_empty()
-}
 
 /// What the action tells at the tick, from this configuration.
 fn told_act(config: &Config<'_>, script: &ScriptCursor<'_>, tick: u64, action: Action) -> SourceAct

@@ -10,9 +10,8 @@ ghost use Rattle.replay_reason_spec.specs.Reasons.{most};
 ghost use Rattle.replay_reason.specs.Following.{Follows};
 ghost use Rattle.replay_reason.specs.Starting.{Takes};
 
-use crate::coming::come;
 use crate::next_start::{next_start, source_event};
-use replay_accept::Rules;
+use replay_accept::{Rules, come};
 use replay_reason_spec::SourceEvent;
 use replay_script::ScriptCursor;
 use replay_state::Config;
@@ -41,7 +40,7 @@ fn take_next<'a>(
         None => Ok(false),
         Some(due) => {
             found.push(source_event(due))?;
-            come(rules, config, due)
+            come(rules, config, due.tick, due.start)
         }
     }
 }

@@ -15,6 +15,8 @@ mod earliest;
 #[cfg(test)]
 mod faults;
 #[cfg(test)]
+mod logs;
+#[cfg(test)]
 mod messages;
 #[cfg(test)]
 mod stops;

@@ -5,8 +5,7 @@ use Rattle.command_due.specs.CommandsDue.{told}
 use Rattle.replay.proofs.judge_log.put_verdict.Goals as goal
 
 pub returns-in_ok-refused_line-in-Refused-clause-told : goal.returns-in_ok-refused_line-in-Refused-clause-told
-returns-in_ok-refused_line-in-Refused-clause-told c = λ log content short refused. record {
-  line = c.in-Refused.line;
-  put = put_comes_to status.Log _ c.put-in-Refused.result c.put-in-Refused.ensures ∙ ap (told 9) c.in_ok-refused_line-in-Refused.ensures;
-  is = c.in_ok-message-in-Refused.ensures log content short;
-}
+returns-in_ok-refused_line-in-Refused-clause-told c = λ log content short refused. (
+  put_comes_to status.Log _ c.put-in-Refused.result c.put-in-Refused.ensures ∙ ap (told 9) c.in_ok-refused_line-in-Refused.ensures,
+  c.in_ok-message-in-Refused.ensures log content short,
+)

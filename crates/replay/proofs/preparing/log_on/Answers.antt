@@ -17,5 +17,5 @@ returns-in-Ok-clause-due g c =
 pub returns-in-Ok-clause-told : goal.returns-in-Ok-clause-told
 returns-in-Ok-clause-told g c =
     of_held g.F.Files.tells ((g.F.Files.state c.args.files.now).held c.args.log.now) (IsContent longest_text c.in_ok-content.content)
-    (λ text. Explains (IsLogTold c.args.source.now.names c.args.log.now text (outcome_of c.in-Ok.act) c.log_act.new.message) c.in-Ok.act)
+    (λ text. Explains (IsLogTold (placed c.args.source.now.program) c.args.script.now.lines c.args.script.now.end c.args.log.now text (outcome_of c.in-Ok.act) c.log_act.new.message) c.in-Ok.act)
     c.in_ok-content.ensures.content c.in-Ok.ensures.told

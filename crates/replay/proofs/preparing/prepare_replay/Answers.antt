@@ -27,7 +27,7 @@ returns-in-Ok-refuse_source-clause-prepared g c =
 pub returns-in-Ok-clause-told : goal.returns-in-Ok-clause-told
 returns-in-Ok-clause-told g c =
     IfOk-weaker c.script_on.result _ _
-    (λ act. replay_explained c.args.program.now c.args.script.now c.args.log.now c.script_on.new.message (placed c.in-Ok.source.program) c.in-Ok.source.names c.in-Ok.ensures.source.names.same act
+    (λ act. replay_explained c.args.program.now c.args.script.now c.args.log.now c.script_on.new.message (placed c.in-Ok.source.program) act
     g.F.Files.tells (g.F.Files.state c.args.files.now).held (g.F.Files.state c.read.new.files).held (IsContent longest_text c.in_ok-content.content) c.in_ok-content.ensures.content
     c.in-Ok.ensures.written c.in_ok-content.ensures.files)
     c.script_on.ensures.told

@@ -30,12 +30,13 @@ returns-in-Ok-refuse_script-clause-due g c =
 pub returns-in-Ok-clause-told : goal.returns-in-Ok-clause-told
 returns-in-Ok-clause-told g c =
     IfOk-weaker c.log_on.result _ _
-    (λ act. log_told c.args.source.now.names c.args.script.now c.args.log.now c.log_on.new.message act g.F.Files.tells ((g.F.Files.state c.args.files.now).held c.args.script.now)
-    ((g.F.Files.state c.read.new.files).held c.args.log.now) ((g.F.Files.state c.args.files.now).held c.args.log.now) (c.in_ok-content.ensures.files c.args.log.now))
+    (λ act. log_told (placed c.args.source.now.program) c.args.source.now.names c.requires.names.same c.args.script.now c.args.log.now c.log_on.new.message act g.F.Files.tells
+    ((g.F.Files.state c.args.files.now).held c.args.script.now) ((g.F.Files.state c.read.new.files).held c.args.log.now) ((g.F.Files.state c.args.files.now).held c.args.log.now)
+    (IsContent longest_text c.in_ok-content.content) c.in-Ok.lines.lines c.in-Ok.lines.end c.in_ok-content.ensures.content c.in-Ok.ensures.script (c.in_ok-content.ensures.files c.args.log.now))
     c.log_on.ensures.told
 
 pub returns-in-Ok-refuse_script-clause-told : goal.returns-in-Ok-refuse_script-clause-told
 returns-in-Ok-refuse_script-clause-told g c =
-    script_told c.args.source.now.names c.args.script.now c.args.log.now c.refuse_script.new.message c.in-Ok-refuse_script.act g.F.Files.tells
+    script_told (placed c.args.source.now.program) c.args.source.now.names c.requires.names.same c.args.script.now c.args.log.now c.refuse_script.new.message c.in-Ok-refuse_script.act g.F.Files.tells
     ((g.F.Files.state c.args.files.now).held c.args.script.now) ((g.F.Files.state c.args.files.now).held c.args.log.now) (IsContent longest_text c.in_ok-content.content)
     c.in_ok-content.ensures.content c.in-Ok-refuse_script.ensures.told
