@@ -1,6 +1,6 @@
 -- Events that are allowed in turn.
-use Rattle.std.specs.Prelude.{◌≡◌, ◌+◌, ◌<◌, ℕ, zero, suc, Bool, true, false, ◌++◌, List, [], ◌∷◌, Some, length, slice_get, take, drop}
-use Rattle.std.proofs.Common.{refl, ◌∙◌, ap, subst, arith, get_or}
+use Rattle.std.specs.Prelude.{◌≡◌, ◌+◌, ◌<◌, ℕ, zero, suc, Bool, true, false, List, [], ◌∷◌, Some, length, slice_get, take, drop}
+use Rattle.std.proofs.Common.{refl, sym, ◌∙◌, ap, subst, arith, get_or}
 use Rattle.std.proofs.lemmas.Option.{slice_get-get_or}
 use Rattle.base.specs.declared.event.Event.{Event}
 use Rattle.base.specs.declared.event.Act.TheVariants as act
@@ -9,7 +9,7 @@ use Rattle.source_semantics.specs.Config.{Config}
 use Rattle.source_semantics.specs.Starts.{NoneMissing, Script}
 use Rattle.source_semantics.specs.Source.{RunFrom, Step}
 use Rattle.replay_due_events.specs.Accepts.{Accepts}
-use Rattle.source_semantics.specs.Verdicts.{Allowed, IsRefusedAt}
+use Rattle.source_semantics.specs.Verdicts.{Allowed, Stops}
 
 -- one more of the list's events is allowed
 pub allowed_next : (g : Program) (s : Script) (c : Config) (es : List Event) (k : ℕ) (d : Config) (e : Event) (new : Config) → slice_get es k ≡ Some e → Allowed g s c (take k es) d → Step g s d e new
@@ -28,44 +28,6 @@ taken_all : (es : List Event) → take (length es) es ≡ es
 taken_all [] = refl
 taken_all (x ∷ xs) = ap (λ l. x ∷ l) (taken_all xs)
 
-taken_rest : (es : List Event) (k : ℕ) (e : Event) → slice_get es k ≡ Some e → es ≡ take k es ++ e ∷ drop (suc k) es
-taken_rest [] k e got = absurd cc
-taken_rest (x ∷ xs) zero e got = let same : x ≡ e = cc in ap (λ y. y ∷ xs) same
-taken_rest (x ∷ xs) (suc k) e got = ap (λ l. x ∷ l) (taken_rest xs k e got)
-
-taken_length : (es : List Event) (k : ℕ) (e : Event) → slice_get es k ≡ Some e → length (take k es) ≡ k
-taken_length [] k e got = absurd cc
-taken_length (x ∷ xs) zero e got = refl
-taken_length (x ∷ xs) (suc k) e got = ap suc (taken_length xs k e got)
-
-pub refused_at : (g : Program) (s : Script) (c : Config) (es : List Event) (k : ℕ) (d : Config) (e : Event) (n : ℕ) → slice_get es k ≡ Some e → Allowed g s c (take k es) d
-    → ((new : Config) → Step g s d e new → ⊥) → n ≡ k + 1 → IsRefusedAt g s c es n
-refused_at g s c es k d e n got before none line = record {
-  earlier = take k es;
-  later = e ∷ drop (suc k) es;
-  parts = taken_rest es k e got;
-  line = omega (arith, line, taken_length es k e got);
-  reached = d;
-  allowed = before;
-  stops = none;
-}
-
-append_nothing : (es : List Event) → es ≡ es ++ []
-append_nothing [] = refl
-append_nothing (x ∷ xs) = ap (λ l. x ∷ l) (append_nothing xs)
-
-pub refused_at_end : (g : Program) (s : Script) (c : Config) (es : List Event) (d : Config) (n : ℕ) → Allowed g s c es d → (NoneMissing g s d s.end_tick → ⊥) → n ≡ length es + 1
-    → IsRefusedAt g s c es n
-refused_at_end g s c es d n all missing line = record {
-  earlier = es;
-  later = [];
-  parts = append_nothing es;
-  line = omega (arith, line);
-  reached = d;
-  allowed = all;
-  stops = missing;
-}
-
 pub allowed_all : (g : Program) (s : Script) (c : Config) (es : List Event) (k : ℕ) (d : Config) → k ≡ length es → Allowed g s c (take k es) d → Allowed g s c es d
 allowed_all g s c es k d end w = subst (λ (l : List Event). Allowed g s c l d) (ap (λ j. take j es) end ∙ taken_all es) w
 
@@ -80,8 +42,32 @@ allowed_here g s c es k d true new low before step is =
     subst (λ (n : ℕ). Allowed g s c (take n es) new) more (allowed_next g s c es k d (get_or es k some_event) new (slice_get-get_or es k some_event low) before step)
 allowed_here g s c es k d false new low before stays is = absurd cc
 
-pub refused_here : (g : Program) (s : Script) (c : Config) (es : List Event) (k : ℕ) (d : Config) (b : Bool) (new : Config) → k < length es → Allowed g s c (take k es) d
-    → Accepts g s d (get_or es k some_event) b new → b ≡ false → IsRefusedAt g s c es (k + 1)
-refused_here g s c es k d true new low before step is = absurd cc
-refused_here g s c es k d false new low before stays is =
-    refused_at g s c es k d (get_or es k some_event) (k + 1) (slice_get-get_or es k some_event low) before stays.0 refl
+-- an event that is not allowed is the first of those that stop
+dropped : (es : List Event) (k : ℕ) (e : Event) → slice_get es k ≡ Some e → drop k es ≡ e ∷ drop (suc k) es
+dropped [] k e got = absurd cc
+dropped (x ∷ xs) zero e got = let same : x ≡ e = cc in ap (λ y. y ∷ xs) same
+dropped (x ∷ xs) (suc k) e got = dropped xs k e got
+
+pub stops_here : (g : Program) (s : Script) (es : List Event) (k : ℕ) (d : Config) (b : Bool) (new : Config) → k < length es → Accepts g s d (get_or es k some_event) b new → b ≡ false
+    → Stops g s d (drop k es)
+stops_here g s es k d true new low step is = absurd cc
+stops_here g s es k d false new low stays is =
+    let front : drop k es ≡ get_or es k some_event ∷ drop (suc k) es = dropped es k (get_or es k some_event) (slice_get-get_or es k some_event low) in
+    subst (λ (l : List Event). Stops g s d l) (sym front) stays.0
+
+-- and the configuration is the one before it
+pub stays_here : (g : Program) (s : Script) (d : Config) (e : Event) (b : Bool) (new : Config) → Accepts g s d e b new → b ≡ false → new ≡ d
+stays_here g s d e true new step is = absurd cc
+stays_here g s d e false new stays is = stays.1
+
+-- behind the last event a start event that is missing stops them
+dropped_all : (es : List Event) → drop (length es) es ≡ []
+dropped_all [] = refl
+dropped_all (x ∷ xs) = dropped_all xs
+
+pub stops_behind : (g : Program) (s : Script) (es : List Event) (k : ℕ) (d : Config) → k ≡ length es → (NoneMissing g s d s.end_tick → ⊥) → Stops g s d (drop k es)
+stops_behind g s es k d end missing = subst (λ (l : List Event). Stops g s d l) (sym (ap (λ j. drop j es) end ∙ dropped_all es)) missing
+
+-- by equal tables, scripts and configurations
+pub along : {A B C : Type 0} (P : A → B → C → Type 0) (a x : A) (b y : B) (c z : C) → a ≡ x → b ≡ y → c ≡ z → P a b c → P x y z
+along P a x b y c z one two three p = subst (λ (k : C). P x y k) three (subst (λ (k : B). P x k c) two (subst (λ (k : A). P k b c) one p))

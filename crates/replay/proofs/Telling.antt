@@ -63,7 +63,9 @@ module _ (g : Prog Place) (names : ImageNames) (same : names ≡ names_of (plain
       → ((text : List ℕ) → P text → IsScript names text lines end) → mid ≡ other → OnTrue tells (IsSomeAnd mid (λ text. Explains (IsLogTold g lines end log text (outcome_of act) message) act))
       → OnTrue tells (Explains (IsScriptOrLogTold g script log held other (outcome_of act) message) act)
   log_told true (Some text) (Some events) other P lines end is script_is stays told = λ refused. inr (
-    lines, end, subst (λ (n : ImageNames). IsScript n text lines end) same (script_is text is),
+    lines,
+    end,
+    subst (λ (n : ImageNames). IsScript n text lines end) same (script_is text is),
     subst (λ (o : Option (List ℕ)). IsSomeAnd o (λ t. IsLogTold g lines end log t (outcome_of act) message)) stays (told refused),
   )
   log_told true (Some text) None other P lines end is script_is stays told = absurd told

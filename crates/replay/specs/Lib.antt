@@ -4,4 +4,3 @@ pub mod Held
 pub mod Scripted
 pub mod Lines
 pub mod Explained
-pub mod Refusing

@@ -6,14 +6,14 @@
 //!
 //! Events, judged in turn.
 
-ghost use Rattle.std.specs.Prelude.{IfOk, length, ◌<◌, ◌^◌};
+ghost use Rattle.std.specs.Prelude.{IfOk, drop, length, take, ◌<◌, ◌^◌, ◌≡◌, ◌≤◌};
 ghost use Rattle.replay_script.specs.Cursors.{IsAt, script_in};
 ghost use Rattle.replay_accept.specs.Running.{Stands, program_of};
 ghost use Rattle.replay_state.specs.View.{config_of};
 ghost use Rattle.script.specs.Meaning.{said};
-ghost use Rattle.source_semantics.specs.Verdicts.{Stops};
+ghost use Rattle.source_semantics.specs.Config.{Config as SourceConfig};
+ghost use Rattle.source_semantics.specs.Verdicts.{Allowed, Stops};
 ghost use Rattle.replay_reason_spec.specs.Findings.{Finds};
-ghost use Rattle.replay.specs.Refusing.{Refuses};
 
 use base::Event;
 use replay_accept::Running;
@@ -23,23 +23,40 @@ use replay_script::ScriptCursor;
 use script::Script;
 use std::alloc::AllocError;
 
-/// What is found where the events from this line on stop.
+/// The events from this one on, the first being 0.
+fn events_from(events: &[Event], at: usize) -> &[Event]
+    requires { at ≤ length events.now }
+    ensures { result.now ≡ drop at events.now }
+{
+    &events[at..]
+}
+
+/// What is found of events of which so many are allowed in turn, from some configuration to the one
+/// at hand, and the next one is not; or there is none, and a start event is missing.
 fn refuse(
     running: &mut Running<'_>,
     script: &ScriptCursor<'_>,
-    later: &[Event],
-    line: u32,
+    events: &[Event],
+    at: usize,
 ) -> Result<Finding, AllocError>
+    ghost begun: { SourceConfig }
     requires stands { Stands running.old }
     requires script { IsAt running.old.config.tick script.now }
     requires end { script.now.script.now.end < 2 ^ 61 }
+    requires few { length events.now < 4294967295 }
+    requires at { at ≤ length events.now }
+    requires allowed { Allowed (program_of running.old.rules) (script_in script.now) begun
+        (take at events.now) (config_of running.old.config) }
     requires stops { Stops (program_of running.old.rules) (script_in script.now)
-        (config_of running.old.config) later.now }
-    ensures { IfOk result (Refuses (program_of running.old.rules) (script_in script.now)
-        (config_of running.old.config) later.now line) }
+        (config_of running.old.config) (drop at events.now) }
+    ensures { IfOk result (Finds (program_of running.old.rules) (script_in script.now) begun
+        events.now) }
 {
-    let reason = find_reason(running, script, later)?;
-    Ok(Finding::Refused { line, reason })
+    let reason = find_reason(running, script, events_from(events, at))?;
+    Ok(Finding::Refused {
+        line: at as u32 + 1,
+        reason,
+    })
 }
 
 /// Whether the events are a run over the script, which has reached the tick of the configuration at
@@ -53,18 +70,18 @@ fn judge_over(
     requires script { IsAt running.old.config.tick script.old }
     requires end { script.old.script.now.end < 2 ^ 61 }
     requires few { length events.now < 4294967295 }
-    ensures { IfOk result (λ found. Finds (program_of running.old.rules)
-        (script_in script.old) (config_of running.old.config) events.now found) }
+    ensures { IfOk result (Finds (program_of running.old.rules) (script_in script.old)
+        (config_of running.old.config) events.now) }
 {
     for (at, event) in events.iter().enumerate() {
         if !running.accept(script, event)? {
-            return refuse(running, script, &events[at..], at as u32 + 1);
+            return refuse(running, script, events, at);
         }
     }
     if running.is_complete(script) {
         Ok(Finding::Run)
     } else {
-        refuse(running, script, &[], events.len() as u32 + 1)
+        refuse(running, script, events, events.len())
     }
 }
 
@@ -78,9 +95,8 @@ pub fn judge(
     requires stands { Stands running.old }
     requires end { script.now.end < 2 ^ 61 }
     requires few { length events.now < 4294967295 }
-    ensures { IfOk result (λ found. Finds (program_of running.old.rules)
-        (said script.now.lines script.now.end) (config_of running.old.config) events.now
-        found) }
+    ensures { IfOk result (Finds (program_of running.old.rules)
+        (said script.now.lines script.now.end) (config_of running.old.config) events.now) }
 {
     let mut cursor = ScriptCursor::new(running.rules.text.alloc, script)?;
     cursor.pass(running.config.tick);

@@ -130,9 +130,9 @@ fn finding_on(
     requires written { IsWritten text (placed source.now.program) }
     requires end { script.now.end < 2 ^ 61 }
     requires few { length events.now < 4294967295 }
-    ensures { IfOk result (λ found. Finds (plain (placed source.now.program))
+    ensures { IfOk result (Finds (plain (placed source.now.program))
         (said script.now.lines script.now.end) (start (plain (placed source.now.program)))
-        events.now found) }
+        events.now) }
 {
     replay(alloc, &source.program, script, events)
 }

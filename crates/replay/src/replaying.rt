@@ -39,9 +39,9 @@ fn judged<'a, 'b: 'a>(
     requires routines { routine_count (plain (placed declarations.now)) ≤ 512 }
     requires end { script.now.end < 2 ^ 61 }
     requires few { length events.now < 4294967295 }
-    ensures { IfOk result (λ found. Finds (plain (placed declarations.now))
+    ensures { IfOk result (Finds (plain (placed declarations.now))
         (said script.now.lines script.now.end) (start_of (plain (placed declarations.now)))
-        events.now found) }
+        events.now) }
 {
     let mut running = start(alloc, declarations, ranks)?;
     judge(&mut running, script, events)
@@ -61,9 +61,9 @@ pub fn replay(
     requires written { IsWritten text (placed program.now) }
     requires end { script.now.end < 2 ^ 61 }
     requires few { length events.now < 4294967295 }
-    ensures { IfOk result (λ found. Finds (plain (placed program.now))
+    ensures { IfOk result (Finds (plain (placed program.now))
         (said script.now.lines script.now.end) (start_of (plain (placed program.now)))
-        events.now found) }
+        events.now) }
 {
     checked_programs_are_ready();
     frames_pass();
