@@ -3,3 +3,9 @@ pub mod Halving
 pub mod Lighter
 pub mod More
 pub mod Paid
+pub mod Less
+pub mod Changed
+pub mod Judged
+pub mod Laws
+pub mod Overheads
+pub mod Growing

@@ -1,6 +1,0 @@
-pub mod Fit
-pub mod Numbers
-pub mod Overhead
-pub mod Rows
-pub mod Lines
-pub mod Example
