@@ -15,7 +15,6 @@ use std::marker::Model;
 use syntax_tree::{Constant, Declaration, Name, Program};
 
 /// The constants, devices, routines, monitors and processes of a program.
-#[derive(Drop)]
 pub struct Tables<'a> {
     numbering: Numbering<'a>,
     values: ConstantValues<'a>,
@@ -35,6 +34,20 @@ impl<'a> Model for Tables<'a> {
     ghost view = { λ t. t.values };
 
     ghost invariant = { λ t. AreTables t.values t.numbering t.devices };
+}
+
+/// By hand, so that whoever lets tables go has one call to prove, and not its parts.
+impl Drop for Tables<'_> {
+    fn drop(self) {
+        let Tables {
+            numbering,
+            values,
+            devices,
+        } = self;
+        drop(numbering);
+        drop(values);
+        drop(devices);
+    }
 }
 
 /// Lists the device that a declaration declares, if it does.

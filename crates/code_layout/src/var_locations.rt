@@ -12,7 +12,6 @@ use std::marker::Model;
 use syntax_tree::Name;
 
 /// Variables in the order of their declarations, in which the first of a name is found at once.
-#[derive(Drop)]
 pub struct VarLocations<'a> {
     names: NameList<'a>,
     spots: Vec<VarLocation>,
@@ -24,6 +23,15 @@ impl<'a> Model for VarLocations<'a> {
     ghost Value = { Tabled };
 
     ghost view = { λ s. record { names = s.names; spots = s.spots.items } };
+}
+
+/// By hand, as that of `Tables`.
+impl Drop for VarLocations<'_> {
+    fn drop(self) {
+        let VarLocations { names, spots } = self;
+        drop(names);
+        drop(spots);
+    }
 }
 
 impl<'a> VarLocations<'a> {
