@@ -13,6 +13,3 @@ invariant-loop-at l = record {
   same : l.script.script ≡ l.initial.script.script;
   allowed : Allowed (program_of l.initial.running.rules) (script_in l.initial.script) (config_of l.initial.running.config) (take l.at l.events) (config_of l.running.config);
 }
-
-abbrev pub ghost-refuse : goal.ghost-refuse
-ghost-refuse a = config_of a.running.now.config

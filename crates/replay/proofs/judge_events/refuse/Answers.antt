@@ -8,7 +8,7 @@ use Rattle.replay_reason_spec.specs.Reasons.{IsReason}
 use Rattle.replay.proofs.judge_events.refuse.Goals as goal
 
 pub returns : goal.returns
-returns g c =
+returns c = λ begun allowed.
     let es = c.args.events.now in
     let k = c.args.at in
     let reached = config_of c.args.running.now.config in
@@ -16,9 +16,9 @@ returns g c =
       earlier = take k es;
       later = drop k es;
       parts = sym (take-append-drop k es);
-      line = omega (arith, length-take-le k es c.requires.1.1.1.1.0);
+      line = omega (arith, length-take-le k es c.requires.at);
       reached = reached;
-      allowed = c.requires.1.1.1.1.1.0;
-      stops = c.requires.1.1.1.1.1.1;
+      allowed = allowed;
+      stops = c.requires.stops;
       reason = subst (λ (l : List Event). IsReason (program_of c.args.running.now.rules) (script_in c.args.script.now) reached l c.in_ok-reason.reason) c.events_from.ensures c.in_ok-reason.ensures;
     }
