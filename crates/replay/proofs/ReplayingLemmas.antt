@@ -70,4 +70,4 @@ stops_behind g s es k d end missing = subst (λ (l : List Event). Stops g s d l)
 
 -- by equal tables, scripts and configurations
 pub along : {A B C : Type 0} (P : A → B → C → Type 0) (a x : A) (b y : B) (c z : C) → a ≡ x → b ≡ y → c ≡ z → P a b c → P x y z
-along P a x b y c z one two three p = subst (λ (k : C). P x y k) three (subst (λ (k : B). P x k c) two (subst (λ (k : A). P k b c) one p))
+along {A = A} {B = B} {C = C} P a x b y c z one two three p = subst (λ (k : C). P x y k) three (subst (λ (k : B). P x k c) two (subst (λ (k : A). P k b c) one p))

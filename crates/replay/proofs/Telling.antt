@@ -1,5 +1,5 @@
 -- What is told of `replay`, where the call is refused.
-use Rattle.std.proofs.Common.{◌≡◌, ◌∙◌, ◌⊎◌, ℕ, List, Option, Some, None, Bool, true, false, ap, inl, inr, refl, subst}
+use Rattle.std.proofs.Common.{◌≡◌, ◌∙◌, ◌⊎◌, ℕ, List, Option, Some, None, Bool, true, false, ap, inl, inr, refl, subst, sym}
 use Rattle.std.specs.Prelude.{IsSomeAnd}
 use Rattle.std.specs.Bool.{OnTrue}
 use Rattle.base.specs.declared.event.Event.{Event}
@@ -14,7 +14,9 @@ use Rattle.image.specs.declared.names.ImageNames.{ImageNames}
 use Rattle.built_image.specs.Named.{names_of}
 use Rattle.event_log.specs.Logs.{IsLog}
 use Rattle.command_words.specs.Calls as call
+use Rattle.command_due.specs.CommandsDue as due
 use Rattle.command_due.specs.CommandsDue.{Outcome}
+use Rattle.command_due.specs.ReplayDue.{refused_line}
 use Rattle.command_due.specs.Source.{IsWritten}
 use Rattle.command_answers.specs.declared.act.PreparedCall.{PreparedCall}
 use Rattle.command_answers.specs.Acts.{outcome_of}
@@ -26,9 +28,16 @@ use Rattle.message_log.specs.Refused.{refused_message}
 use Rattle.replay_reason_spec.specs.Findings.{Finds}
 use Rattle.replay_reason_spec.specs.declared.finding.Finding.{Finding}
 use Rattle.replay_reason_spec.specs.declared.finding.Finding.TheVariants as found_is
+use Rattle.replay_reason_spec.specs.declared.reason.Reason.{Reason}
 use Rattle.replay.specs.Explained.{IsFindingTold, IsLaterLogTold, IsScriptOrLogTold}
 
 -- ---- the log
+
+-- a line that is refused
+pub refused_told : (names : ImageNames) (file log : List ℕ) (line : ℕ) (why : Reason) (found : Finding) (outcome : Outcome) (message : List ℕ) → found ≡ found_is.Refused line why
+    → outcome ≡ due.told 9 (refused_line line) → message ≡ refused_message file log line names why → IsFindingTold names file log found outcome message
+refused_told names file log line why found outcome message is put told_is =
+    subst (λ (f : Finding). IsFindingTold names file log f outcome message) (sym is) (put, told_is)
 
 module _ (g : Prog Place) (names : ImageNames) (same : names ≡ names_of (plain g)) (lines : List ScriptLine) (end : ℕ) (file log : List ℕ) (outcome : Outcome) (message : List ℕ) where
   -- its text is that of no log

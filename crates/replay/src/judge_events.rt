@@ -31,26 +31,26 @@ fn events_from(events: &[Event], at: usize) -> &[Event]
     &events[at..]
 }
 
-/// What is found of events of which so many are allowed in turn, from some configuration to the one
-/// at hand, and the next one is not; or there is none, and a start event is missing.
+/// What is found of events of which the one at this place is not allowed, or there is none and a
+/// start event is missing: from each configuration from which those before it lead to the one at
+/// hand.
 fn refuse(
     running: &mut Running<'_>,
     script: &ScriptCursor<'_>,
     events: &[Event],
     at: usize,
 ) -> Result<Finding, AllocError>
-    ghost begun: { SourceConfig }
     requires stands { Stands running.old }
     requires script { IsAt running.old.config.tick script.now }
     requires end { script.now.script.now.end < 2 ^ 61 }
     requires few { length events.now < 4294967295 }
     requires at { at ≤ length events.now }
-    requires allowed { Allowed (program_of running.old.rules) (script_in script.now) begun
-        (take at events.now) (config_of running.old.config) }
     requires stops { Stops (program_of running.old.rules) (script_in script.now)
         (config_of running.old.config) (drop at events.now) }
-    ensures { IfOk result (Finds (program_of running.old.rules) (script_in script.now) begun
-        events.now) }
+    ensures { IfOk result (λ found. (begun : SourceConfig) →
+        Allowed (program_of running.old.rules) (script_in script.now) begun (take at events.now)
+        (config_of running.old.config) →
+        Finds (program_of running.old.rules) (script_in script.now) begun events.now found) }
 {
     let reason = find_reason(running, script, events_from(events, at))?;
     Ok(Finding::Refused {

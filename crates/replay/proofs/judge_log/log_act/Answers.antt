@@ -25,7 +25,7 @@ returns-in_ok-found-in-Ok-clause-due c =
     subst (λ (events : List Event). Finds (plain p) s (start (plain p)) events found) c.as_slice.ensures c.in_ok-found-in-Ok.ensures in
     judged_run p c.args.source.now.names c.requires.source.names.same c.args.script.now.lines c.args.script.now.end (IsContent longest_text c.args.content.now)
     c.in-Ok.events (verdict_of found) c.put_verdict.result c.in-Ok.ensures.log (judged (plain p) s (start (plain p)) c.in-Ok.events found finds)
-    (subst (λ (count : ℕ). IfOk c.put_verdict.result (λ act. act ≡ puts (status_of (verdict_of found)) (line_of (verdict_of found) count))) c.len.ensures c.put_verdict.ensures.act)
+    (subst (λ (count : ℕ). IfOk c.put_verdict.result (λ act. act ≡ puts (status_of (verdict_of found)) (line_of (verdict_of found) count))) c.len-count.ensures c.put_verdict.ensures.act)
 
 pub returns-in_ok-found-in-Ok-clause-told : goal.returns-in_ok-found-in-Ok-clause-told
 returns-in_ok-found-in-Ok-clause-told c =
