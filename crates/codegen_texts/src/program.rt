@@ -26,12 +26,9 @@ use syntax_tree::{Name, Program};
 
 /// The names of a program that all its texts share: constants, devices, callees, the variables of
 /// processes and monitors, and the conditions.
-#[derive(Drop)]
 pub struct ProgramNames<'a> {
     tables: Tables<'a>,
-    callees: Vec<Callee>,
-    outer: OuterLocations<'a>,
-    conditions: Conditions<'a>,
+    shared: SharedNames<'a>,
 }
 
 impl<'a> Model for ProgramNames<'a> {
@@ -46,7 +43,16 @@ impl<'a> Model for ProgramNames<'a> {
 
     ghost view = { λ n. n.tables };
 
-    ghost invariant = { λ n. AreNames n.tables n.callees.items n.outer.processes.items n.outer.monitors.items n.conditions.lists.items n.conditions.count };
+    ghost invariant = { λ n. AreNames n.tables n.shared.callees.items n.shared.outer.processes.items n.shared.outer.monitors.items n.shared.conditions.lists.items n.shared.conditions.count };
+}
+
+/// By hand, so that whoever lets the names go has one call to prove, and not their parts.
+impl Drop for ProgramNames<'_> {
+    fn drop(self) {
+        let ProgramNames { tables, shared } = self;
+        drop(tables);
+        drop(shared);
+    }
 }
 
 /// What the texts of a program share beside its tables.
@@ -79,12 +85,7 @@ impl<'a> ProgramNames<'a> {
     {
         let tables = Tables::new(alloc, program)?;
         let shared = shared_names(alloc, &tables)?;
-        Ok(ProgramNames {
-            tables,
-            callees: shared.callees,
-            outer: shared.outer,
-            conditions: shared.conditions,
-        })
+        Ok(ProgramNames { tables, shared })
     }
 
     /// The constants, devices and routines.
@@ -106,7 +107,7 @@ impl<'a> ProgramNames<'a> {
         ensures { (x : SpecName) → outer_in result x ≡
             told_spot (outer_spot (plain (placed self.now)) (owner_of (RoutineOwner.Process number)) x) }
     {
-        self.outer.processes.get(number)
+        self.shared.outer.processes.get(number)
     }
 
     /// The variables of a monitor, if there is one of that number.
@@ -114,7 +115,7 @@ impl<'a> ProgramNames<'a> {
         ensures { (x : SpecName) → outer_in result x ≡
             told_spot (outer_spot (plain (placed self.now)) (owner_of (RoutineOwner.Monitor number)) x) }
     {
-        self.outer.monitors.get(number)
+        self.shared.outer.monitors.get(number)
     }
 
     /// The variables that a text of the owner names beside those of its frame.
@@ -134,7 +135,7 @@ impl<'a> ProgramNames<'a> {
         ensures { result ≡ fit (pos (condition_of (plain (placed self.now))
             (owner_of (RoutineOwner.Monitor number)) name.now)) }
     {
-        condition_number(&self.conditions, number, name)
+        condition_number(&self.shared.conditions, number, name)
     }
 
     /// The number of a condition that a text of the owner names, which is that of a monitor.
@@ -156,7 +157,7 @@ impl<'a> ProgramNames<'a> {
     {
         let texts = self.numbering().directory().texts();
         match texts.index(text.owner, &text.routine.name) {
-            Some(index) => self.callees.get(index),
+            Some(index) => self.shared.callees.get(index),
             None => None,
         }
     }

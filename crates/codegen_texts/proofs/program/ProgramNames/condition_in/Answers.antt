@@ -17,6 +17,6 @@ returns c =
     let ms = monitors (plain (placed c.self.inside.tables)) in
     subst P c.self.view_is
     (to_z-of_z w32 c.condition_number.result (search rules) ∙ c.condition_number.ensures
-    ∙ ap (λ l. fit (pos (number_among (slice_get l c.args.number) c.self.inside.conditions.count c.args.name.now))) c.self.invariant.conditions_are
+    ∙ ap (λ l. fit (pos (number_among (slice_get l c.args.number) c.self.inside.shared.conditions.count c.args.name.now))) c.self.invariant.conditions_are
     ∙ ap (λ n. fit (pos (number_among (slice_get (conditions_from 0 ms) c.args.number) n c.args.name.now))) c.self.invariant.count_is
     ∙ ap (λ n. fit (pos n)) (number-told 0 ms c.args.number c.args.name.now))
