@@ -7,10 +7,10 @@ ghost use Rattle.compile.specs.Steps.{IsRanked};
 ghost use Rattle.analysis_command.specs.Analysed.{AreLevels, IsAnalysed, IsLevel};
 
 use crate::{CallGraph, blocker, call_graph};
-use built_tasks_law::ranks_and_ceilings::ranks_are_of_the_meaning;
-use built_tasks_law::tasks_of_text::tasks_are_of_the_text;
 use built_image_law::generated_within_limits::generated_code_is_code;
 use built_image_law::premises_of_laws::checked_programs_are_ready;
+use built_tasks_law::ranks_and_ceilings::ranks_are_of_the_meaning;
+use built_tasks_law::tasks_of_text::tasks_are_of_the_text;
 use code_names::Numbering;
 use image::RawImage;
 use loader::{task_at, task_set};

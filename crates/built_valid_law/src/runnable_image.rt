@@ -9,11 +9,11 @@ ghost use Rattle.built_valid_law.specs.Ready.{BuiltImagesAreReady};
 
 use crate::image_of_program::built_images_are_made;
 use crate::valid_image_law_of_checked::checked_images_are_valid;
+use built_image_law::generated_within_limits::programs_that_keep_sizes_are_small;
 use built_image_law::names_fit::names_of_texts_are_short;
 use built_image_law::number_limits::built_images_are_in_limits;
-use built_image_law::suitable_scripts::names_have_frames;
-use built_image_law::generated_within_limits::programs_that_keep_sizes_are_small;
 use built_image_law::premises_of_laws::checked_programs_are_ready;
+use built_image_law::suitable_scripts::names_have_frames;
 use code_measures::declared_images_valid::code_has_its_length;
 use valid_image_law::validity_law::valid_meets_premises;
 use vm_law::numbers_in_range::valid_operands_are_there;

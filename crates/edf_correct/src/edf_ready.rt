@@ -11,13 +11,13 @@ ghost use Rattle.edf_correct.specs.Ready.{EdfImagesAreReady, EdfImagesHaveParts,
 
 use crate::edf_premises::{edf_deadlines_are_met, waitless_images_meet_premises};
 use crate::edf_waits::waitless_programs_have_no_wait;
+use built_image_law::generated_within_limits::generated_code_is_code;
 use built_image_law::names_fit::names_of_texts_are_short;
 use built_image_law::number_limits::shaped_images_are_in_limits;
+use built_image_law::premises_of_laws::checked_programs_are_ready;
 use built_image_law::suitable_scripts::names_have_frames;
 use built_valid_law::image_of_program::words_are_few;
 use built_valid_law::valid_image_law_of_checked::checked_operands_are_in_range;
-use built_image_law::generated_within_limits::generated_code_is_code;
-use built_image_law::premises_of_laws::checked_programs_are_ready;
 use edf_machine::runnable_law::{waitless_runs_are_runnable, waitless_runs_have_lines};
 use vm_law::suitable_scripts::scripts_suit;
 

@@ -10,10 +10,10 @@ ghost use Rattle.replay_law.specs.Stored.{BuiltImagesAreHeld, BuiltImagesAreRang
 
 use crate::names_are_words::names_of_texts_are_identifiers;
 use crate::operand_words::made_code_has_words;
-use built_valid_law::image_of_program::built_images_are_made;
-use built_valid_law::runnable_image::built_images_are_ready;
 use built_image_law::generated_within_limits::programs_that_keep_sizes_are_small;
 use built_image_law::premises_of_laws::checked_programs_are_ready;
+use built_valid_law::image_of_program::built_images_are_made;
+use built_valid_law::runnable_image::built_images_are_ready;
 use code_measures::declared_images_valid::code_has_its_length;
 use image_reader_law::stored_images::valid_images_are_held;
 use wellformed_law::{declarations_are_listed, names_are_found};

@@ -10,8 +10,8 @@ ghost use Rattle.vm_runner.specs.Runnable.{IsRunnable};
 ghost use Rattle.vm_state.specs.Plan.{IsOf};
 
 use crate::course::Course;
-use run_chart::{Columns, columns_of, text_of};
 use image::RawImage;
+use run_chart::{Columns, columns_of, text_of};
 use script::Script;
 use std::alloc::{AllocError, Global};
 use syntax_tree::Text;
