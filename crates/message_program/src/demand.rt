@@ -42,7 +42,7 @@ fn tell_too_many(alloc: Global, file: &[u8]) -> Result<Text, AllocError>
 /// The message for a program of which the test of the demand says this: how many ticks may be
 /// needed within some ticks, or that the points are too many to look at. It is empty where the
 /// demand is met.
-#[tactic(auto, unfolding(crate::specs::Message::demand_message))]
+#[tactic(auto, unfolding(crate::specs::Late::demand_message))]
 pub fn demand_message(alloc: Global, file: &str, answer: &Judgement) -> Result<Text, AllocError>
     ensures { IfOk result (λ message. message ≡ demand_message file.now answer.now) }
 {

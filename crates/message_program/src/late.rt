@@ -117,7 +117,7 @@ fn tell_late(
 /// The message for a program of which a process has no bound under an overhead of so many ticks:
 /// the first such process with its deadline, and the calls that tell more. Where no row lacks a
 /// bound, or the first that does has no name, no process is named.
-#[tactic(auto, unfolding(crate::specs::Message::late_message))]
+#[tactic(auto, unfolding(crate::specs::Late::late_message))]
 pub fn late_message(
     alloc: Global,
     file: &str,
