@@ -1,5 +1,5 @@
 -- The tests of parts, by what was found of them.
-use Rattle.std.specs.Prelude.{◌+◌, ◌-◌, ℕ, List, Option, Some, None, max, min, nat_le}
+use Rattle.std.specs.Prelude.{◌-◌, ℕ, List, Option, Some, None, cond, nat_le, nat_lt}
 use Rattle.base.specs.Capped.{cap}
 use Rattle.machine_semantics.specs.Image.{Image, Routine, Process}
 use Rattle.sched_response.specs.declared.tasks.Task.{Task}
@@ -8,6 +8,7 @@ use Rattle.valid_image.specs.Fault.{or_else, unless, first_in}
 use Rattle.valid_image.specs.Found.{Found, longer, plus}
 use Rattle.valid_image.specs.Pieces.{Owner}
 use Rattle.valid_image.specs.Sizes.{below, with_dispatch}
+use Rattle.faulty_part.specs.declared.part.FaultyPart.{FaultyPart}
 use Rattle.faulty_part.specs.declared.part.FaultyPart.TheVariants as part
 use Rattle.faulty_part.specs.declared.part.Subject.TheVariants as subject
 use Rattle.faulty_part.specs.declared.part.PartFault.{PartFault}
@@ -18,6 +19,10 @@ use Rattle.validity_parts.specs.declared.operands.CodePiece.{CodePiece}
 abbrev pub owner_of : Option CodePiece → Option Owner
 owner_of None = None
 owner_of (Some x) = Some (record { number = x.number; start = x.start })
+
+-- the part that a piece is of, where so many routines come first
+abbrev pub part_at : (routines piece : ℕ) → FaultyPart
+part_at routines piece = cond (nat_lt piece routines) (part.Routine piece) (part.Process (piece - routines))
 
 -- a routine whose code comes to f, and which stays so long in its monitor
 abbrev pub routine_cost_by : ℕ → Routine → Found → (stay : ℕ) → Option PartFault

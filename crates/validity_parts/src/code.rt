@@ -13,6 +13,7 @@ ghost use Rattle.loader_code.specs.TreesTold.{known_of, told, told_part};
 ghost use Rattle.loader_code.specs.Whole.{stay_in};
 ghost use Rattle.loader.specs.Found.{guard_two, handler_in, told_process, two};
 ghost use Rattle.loader.specs.Parts.{AreParts, AreRoutines};
+ghost use Rattle.faulty_part.specs.declared.part.FaultyPart.TheVariants as part;
 ghost use Rattle.faulty_part.specs.declared.part.Subject.TheVariants as subject;
 ghost use Rattle.faulty_part.specs.Parts.{code_of_process, code_of_routine, code_part};
 
@@ -130,14 +131,48 @@ fn process_due(
     })
 }
 
-/// The fault of code that is declared to start at an address.
-fn wrong(part: FaultyPart, start: usize) -> PartFault
-    ensures { result ≡ record { part = part; subject = subject.Code; a = start; b = 0 } }
+/// The fault of the routine behind those that are kept, which is declared to start there.
+fn wrong_routine(kept: &[PartCost], start: u32) -> PartFault
+    ensures { result ≡ record {
+      part = part.Routine (length kept.now);
+      subject = subject.Code;
+      a = start;
+      b = 0;
+    } }
 {
     PartFault {
-        part,
+        part: FaultyPart::Routine(kept.len()),
         subject: Subject::Code,
-        a: start as u64,
+        a: u64::from(start),
+        b: 0,
+    }
+}
+
+/// The fault of the process behind those that are kept, likewise.
+fn wrong_process(kept: &[ProcessCost], start: u32) -> PartFault
+    ensures { result ≡ record {
+      part = part.Process (length kept.now);
+      subject = subject.Code;
+      a = start;
+      b = 0;
+    } }
+{
+    PartFault {
+        part: FaultyPart::Process(kept.len()),
+        subject: Subject::Code,
+        a: u64::from(start),
+        b: 0,
+    }
+}
+
+/// The fault of code from an address on that nobody has.
+fn uncovered(address: usize) -> PartFault
+    ensures { result ≡ record { part = part.Whole; subject = subject.Code; a = address; b = 0 } }
+{
+    PartFault {
+        part: FaultyPart::Whole,
+        subject: Subject::Code,
+        a: address as u64,
         b: 0,
     }
 }
@@ -163,10 +198,7 @@ fn routines_fault(raw: &RawImage, parts: &mut CodeCosts) -> Result<Option<PartFa
             parts.end,
         ) {
             Some(part) => part,
-            None => {
-                let part = FaultyPart::Routine(parts.routines.len());
-                return Ok(Some(wrong(part, routine.start as usize)));
-            }
+            None => return Ok(Some(wrong_routine(parts.routines.as_slice(), routine.start))),
         };
         parts.end = part.found.next + 1;
         parts.known.push(known_routine(routine, part.found.depth))?;
@@ -195,10 +227,7 @@ fn processes_fault(raw: &RawImage, parts: &mut CodeCosts) -> Result<Option<PartF
             parts.end,
         ) {
             Some(found) => found,
-            None => {
-                let part = FaultyPart::Process(parts.processes.len());
-                return Ok(Some(wrong(part, process.start as usize)));
-            }
+            None => return Ok(Some(wrong_process(parts.processes.as_slice(), process.start))),
         };
         parts.end = found.end;
         parts.processes.push(found)?;
@@ -227,7 +256,7 @@ pub fn code_part_fault(
         return Ok(Some(fault));
     }
     if parts.end != raw.code.len() {
-        return Ok(Some(wrong(FaultyPart::Whole, parts.end)));
+        return Ok(Some(uncovered(parts.end)));
     }
     Ok(None)
 }

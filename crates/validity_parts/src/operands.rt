@@ -1,12 +1,12 @@
 //! Whose instruction it is that breaks a rule.
 
-ghost use Rattle.std.specs.Prelude.{◌≡◌, ◌≤◌, cond, IfOk, None, Some, map};
+ghost use Rattle.std.specs.Prelude.{◌≡◌, cond, IfOk, None, Some, length, map};
 ghost use Rattle.image.specs.Raw.{image_of, process_of, routine_of};
 ghost use Rattle.valid_image.specs.Operands.{operand_fault as defined_fault};
 ghost use Rattle.valid_image.specs.Pieces.{closest, comes_closer as defined_closer, piece_of_process, piece_of_routine, pieces};
 ghost use Rattle.loader_code.specs.Told.{told};
 ghost use Rattle.faulty_part.specs.Parts.{operand_part};
-ghost use Rattle.validity_parts.specs.Found.{owner_of};
+ghost use Rattle.validity_parts.specs.Found.{owner_of, part_at};
 
 use faulty_part::{FaultyPart, PartFault, Subject};
 use image::{RawImage, RawProcess, RawRoutine};
@@ -61,7 +61,6 @@ fn closest_process(
     best: Option<CodePiece>,
     address: u64,
 ) -> Option<CodePiece>
-    requires { before ≤ 4294967295 }
     ensures { owner_of result ≡ closest (map piece_of_process (map process_of processes.now)) before
         address (owner_of best) }
 {
@@ -82,7 +81,9 @@ fn piece_at(raw: &RawImage, address: u64) -> Option<CodePiece>
 }
 
 /// The part of a piece.
-fn part_of(raw: &RawImage, piece: usize) -> FaultyPart {
+fn part_of(raw: &RawImage, piece: usize) -> FaultyPart
+    ensures { result ≡ part_at (length raw.now.routines) piece }
+{
     let routines = raw.routines.len();
     if piece < routines {
         FaultyPart::Routine(piece)
@@ -96,17 +97,20 @@ fn at_address(raw: &RawImage, fault: FaultNumbers) -> Option<PartFault>
     requires { told (Some fault) ≡ defined_fault (image_of raw.now) }
     ensures { result ≡ operand_part (image_of raw.now) }
 {
-    let piece = piece_at(raw, fault.a)?;
-    Some(PartFault {
-        part: part_of(raw, piece.number),
-        subject: Subject::Operand,
-        a: fault.a,
-        b: fault.b,
-    })
+    match piece_at(raw, fault.a) {
+        Some(piece) => Some(PartFault {
+            part: part_of(raw, piece.number),
+            subject: Subject::Operand,
+            a: fault.a,
+            b: fault.b,
+        }),
+        None => None,
+    }
 }
 
 /// The first instruction that breaks a rule, with the routine or process that its address belongs
 /// to; or that memory is short.
+#[tactic(auto, using(crate::proofs::Owners::no_operand))]
 pub fn operand_part_fault(alloc: Global, raw: &RawImage) -> Result<Option<PartFault>, AllocError>
     ensures { IfOk result (λ found. found ≡ operand_part (image_of raw.now)) }
 {

@@ -18,8 +18,9 @@ fn routines_fault(raw: &RawImage) -> Option<PartFault>
 {
     let routines = raw.routines.as_slice();
     for r in 0..routines.len() {
-        let (locals, params) = (u64::from(routines[r].locals), u64::from(routines[r].params));
-        match below(FaultyPart::Routine(r), Subject::Locals, locals, params) {
+        let routine = &routines[r];
+        let part = FaultyPart::Routine(r);
+        match below(part, Subject::Locals, routine.locals as u64, routine.params as u64) {
             Some(fault) => return Some(fault),
             None => {}
         }
@@ -52,12 +53,12 @@ fn monitors_fault(raw: &RawImage) -> Option<PartFault>
     let mut due = 0;
     for m in 0..monitors.len() {
         let monitor = &monitors[m];
-        let base = u64::from(monitor.base);
-        match other(FaultyPart::Monitor(m), Subject::Base, base, due) {
+        let part = FaultyPart::Monitor(m);
+        match other(part, Subject::Base, monitor.base as u64, due) {
             Some(fault) => return Some(fault),
             None => {}
         }
-        due = base + u64::from(monitor.words);
+        due = monitor.base as u64 + monitor.words as u64;
     }
     None
 }

@@ -22,6 +22,7 @@ use loader::{CodeCosts, handler_fault, longest_stays, task_set, waits_table};
 use std::alloc::{AllocError, Global};
 
 /// The first process with a wrong handler.
+#[tactic(auto, using(crate::proofs::Owners::handler_named, crate::proofs::Owners::no_handler))]
 fn handler_part_fault(alloc: Global, raw: &RawImage) -> Result<Option<PartFault>, AllocError>
     ensures { IfOk result (λ found. found ≡ handler_part (image_of raw.now)) }
 {
@@ -48,6 +49,7 @@ fn bounds_fault(alloc: Global, raw: &RawImage) -> Result<Option<PartFault>, Allo
 }
 
 /// The first fault of a rank, a ceiling, a block or a bound.
+#[tactic(auto, using(crate::proofs::Needs::ranks_right))]
 fn times_fault(alloc: Global, raw: &RawImage) -> Result<Option<PartFault>, AllocError>
     requires { HasRanges raw.now }
     ensures { IfOk result (λ found. found ≡ times_part (image_of raw.now)) }

@@ -1,0 +1,24 @@
+//! What a message without a line begins with.
+
+ghost use Rattle.std.specs.Prelude.{◌≡◌, ◌++◌, OnOk};
+ghost use Rattle.tmp_msg.specs.Image.{opening};
+
+use crate::plain::add_plain;
+use crate::put::{add_number, add_parts};
+use std::alloc::AllocError;
+use syntax_tree::Text;
+
+/// Puts the file and the fault, by its letter and number.
+pub(crate) fn add_opening(
+    text: &mut Text,
+    file: &[u8],
+    letter: &[u8],
+    number: u8,
+) -> Result<(), AllocError>
+    ensures { OnOk result (text.new ≡ text.old ++ opening file.now letter.now number) }
+{
+    add_plain(text, file)?;
+    add_parts(text, &[b": ", letter])?;
+    add_number(text, usize::from(number))?;
+    text.extend(b": ")
+}
