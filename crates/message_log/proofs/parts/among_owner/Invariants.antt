@@ -1,7 +1,7 @@
 use Rattle.std.proofs.Common.{◌≡◌, ◌≤◌, map}
 use Rattle.faulty_part.specs.Among.{number_among}
 use Rattle.image.specs.Raw.{routine_of}
-use Rattle.tmp_msg.proofs.parts.among_owner.Given as goal
+use Rattle.message_log.proofs.parts.among_owner.Given as goal
 
 abbrev pub invariant-loop-other : goal.invariant-loop-other
 invariant-loop-other l = record {

@@ -10,7 +10,7 @@ use Rattle.image.specs.Raw.{routine_of}
 use Rattle.faulty_part.specs.Among.{number_among, share_owner}
 use Rattle.faulty_part.specs.declared.part.Subject.{Subject}
 use Rattle.faulty_part.specs.declared.part.Subject.TheVariants as subject
-use Rattle.tmp_msg.specs.Image.{around, whole_sentence}
+use Rattle.message_log.specs.Image.{around, whole_sentence}
 
 there : (xs : List RawRoutine) (i : ℕ) (y : RawRoutine) → i < length xs → y ≡ get_or xs i y → get_or (map routine_of xs) i (routine_of y) ≡ routine_of y
 there xs i y low is =

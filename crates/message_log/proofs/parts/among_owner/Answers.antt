@@ -1,9 +1,9 @@
 use Rattle.std.proofs.Common.{◌≡◌, ◌<◌, ◌+◌, length, arith, ap, sym, ◌∙◌, map}
 use Rattle.faulty_part.specs.Among.{number_among}
 use Rattle.image.specs.Raw.{routine_of}
-use Rattle.tmp_msg.proofs.Naming.{counted_yes, counted_no}
-use Rattle.tmp_msg.proofs.parts.among_owner.Goals.{then-share_owner, else-share_owner}
-use Rattle.tmp_msg.proofs.parts.among_owner.Goals as goal
+use Rattle.message_log.proofs.Naming.{counted_yes, counted_no}
+use Rattle.message_log.proofs.parts.among_owner.Goals.{then-share_owner, else-share_owner}
+use Rattle.message_log.proofs.parts.among_owner.Goals as goal
 
 pub loop-other-preserved : goal.loop-other-preserved
 loop-other-preserved c =
