@@ -1,5 +1,4 @@
 pub mod ImageExamples
 pub mod Others
 pub mod Examples
-mod Naming
 mod Listing

@@ -19,7 +19,6 @@ mod bytes;
 mod event_line;
 mod messages;
 mod openings;
-mod parts;
 mod reasons;
 mod refused;
 mod table;
