@@ -211,8 +211,8 @@ fn add_sentence(text: &mut Text, raw: &RawImage, fault: PartFault) -> Result<(),
     }
 }
 
-/// The number of the test that fails.
-fn number_of(subject: Subject) -> u8
+/// The number of the test that a subject belongs to, from 1 to 7.
+pub fn test_number(subject: Subject) -> u8
     ensures { result ≡ defined_number (test_of subject) }
 {
     match subject {
@@ -239,7 +239,7 @@ pub fn valid_message(
         valid_message file.now (named_of raw.now) fault) }
 {
     let mut message = Text::new(alloc);
-    add_opening(&mut message, file.as_bytes(), b"V", number_of(fault.subject))?;
+    add_opening(&mut message, file.as_bytes(), b"V", test_number(fault.subject))?;
     add_sentence(&mut message, raw, fault)?;
     message.extend(b"\n")?;
     Ok(message)
