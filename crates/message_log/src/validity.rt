@@ -239,7 +239,12 @@ pub fn valid_message(
         valid_message file.now (named_of raw.now) fault) }
 {
     let mut message = Text::new(alloc);
-    add_opening(&mut message, file.as_bytes(), b"V", test_number(fault.subject))?;
+    add_opening(
+        &mut message,
+        file.as_bytes(),
+        b"V",
+        test_number(fault.subject),
+    )?;
     add_sentence(&mut message, raw, fault)?;
     message.extend(b"\n")?;
     Ok(message)
