@@ -117,7 +117,7 @@ in_routines image f is =
       k = first.k;
       owner = belongs_in image first.k (whose_routine first.k here.x) f here.is;
       named = ap (λ o. or_else o (first_in (operand_of_process image) image.processes)) all
-      ∙ ap (λ b. Some (record { part = cond b (part.Routine first.k) (part.Process (first.k - length image.routines)); subject = subject.Operand; a = f.a; b = f.b })) (sym yes);
+          ∙ ap (λ b. Some (record { part = cond b (part.Routine first.k) (part.Process (first.k - length image.routines)); subject = subject.Operand; a = f.a; b = f.b })) (sym yes);
     }
 
 in_processes : (image : Image) (f : Fault) → routines_operand_fault image ≡ None → processes_operand_fault image ≡ Some f → IsPlaced image f
@@ -136,8 +136,8 @@ in_processes image f none is =
       k = piece_number image first.k;
       owner = belongs_in image (piece_number image first.k) (whose_process image first.k here.x) f here.is;
       named = ap (λ o. or_else o (first_in (operand_of_process image) image.processes)) routines ∙ all
-      ∙ ap (λ n. Some (record { part = part.Process n; subject = subject.Operand; a = f.a; b = f.b })) back
-      ∙ ap (λ b. Some (record { part = cond b (part.Routine (piece_number image first.k)) (part.Process (piece_number image first.k - length image.routines)); subject = subject.Operand; a = f.a; b = f.b })) (sym no);
+          ∙ ap (λ n. Some (record { part = part.Process n; subject = subject.Operand; a = f.a; b = f.b })) back
+          ∙ ap (λ b. Some (record { part = cond b (part.Routine (piece_number image first.k)) (part.Process (piece_number image first.k - length image.routines)); subject = subject.Operand; a = f.a; b = f.b })) (sym no);
     }
 
 pub placed : (image : Image) (f : Fault) → Some f ≡ operand_fault image → IsPlaced image f
@@ -171,7 +171,7 @@ no_operand image is = go (routines_operand_fault image) refl where
 
 number_told : (b : Bool) (k : ℕ) (f : Fault) → unless b k 0 ≡ Some f → f.a ≡ k
 number_told true k f is = absurd cc
-number_told false k f is = let e : record { a = k; b = 0 } ≡ f = cc in ap (λ (x : Fault). x.a) (sym e)
+number_told false k f is = let e : f ≡ record { a = k; b = 0 } = cc in ap (λ (x : Fault). x.a) e
 
 pub handler_named : (image : Image) (f : Fault) → Some f ≡ handler_fault image → Some (record { part = part.Process f.a; subject = subject.Handler; a = f.a; b = f.b }) ≡ handler_part image
 handler_named image f is =

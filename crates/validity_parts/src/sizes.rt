@@ -20,7 +20,12 @@ fn routines_fault(raw: &RawImage) -> Option<PartFault>
     for r in 0..routines.len() {
         let routine = &routines[r];
         let part = FaultyPart::Routine(r);
-        match below(part, Subject::Locals, routine.locals as u64, routine.params as u64) {
+        match below(
+            part,
+            Subject::Locals,
+            routine.locals as u64,
+            routine.params as u64,
+        ) {
             Some(fault) => return Some(fault),
             None => {}
         }

@@ -23,6 +23,6 @@ loop-m-preserved c =
     let next : suc m ≡ m + 1 = omega arith in
     record {
       search = goes_on_in monitor_of (base_of_monitor (image_of raw)) raw.monitors c.as_slice-monitors.result.now m c.index-monitors-m.result _ c.as_slice-monitors.ensures c.loop-m-test.true c.index-monitors-m.is
-      (c.in-None.ensures ∙ ap (λ d. of (part.Monitor m) subject.Base (other c.index-monitors-m.result.base d)) c.loop-m.invariant.due) c.loop-m.invariant.search;
+          (c.in-None.ensures ∙ ap (λ d. of (part.Monitor m) subject.Base (other c.index-monitors-m.result.base d)) c.loop-m.invariant.due) c.loop-m.invariant.search;
       due = sym (ap (λ n. due_base (map monitor_of raw.monitors) n) (sym next) ∙ ap end_of_words (map_get monitor_of raw.monitors m c.index-monitors-m.result x));
     }
