@@ -20,12 +20,12 @@ there xs i y low is =
 
 -- the next one is of the owner, or is not
 pub counted_yes : (xs : List RawRoutine) (i : ℕ) (x y : RawRoutine) → i < length xs → y ≡ get_or xs i y → true ≡ share_owner (routine_of x) (routine_of y) → number_among (map routine_of xs) (i + 1) (routine_of x) ≡ number_among (map routine_of xs) i (routine_of x) + 1
-counted_yes xs i x y low is yes =
-    count_by_more_yes (share_owner (routine_of x)) (map routine_of xs) i (routine_of y) (omega (arith, low, length-map xs routine_of)) (ap (share_owner (routine_of x)) (there xs i y low is) ∙ sym yes)
+counted_yes xs i x y low is hit =
+    count_by_more_yes (share_owner (routine_of x)) (map routine_of xs) i (routine_of y) (omega (arith, low, length-map xs routine_of)) (ap (share_owner (routine_of x)) (there xs i y low is) ∙ sym hit)
 
 pub counted_no : (xs : List RawRoutine) (i : ℕ) (x y : RawRoutine) → i < length xs → y ≡ get_or xs i y → false ≡ share_owner (routine_of x) (routine_of y) → number_among (map routine_of xs) (i + 1) (routine_of x) ≡ number_among (map routine_of xs) i (routine_of x)
-counted_no xs i x y low is no =
-    count_by_more_no (share_owner (routine_of x)) (map routine_of xs) i (routine_of y) (omega (arith, low, length-map xs routine_of)) (ap (share_owner (routine_of x)) (there xs i y low is) ∙ sym no)
+counted_no xs i x y low is miss =
+    count_by_more_no (share_owner (routine_of x)) (map routine_of xs) i (routine_of y) (omega (arith, low, length-map xs routine_of)) (ap (share_owner (routine_of x)) (there xs i y low is) ∙ sym miss)
 
 pub uncovered : (s : Subject) (a b : ℕ) → s ≢ subject.Words → whole_sentence s a b ≡ around (codes "the code from address ") a (codes " on belongs to no routine and no process")
 uncovered subject.Operand a b other = refl

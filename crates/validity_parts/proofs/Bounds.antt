@@ -26,7 +26,7 @@ told_late : (p : FaultyPart) (a b c d : ℕ) → a ≡ c → b ≡ d → of p su
 told_late p a b c d one two = ap (λ n. of p subject.Deadline (Some (record { a = n; b = b }))) one ∙ ap (λ n. of p subject.Deadline (Some (record { a = c; b = n }))) two
 
 not_within : (demand bound : ℕ) → nat_le demand bound ≡ false → bound < demand
-not_within demand bound no = grind (arith, nat_tests, no)
+not_within demand bound miss = grind (arith, nat_tests, miss)
 
 pub short_test : (p : FaultyPart) (f : Fault) (solved timely : Bool) (bound demand deadline : ℕ) → nat_le bound deadline ≡ timely → Some f ≡ or_else (unless solved bound demand) (unless timely bound deadline) → f.a < f.b
     → of p subject.Bound (Some f) ≡ two_tests p solved timely bound demand deadline
@@ -37,20 +37,20 @@ short_test p f true false bound demand deadline late is less =
 
 pub late_test : (p : FaultyPart) (f : Fault) (solved timely : Bool) (bound demand deadline : ℕ) → nat_le demand bound ≡ solved → Some f ≡ or_else (unless solved bound demand) (unless timely bound deadline) → (f.a < f.b → ⊥)
     → of p subject.Deadline (Some f) ≡ two_tests p solved timely bound demand deadline
-late_test p f true true bound demand deadline solved is no = absurd cc
-late_test p f true false bound demand deadline solved is no = let n = first_number f (record { a = bound; b = deadline }) is in told_late p f.a f.b bound deadline n.0 n.1
-late_test p f false timely bound demand deadline solved is no =
-    let n = first_number f (record { a = bound; b = demand }) is in absurd (no (omega (arith, n.0, n.1, not_within demand bound solved)))
+late_test p f true true bound demand deadline solved is miss = absurd cc
+late_test p f true false bound demand deadline solved is miss = let n = first_number f (record { a = bound; b = deadline }) is in told_late p f.a f.b bound deadline n.0 n.1
+late_test p f false timely bound demand deadline solved is miss =
+    let n = first_number f (record { a = bound; b = demand }) is in absurd (miss (omega (arith, n.0, n.1, not_within demand bound solved)))
 
 less : (a b : ℕ) → nat_lt a b ≡ true → a < b
-less a b yes = grind (arith, nat_tests, yes)
+less a b hit = grind (arith, nat_tests, hit)
 
 not_less : (a b : ℕ) → nat_lt a b ≡ false → a < b → ⊥
-not_less a b no low = grind (arith, nat_tests, no, low)
+not_less a b miss low = grind (arith, nat_tests, miss, low)
 
 pub which : (p : FaultyPart) (f : Fault) (bound demand deadline : ℕ) → Some f ≡ or_else (unless (nat_le demand bound) bound demand) (unless (nat_le bound deadline) bound deadline)
     → of p (cond (nat_lt f.a f.b) subject.Bound subject.Deadline) (Some f) ≡ two_tests p (nat_le demand bound) (nat_le bound deadline) bound demand deadline
 which p f bound demand deadline is = go (nat_lt f.a f.b) refl where
   go : (b : Bool) → nat_lt f.a f.b ≡ b → of p (cond (nat_lt f.a f.b) subject.Bound subject.Deadline) (Some f) ≡ two_tests p (nat_le demand bound) (nat_le bound deadline) bound demand deadline
-  go true yes = ap (λ b. of p (cond b subject.Bound subject.Deadline) (Some f)) yes ∙ short_test p f (nat_le demand bound) (nat_le bound deadline) bound demand deadline refl is (less f.a f.b yes)
-  go false no = ap (λ b. of p (cond b subject.Bound subject.Deadline) (Some f)) no ∙ late_test p f (nat_le demand bound) (nat_le bound deadline) bound demand deadline refl is (not_less f.a f.b no)
+  go true hit = ap (λ b. of p (cond b subject.Bound subject.Deadline) (Some f)) hit ∙ short_test p f (nat_le demand bound) (nat_le bound deadline) bound demand deadline refl is (less f.a f.b hit)
+  go false miss = ap (λ b. of p (cond b subject.Bound subject.Deadline) (Some f)) miss ∙ late_test p f (nat_le demand bound) (nat_le bound deadline) bound demand deadline refl is (not_less f.a f.b miss)

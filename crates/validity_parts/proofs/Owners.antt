@@ -34,25 +34,27 @@ record FirstAt (f : ℕ → Option Fault) (n at : ℕ) (y : Fault) : Type 0 wher
   is : f k ≡ Some y
   named : (g : ℕ → Option PartFault) (z : PartFault) → ((j : ℕ) → f j ≡ None → g j ≡ None) → g k ≡ Some z → first_of g n at ≡ Some z
 
+first_step : (f : ℕ → Option Fault) (n at : ℕ) (y : Fault) (o : Option Fault) → f at ≡ o → first_of f (suc n) at ≡ Some y → (first_of f n (at + 1) ≡ Some y → FirstAt f n (at + 1) y) → FirstAt f (suc n) at y
+first_step f n at y None none is later =
+    let rest = later (ap (λ o. or_else o (first_of f n (at + 1))) (sym none) ∙ is) in
+    record { k = rest.k; is = rest.is; named = λ g z nones some. ap (λ o. or_else o (first_of g n (at + 1))) (nones at none) ∙ rest.named g z nones some }
+first_step f n at y (Some x) some is later =
+    let this : Some x ≡ Some y = ap (λ o. or_else o (first_of f n (at + 1))) (sym some) ∙ is in
+    record { k = at; is = some ∙ this; named = λ g z nones is-z. ap (λ o. or_else o (first_of g n (at + 1))) is-z }
+
 first_at : (f : ℕ → Option Fault) (n at : ℕ) (y : Fault) → first_of f n at ≡ Some y → FirstAt f n at y
 first_at f zero at y is = absurd cc
-first_at f (suc n) at y is = go (f at) refl where
-  go : (o : Option Fault) → f at ≡ o → FirstAt f (suc n) at y
-  go None none =
-      let later : first_of f n (at + 1) ≡ Some y = ap (λ o. or_else o (first_of f n (at + 1))) (sym none) ∙ is in
-      let rest = first_at f n (at + 1) y later in
-      record { k = rest.k; is = rest.is; named = λ g z nones some. ap (λ o. or_else o (first_of g n (at + 1))) (nones at none) ∙ rest.named g z nones some }
-  go (Some x) some =
-      let this : Some x ≡ Some y = ap (λ o. or_else o (first_of f n (at + 1))) (sym some) ∙ is in
-      record { k = at; is = some ∙ this; named = λ g z nones is-z. ap (λ o. or_else o (first_of g n (at + 1))) is-z }
+first_at f (suc n) at y is = first_step f n at y (f at) refl is (first_at f n (at + 1) y)
+
+none_step : (f : ℕ → Option Fault) (g : ℕ → Option PartFault) (n at : ℕ) (o : Option Fault) → ((j : ℕ) → f j ≡ None → g j ≡ None) → f at ≡ o → first_of f (suc n) at ≡ None
+    → (first_of f n (at + 1) ≡ None → first_of g n (at + 1) ≡ None) → first_of g (suc n) at ≡ None
+none_step f g n at None nones none is later =
+    ap (λ o. or_else o (first_of g n (at + 1))) (nones at none) ∙ later (ap (λ o. or_else o (first_of f n (at + 1))) (sym none) ∙ is)
+none_step f g n at (Some x) nones some is later = let wrong : Some x ≡ None = ap (λ o. or_else o (first_of f n (at + 1))) (sym some) ∙ is in absurd cc
 
 none_named : (f : ℕ → Option Fault) (g : ℕ → Option PartFault) → ((j : ℕ) → f j ≡ None → g j ≡ None) → (n at : ℕ) → first_of f n at ≡ None → first_of g n at ≡ None
 none_named f g nones zero at is = refl
-none_named f g nones (suc n) at is = go (f at) refl where
-  go : (o : Option Fault) → f at ≡ o → first_of g (suc n) at ≡ None
-  go None none =
-      ap (λ o. or_else o (first_of g n (at + 1))) (nones at none) ∙ none_named f g nones n (at + 1) (ap (λ o. or_else o (first_of f n (at + 1))) (sym none) ∙ is)
-  go (Some x) some = let wrong : Some x ≡ None = ap (λ o. or_else o (first_of f n (at + 1))) (sym some) ∙ is in absurd cc
+none_named f g nones (suc n) at is = none_step f g n at (f at) nones refl is (none_named f g nones n (at + 1))
 
 -- ---- one piece
 
@@ -72,10 +74,10 @@ belongs_at image k w a f is = go (belongs image k a) refl where
   inner = of_some (λ instr. shown_operand a (bad_operand image w instr)) (slice_get image.code a)
 
   go : (b : Bool) → belongs image k a ≡ b → belongs image k f.a ≡ true
-  go true yes =
-      let same : f.a ≡ a = instr_at a (bad_operand image w) (slice_get image.code a) f (ap (λ b. cond b inner None) (sym yes) ∙ is) in
-      ap (λ n. belongs image k n) same ∙ yes
-  go false no = let wrong : None ≡ Some f = ap (λ b. cond b inner None) (sym no) ∙ is in absurd cc
+  go true hit =
+      let same : f.a ≡ a = instr_at a (bad_operand image w) (slice_get image.code a) f (ap (λ b. cond b inner None) (sym hit) ∙ is) in
+      ap (λ n. belongs image k n) same ∙ hit
+  go false miss = let wrong : None ≡ Some f = ap (λ b. cond b inner None) (sym miss) ∙ is in absurd cc
 
 belongs_in : (image : Image) (k : ℕ) (w : Whose) (f : Fault) → operand_fault_in image k w ≡ Some f → belongs image k f.a ≡ true
 belongs_in image k w f is = let first = first_at (operand_fault_at image k w) (length image.code) 0 f is in belongs_at image k w first.k f first.is
@@ -109,7 +111,7 @@ in_routines image f is =
     let first = first_at (λ r. of_some (λ x. operand_fault_in image r (whose_routine r x)) (slice_get image.routines r)) (length image.routines) 0 f is in
     let here = element (λ r x. operand_fault_in image r (whose_routine r x)) image.routines first.k f first.is in
     let low : first.k < length image.routines = slice_get_within image.routines first.k here.x here.at in
-    let yes : nat_lt first.k (length image.routines) ≡ true = grind (arith, nat_tests, low) in
+    let hit : nat_lt first.k (length image.routines) ≡ true = grind (arith, nat_tests, low) in
     let told : of_some (operand_of_routine image first.k) (slice_get image.routines first.k) ≡ Some (record { part = part.Routine first.k; subject = subject.Operand; a = f.a; b = f.b }) =
     ap (λ o. of_some (operand_of_routine image first.k) o) here.at ∙ ap (of (part.Routine first.k) subject.Operand) here.is in
     let all = first.named (λ r. of_some (operand_of_routine image r) (slice_get image.routines r)) _ (λ r none. no_name (part.Routine r) subject.Operand (λ x. operand_fault_in image r (whose_routine r x)) (slice_get image.routines r) none) told in
@@ -117,14 +119,14 @@ in_routines image f is =
       k = first.k;
       owner = belongs_in image first.k (whose_routine first.k here.x) f here.is;
       named = ap (λ o. or_else o (first_in (operand_of_process image) image.processes)) all
-          ∙ ap (λ b. Some (record { part = cond b (part.Routine first.k) (part.Process (first.k - length image.routines)); subject = subject.Operand; a = f.a; b = f.b })) (sym yes);
+          ∙ ap (λ b. Some (record { part = cond b (part.Routine first.k) (part.Process (first.k - length image.routines)); subject = subject.Operand; a = f.a; b = f.b })) (sym hit);
     }
 
 in_processes : (image : Image) (f : Fault) → routines_operand_fault image ≡ None → processes_operand_fault image ≡ Some f → IsPlaced image f
 in_processes image f none is =
     let first = first_at (λ k. of_some (λ p. operand_fault_in image (piece_number image k) (whose_process image k p)) (slice_get image.processes k)) (length image.processes) 0 f is in
     let here = element (λ k p. operand_fault_in image (piece_number image k) (whose_process image k p)) image.processes first.k f first.is in
-    let no : nat_lt (piece_number image first.k) (length image.routines) ≡ false = grind (arith, nat_tests) in
+    let miss : nat_lt (piece_number image first.k) (length image.routines) ≡ false = grind (arith, nat_tests) in
     let back : first.k ≡ piece_number image first.k - length image.routines = omega arith in
     let told : of_some (operand_of_process image first.k) (slice_get image.processes first.k) ≡ Some (record { part = part.Process first.k; subject = subject.Operand; a = f.a; b = f.b }) =
     ap (λ o. of_some (operand_of_process image first.k) o) here.at ∙ ap (of (part.Process first.k) subject.Operand) here.is in
@@ -137,7 +139,7 @@ in_processes image f none is =
       owner = belongs_in image (piece_number image first.k) (whose_process image first.k here.x) f here.is;
       named = ap (λ o. or_else o (first_in (operand_of_process image) image.processes)) routines ∙ all
           ∙ ap (λ n. Some (record { part = part.Process n; subject = subject.Operand; a = f.a; b = f.b })) back
-          ∙ ap (λ b. Some (record { part = cond b (part.Routine (piece_number image first.k)) (part.Process (piece_number image first.k - length image.routines)); subject = subject.Operand; a = f.a; b = f.b })) (sym no);
+          ∙ ap (λ b. Some (record { part = cond b (part.Routine (piece_number image first.k)) (part.Process (piece_number image first.k - length image.routines)); subject = subject.Operand; a = f.a; b = f.b })) (sym miss);
     }
 
 pub placed : (image : Image) (f : Fault) → Some f ≡ operand_fault image → IsPlaced image f
@@ -148,10 +150,10 @@ placed image f is = go (routines_operand_fault image) refl where
 
 -- the piece is the closest one
 pub is_closest : (k : ℕ) (o : Option Owner) (x : Owner) → is_owner k o ≡ true → o ≡ Some x → x.number ≡ k
-is_closest k o x yes is = eqb-true x.number k (ap (is_owner k) (sym is) ∙ yes)
+is_closest k o x hit is = eqb-true x.number k (ap (is_owner k) (sym is) ∙ hit)
 
 pub never_none : (k : ℕ) (o : Option Owner) → is_owner k o ≡ true → o ≡ None → ⊥
-never_none k o yes is = let wrong : false ≡ true = ap (is_owner k) (sym is) ∙ yes in absurd cc
+never_none k o hit is = let wrong : false ≡ true = ap (is_owner k) (sym is) ∙ hit in absurd cc
 
 pub no_operand : (image : Image) → None ≡ operand_fault image → operand_part image ≡ None
 no_operand image is = go (routines_operand_fault image) refl where

@@ -1,6 +1,6 @@
 //! Whose instruction it is that breaks a rule.
 
-ghost use Rattle.std.specs.Prelude.{◌≡◌, cond, IfOk, None, Some, length, map};
+ghost use Rattle.std.specs.Prelude.{◌≡◌, ◌≤◌, ◌+◌, cond, IfOk, None, Some, length, map};
 ghost use Rattle.image.specs.Raw.{image_of, process_of, routine_of};
 ghost use Rattle.valid_image.specs.Operands.{operand_fault as defined_fault};
 ghost use Rattle.valid_image.specs.Pieces.{closest, comes_closer as defined_closer, piece_of_process, piece_of_routine, pieces};
@@ -61,6 +61,7 @@ fn closest_process(
     best: Option<CodePiece>,
     address: u64,
 ) -> Option<CodePiece>
+    requires { before + length processes.now ≤ usize.MAX }
     ensures { owner_of result ≡ closest (map piece_of_process (map process_of processes.now)) before
         address (owner_of best) }
 {
