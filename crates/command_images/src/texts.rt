@@ -24,12 +24,12 @@ ghost use Rattle.message_log.specs.Image as message_of;
 
 use crate::images::store_image;
 use crate::{ImageTextFault, load_text};
+use asm_format::dis;
 use assembler::LONG_TEXT;
 use command_answers::{
     Content, LONGEST_IMAGE, LONGEST_IMAGE_TEXT, PrepareError, PreparedCall, Status, Store,
     image_fault_line, put, read, text_fault_line, valid_fault_line,
 };
-use asm_format::dis;
 use image::RawImage;
 use image_format::refusal;
 use image_reader::{ImageFault, read_image};

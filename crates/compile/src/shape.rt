@@ -9,10 +9,12 @@ ghost use Rattle.compile.specs.Steps.{AreParts, IsAssembled, IsRanked, IsSizeFau
 use crate::built::BuildFault;
 use crate::fields_fit::{checked_programs_fit_fields, made_programs_have_parts};
 use crate::measured_code::{MeasuredCode, parts_of};
+use built_image_law::generated_within_limits::{
+    generated_code_is_code, programs_that_keep_sizes_are_small,
+};
 use built_image_law::number_limits::shaped_images_are_in_limits;
-use built_image_law::shape_before_times::ranked_images_are_shaped;
-use built_image_law::generated_within_limits::{generated_code_is_code, programs_that_keep_sizes_are_small};
 use built_image_law::premises_of_laws::checked_programs_are_ready;
+use built_image_law::shape_before_times::ranked_images_are_shaped;
 use code_measures::declared_images_valid::code_has_its_length;
 use compile_image::assemble;
 use compile_schedule::rank;

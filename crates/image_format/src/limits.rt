@@ -5,7 +5,7 @@ ghost use Rattle.image_format.specs.TreeFormat.{image_limits, widest};
 
 /// Within what the numbers of segments are: how many instructions a line has, how many turns a
 /// loop, and the number of a monitor, which is below `monitors`.
-#[derive(Clone, Copy, Debug)]
+#[derive(Clone, Copy)]
 pub struct Limits {
     pub least_line: u32,
     pub most_line: u32,

@@ -16,7 +16,7 @@ use syntax_tree::List;
 
 /// A piece of code. Routines and monitors are numbered from 0. What has trees is kept in a box, so
 /// that a segment takes two words.
-#[derive(Debug, Drop)]
+#[derive(Drop)]
 pub enum Seg {
     /// So many instructions that go on to the next one, with no call and no monitor left or
     /// entered.
@@ -39,7 +39,7 @@ pub enum Seg {
 pub type Segs = List<Seg>;
 
 /// The two trees of a choice.
-#[derive(Debug, Drop)]
+#[derive(Drop)]
 pub struct Arms<T> {
     pub first: T,
     pub second: T,
@@ -53,7 +53,7 @@ pub struct Turns<T> {
 }
 
 /// A tree inside a monitor.
-#[derive(Debug, Drop)]
+#[derive(Drop)]
 pub struct Inside<T> {
     pub monitor: u16,
     pub body: T,

@@ -6,9 +6,9 @@ ghost use Rattle.run_chart.specs.Letters.{drawn, first_of_two};
 ghost use Rattle.run_chart.specs.Responses.{is_end, is_release};
 ghost use Rattle.run_chart.specs.Traces.{Counts, with_longest};
 
+use crate::Letter;
 use crate::letters::{drawn, first_of_two};
 use base::{Act, Event};
-use crate::Letter;
 use std::alloc::{AllocError, Global};
 use syntax_tree::Text;
 

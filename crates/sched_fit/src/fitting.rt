@@ -10,7 +10,7 @@ use sched_slack::first_failing;
 use std::sync::ledger::Ledger;
 
 /// Which number of a task is changed.
-#[derive(Clone, Copy, Debug, PartialEq, Eq)]
+#[derive(Clone, Copy)]
 pub enum Varied {
     /// The ticks that one activation runs.
     Cost,

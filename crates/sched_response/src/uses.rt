@@ -4,7 +4,7 @@ use base::Cost;
 use syntax_tree::List;
 
 /// How long a process stays inside a monitor, at most, in one call of an entry that it reaches.
-#[derive(Clone, Copy, Debug, PartialEq, Eq)]
+#[derive(Clone, Copy, Debug)]
 pub struct Stay {
     /// The monitor's number, from 0 in the order of the text.
     pub mon: u16,
@@ -13,7 +13,7 @@ pub struct Stay {
 }
 
 /// What a process uses.
-#[derive(Debug, Drop)]
+#[derive(Drop)]
 pub struct Use {
     /// The ticks from one release to the next, at least.
     pub frame: u64,
