@@ -18,30 +18,19 @@
 #
 # The aims, in seconds, are those of a plain native program for the same rules on a machine of this kind.
 set -euo pipefail
+here=$(dirname "$(realpath "$0")")
 rte=$(realpath "${1:?the built program}")
 folder=$(mktemp -d)
 trap 'rm -rf "$folder"' EXIT
 cd "$folder"
 
-awk 'BEGIN { print "program bench device valve : out process p : periodic frame 360441 begin"
-    for (i = 0; i < 32767; i++) print "put valve 1"
-    print "end p end bench" }' > puts
+. "$here/rows.sh"
 awk 'BEGIN { for (i = 0; i < 60; i++) name = name "a"
     print "program bench process p : periodic frame 1000000000"
     for (i = 0; i < 8; i++) printf "var %s%d : int\n", name, i
     print "begin"
     for (i = 0; i < 5400; i++) printf "%s%d := %s%d + %s%d\n", name, i % 8, name, (i + 1) % 8, name, (i + 3) % 8
     print "end p end bench" }' > text
-echo 'program bench process p : periodic frame 1000000000 begin end p end bench' > idle
-echo 'program bench process p : periodic frame 1000000000 var x : int begin for i : 1 .. 1000 do for j : 1 .. 10000 do x := i + j end for end for end p end bench' > loops
-echo 'program bench device valve : out process p : periodic frame 26 begin put valve 1 put valve 2 end p end bench' > events
-awk 'BEGIN { print "program bench device valve : out"
-    for (i = 0; i < 64; i++) printf "process p%d : periodic frame 960 begin put valve %d end p%d\n", i, i, i
-    print "end bench" }' > processes
-echo 'program bench device g : in process p : periodic frame 1000000000 begin end p end bench' > reader
-awk 'BEGIN { for (i = 0; i < 999999; i++) printf "%d set g 1\n", i; print "end 1000000" }' > lines
-echo 'program bench device g : in process p : periodic frame 60 var x : int begin get g x end p end bench' > sampler
-awk 'BEGIN { for (i = 0; i < 100000; i++) printf "%d set g %d\n", int(i * 24000 / 100000), i % 1000; print "end 24000" }' > often
 
 # measure NAME AIM WORD..
 measure() {
@@ -72,7 +61,6 @@ measure replay 0.8 replay processes script log
 measure besiderun 0.1 run image8 often
 measure beside 0.12 replay sampler often log
 measure script 0.11 go reader image7 lines
-echo 'program bench device valve : out process p : periodic frame 30 begin put valve 1 end p process q : periodic frame 52 begin put valve 2 end q end bench' > two
 echo 'end 10000000' > script
 measure earliest 0.1 edf two script
 measure make 0.05 make 7 64 load lines
