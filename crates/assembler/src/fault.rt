@@ -6,7 +6,7 @@ use thiserror::Error;
 pub const LONG_TEXT: u8 = 3;
 
 /// Why a text was refused. A fault of the text prints as its number and its line.
-#[derive(Clone, Copy, Debug, PartialEq, Eq, Error)]
+#[derive(Clone, Copy, Debug, Error)]
 pub enum AssemblyFault {
     /// The first faulty line, counted from 1, and the least number of its faults: 1 where it has no
     /// form of its place, 2 where a number, a name or a list of it is out of its range. The number

@@ -8,7 +8,7 @@ ghost use Rattle.base.specs.Capped.{cap};
 pub const OVER: u64 = 1_000_000_001;
 
 /// What one activation costs at most. Each number is capped.
-#[derive(Clone, Copy, Debug, PartialEq, Eq)]
+#[derive(Clone, Copy, Debug)]
 pub struct Cost {
     /// The ticks that it runs.
     pub run: u64,

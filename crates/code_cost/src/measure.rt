@@ -13,7 +13,7 @@ pub const MOST: u64 = 2_147_483_647;
 
 /// What the code of a text takes at most: its cost up to 1,000,000,001, the words of stack above
 /// those that are there where it begins, and its number of instructions, both up to `MOST`.
-#[derive(Clone, Copy, Debug, PartialEq, Eq)]
+#[derive(Clone, Copy)]
 pub struct Measure {
     pub cost: Cost,
     pub height: u64,
@@ -23,7 +23,7 @@ pub struct Measure {
 /// What is known of a routine: its cost behind its CALL, the ticks that an entry stays in its
 /// monitor, the words of stack that it takes above its locals, the words of its locals, and its
 /// number of instructions.
-#[derive(Clone, Copy, Debug, PartialEq, Eq)]
+#[derive(Clone, Copy)]
 pub struct RoutineMeasure {
     pub cost: Cost,
     pub stay: u64,

@@ -20,7 +20,7 @@ use syntax_tree::{Handler, List, Process, Routine, Scalar};
 
 /// What a process takes at most: the cost of an activation, dispatches left aside, the words of
 /// its stack, and the number of its instructions.
-#[derive(Clone, Copy, Debug, PartialEq, Eq)]
+#[derive(Clone, Copy)]
 pub struct ProcessMeasure {
     pub cost: Cost,
     pub stack: u64,
@@ -29,7 +29,7 @@ pub struct ProcessMeasure {
 
 /// The routines and entries of a program by their numbers, and its processes in the order of the
 /// text.
-#[derive(Debug, Drop)]
+#[derive(Drop)]
 pub struct Measures {
     pub routines: List<RoutineMeasure>,
     pub processes: List<ProcessMeasure>,

@@ -7,7 +7,7 @@ use crate::places::{calls_of, earliest};
 use syntax_tree::List;
 
 /// A piece of code that comes to a place.
-#[derive(Clone, Copy, Debug, PartialEq, Eq)]
+#[derive(Clone, Copy)]
 pub struct Reached {
     /// The place.
     pub place: usize,

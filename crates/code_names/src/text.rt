@@ -3,7 +3,7 @@
 use syntax_tree::Routine;
 
 /// Whose a routine is: the program's, or that of a process or a monitor by its number.
-#[derive(Clone, Copy, Debug, PartialEq, Eq, Hash)]
+#[derive(Clone, Copy, PartialEq, Eq, Hash)]
 pub enum RoutineOwner {
     Program,
     Process(usize),

@@ -16,7 +16,7 @@ pub struct Part {
 }
 
 /// The body of a process and its handler, if it has one.
-#[derive(Debug, Drop)]
+#[derive(Drop)]
 pub struct ProcessParts {
     pub body: Part,
     pub handler: Option<Part>,
@@ -24,7 +24,7 @@ pub struct ProcessParts {
 
 /// The code of a program: all routines and entries in the order of their numbers, then all
 /// processes in the order of the text.
-#[derive(Debug, Drop)]
+#[derive(Drop)]
 pub struct Code {
     pub instrs: List<Instr>,
     pub routines: List<Part>,

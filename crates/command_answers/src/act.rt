@@ -13,7 +13,7 @@ pub struct Store<'a> {
 }
 
 /// Which of the ready processes runs.
-#[derive(Clone, Copy, Debug, PartialEq, Eq)]
+#[derive(Clone, Copy)]
 pub enum Dispatch {
     /// The one of the highest active rank.
     Ranks,

@@ -3,7 +3,7 @@
 use std::alloc::AllocError;
 
 /// Why nothing was prepared.
-#[derive(Clone, Copy, Debug, PartialEq, Eq)]
+#[derive(Clone, Copy)]
 pub enum PrepareError<'a> {
     /// The read of the file of this name failed.
     Unread(&'a str),

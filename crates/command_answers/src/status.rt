@@ -1,7 +1,7 @@
 //! Statuses.
 
 /// How a call ended. The first that is due in the order of its steps is the answer.
-#[derive(Clone, Copy, Debug, PartialEq, Eq)]
+#[derive(Clone, Copy, PartialEq, Eq)]
 pub enum Status<'a> {
     /// 0: all that is due was done.
     Done,

@@ -10,7 +10,7 @@ use loader::first_fault;
 use std::alloc::Global;
 
 /// Why bytes gave no valid image.
-#[derive(Clone, Copy, Debug, PartialEq, Eq)]
+#[derive(Clone, Copy)]
 pub enum FileFault {
     /// They are no image: the first fault, by its number from 1 to 9 and its place from 0.
     Image { number: u8, offset: u32 },

@@ -11,7 +11,7 @@ use image_reader_law::images_read_are_in_their_ranges;
 use std::alloc::Global;
 
 /// Why a text gave no valid image.
-#[derive(Clone, Copy, Debug, PartialEq, Eq)]
+#[derive(Clone, Copy)]
 pub enum ImageTextFault {
     /// It is that of no image: the number of its fault from 1 to 3, and the line, from 1 on; 3 is of
     /// a text that is too long, on line 0.

@@ -31,7 +31,7 @@ use std::alloc::{AllocError, Global};
 use syntax_tree::{Name, Text};
 
 /// How a report is written.
-#[derive(Clone, Copy, Debug, PartialEq, Eq)]
+#[derive(Clone, Copy)]
 pub enum Format {
     /// As lines.
     Text,

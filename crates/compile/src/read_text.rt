@@ -9,7 +9,7 @@ use std::alloc::Global;
 use syntax_tree::Place;
 
 /// Why a text is not that of a program that keeps to all rules and is not too large.
-#[derive(Clone, Copy, Debug, PartialEq, Eq)]
+#[derive(Clone, Copy)]
 pub enum ProgramTextFault {
     /// Its fault, by its number and its place.
     Text { number: u8, place: Place },

@@ -13,7 +13,7 @@ use syntax_tree::{Constant, Name, Trigger};
 
 /// When a process is released: kind 0 every `frame` ticks from `first` on, kind 1 at an event, and
 /// within how many ticks an activation has to end.
-#[derive(Clone, Copy, Debug)]
+#[derive(Clone, Copy)]
 pub struct ReleaseFields {
     pub kind: u8,
     pub frame: u32,

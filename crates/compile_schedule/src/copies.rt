@@ -11,7 +11,7 @@ use syntax_tree::List;
 
 /// What is filled in last of a process: its rank, from 1, which is the highest, and its block and
 /// its bound, in ticks.
-#[derive(Clone, Copy, Debug, PartialEq, Eq)]
+#[derive(Clone, Copy)]
 pub struct Times {
     pub rank: u16,
     pub block: u32,

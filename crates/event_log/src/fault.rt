@@ -4,7 +4,7 @@ use std::alloc::AllocError;
 use thiserror::Error;
 
 /// Why a text was refused. Lines count from 1.
-#[derive(Debug, Drop, Error, PartialEq, Eq)]
+#[derive(Debug, Drop, Error)]
 pub enum LogFault {
     /// The line is the first that is the text of no event for the names.
     #[error("L1 {0}")]

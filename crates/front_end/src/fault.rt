@@ -7,7 +7,7 @@ use syntax_tree::Place;
 use thiserror::Error;
 
 /// Why a text was refused. A fault of the text prints as its number and its place.
-#[derive(Debug, Drop, Error, PartialEq, Eq)]
+#[derive(Debug, Drop, Error)]
 pub enum SourceFault {
     /// A fault of the text. 1: a byte that begins no blank, no comment and no token; 2: a literal
     /// above 2147483647; 3: an identifier of more than 63 bytes; 4: more than 1,048,576 bytes, at

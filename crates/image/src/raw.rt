@@ -9,7 +9,7 @@ use syntax_tree::{List, Name};
 
 /// A monitor: its words are those from `base` on, in the one area of all monitors. The ceiling is
 /// the highest rank that enters it, or 65535 where no process does.
-#[derive(Debug, Drop)]
+#[derive(Drop)]
 pub struct RawMonitor {
     pub base: u32,
     pub words: u32,
@@ -19,7 +19,7 @@ pub struct RawMonitor {
 /// A routine. Its kind is 0 for one of the program, 1 for one of a process, 2 for an entry of a
 /// monitor; the owner is the number of that process or monitor. `run`, `susp` and `stay` are in
 /// ticks, `locals` in words, `start` is the address of its first instruction.
-#[derive(Debug, Drop)]
+#[derive(Drop)]
 pub struct RawRoutine {
     pub kind: u8,
     pub owner: u16,
@@ -39,7 +39,7 @@ pub struct RawRoutine {
 /// ticks; an activation has to end within its deadline, at most the frame. `words` are its data
 /// words; `start` and `handler` are addresses; `numbers` are those that its handler takes, and
 /// `handler_tree` is there exactly where these are.
-#[derive(Debug, Drop)]
+#[derive(Drop)]
 pub struct RawProcess {
     pub kind: u8,
     pub frame: u32,
@@ -64,7 +64,7 @@ pub struct RawProcess {
 
 /// An image. Monitors, routines and processes stand in the order of their numbers, from 0. The
 /// overhead is the ticks of one dispatch.
-#[derive(Debug, Drop)]
+#[derive(Drop)]
 pub struct RawImage {
     pub overhead: u16,
     pub program: Name,

@@ -6,14 +6,14 @@ ghost use Rattle.image_format.specs.declared.fault.ReadError.TheVariants.{Fault 
 use std::alloc::{AllocError, AllocFailed};
 
 /// What is wrong with bytes, and how many are left from its place on.
-#[derive(Clone, Copy, Debug, PartialEq, Eq)]
+#[derive(Clone, Copy, Debug)]
 pub struct ByteFault {
     pub number: u8,
     pub left: usize,
 }
 
 /// Why a part was not read.
-#[derive(Debug, Drop)]
+#[derive(Drop)]
 pub enum ReadError {
     Memory,
     Fault(ByteFault),

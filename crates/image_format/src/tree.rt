@@ -21,7 +21,7 @@ use std::marker::Model;
 pub const DEEPEST_KEPT: u32 = u32::MAX;
 
 /// A segment tree, kept as the bytes that an image has of it. Contracts see it as the tree.
-#[derive(Debug, Drop)]
+#[derive(Drop)]
 pub struct SegTree {
     bytes: Vec<u8>,
 }

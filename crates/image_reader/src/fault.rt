@@ -38,7 +38,7 @@ pub(crate) use tri_fault;
 pub(crate) use tri_memory;
 
 /// Why bytes were refused. A fault of the bytes prints as its number and its offset.
-#[derive(Clone, Copy, Debug, PartialEq, Eq, Error)]
+#[derive(Clone, Copy, Debug, Error)]
 pub enum ImageFault {
     /// The bytes are no image: the first fault, by its number and its place from 0.
     #[error("I{number} {offset}")]

@@ -25,7 +25,7 @@ use std::alloc::{AllocError, Global};
 use syntax_tree::List;
 
 /// What the code of a process comes to.
-#[derive(Clone, Copy, Debug, PartialEq, Eq)]
+#[derive(Clone, Copy)]
 pub struct ProcessCost {
     pub body: CodeCost,
     /// Nothing where there is no handler.
@@ -35,7 +35,7 @@ pub struct ProcessCost {
 }
 
 /// What the code of each routine and each process comes to.
-#[derive(Debug, Drop)]
+#[derive(Drop)]
 pub struct CodeCosts {
     /// What those that call a routine know of it.
     pub known: List<RoutineCost>,

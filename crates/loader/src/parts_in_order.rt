@@ -24,7 +24,7 @@ use loader_code::{FaultNumbers, operand_fault};
 use std::alloc::{AllocError, Global};
 
 /// A fault, with the number of its part, from 1 to 7, and the two numbers that it shows.
-#[derive(Clone, Copy, Debug, PartialEq, Eq)]
+#[derive(Clone, Copy)]
 pub struct ValidityFault {
     pub number: u8,
     pub a: u64,

@@ -14,7 +14,7 @@ ghost use Rattle.loader_code.specs.Told.{told};
 use image::RawMonitor;
 
 /// The two numbers of a fault.
-#[derive(Clone, Copy, Debug, PartialEq, Eq)]
+#[derive(Clone, Copy)]
 pub struct FaultNumbers {
     pub a: u64,
     pub b: u64,

@@ -8,7 +8,7 @@ ghost use Rattle.valid_image.specs.Tables.{count};
 use machine_isa::Instr;
 
 /// How many operands a plain instruction takes from the stack, and how many it gives to it.
-#[derive(Clone, Copy, Debug, PartialEq, Eq)]
+#[derive(Clone, Copy)]
 pub struct StackEffect {
     pub takes: usize,
     pub gives: usize,

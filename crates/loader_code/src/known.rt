@@ -6,7 +6,7 @@ use base::Cost;
 pub const TOO_DEEP: u32 = 4_097;
 
 /// What is known of a routine that may be called.
-#[derive(Clone, Copy, Debug, PartialEq, Eq)]
+#[derive(Clone, Copy)]
 pub struct RoutineCost {
     /// How many arguments it takes.
     pub params: u16,
@@ -21,7 +21,7 @@ pub struct RoutineCost {
 }
 
 /// What a piece of code stands in.
-#[derive(Clone, Copy, Debug, PartialEq, Eq)]
+#[derive(Clone, Copy)]
 pub struct CodeContext {
     /// The address behind the innermost loop.
     pub out: Option<usize>,
@@ -30,7 +30,7 @@ pub struct CodeContext {
 }
 
 /// What a piece of code comes to.
-#[derive(Clone, Copy, Debug, PartialEq, Eq)]
+#[derive(Clone, Copy)]
 pub struct CodeCost {
     /// The address behind it.
     pub next: usize,
@@ -43,7 +43,7 @@ pub struct CodeCost {
 }
 
 /// What the code of a whole part comes to.
-#[derive(Clone, Copy, Debug, PartialEq, Eq)]
+#[derive(Clone, Copy)]
 pub struct PartCost {
     pub found: CodeCost,
     /// The ticks from entering the monitor of an entry to leaving it, capped; 0 for other code.

@@ -1,7 +1,7 @@
 //! The instructions of the stack machine.
 
 /// An instruction, with its operands, in the order of their numbers from 1 to 48.
-#[derive(Clone, Copy, Debug, PartialEq, Eq)]
+#[derive(Clone, Copy, PartialEq, Eq)]
 pub enum Instr {
     /// Puts a number on the stack.
     Push {

@@ -11,7 +11,7 @@ use syntax::{keyword, sign};
 use syntax_tree::{List, Text};
 
 /// A group of kinds, which is told by one name where all of them are expected.
-#[derive(Clone, Copy, Debug, PartialEq, Eq)]
+#[derive(Clone, Copy)]
 pub enum Group {
     /// The words that begin a declaration.
     Declaration,

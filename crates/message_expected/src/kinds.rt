@@ -17,7 +17,7 @@ pub const KEYWORDS: u8 = 51;
 pub(crate) const SIGNS: u8 = 18;
 
 /// A kind of what may stand at a place of a text.
-#[derive(Clone, Copy, Debug, PartialEq, Eq)]
+#[derive(Clone, Copy, Debug)]
 pub enum Kind {
     /// The end of the text.
     End,

@@ -11,7 +11,7 @@ ghost use Rattle.message_table.specs.Parts.{may_end as end_test, part_of, role_o
 use crate::numerals::is_numeral;
 
 /// A part of a line. A frame and a deadline are told apart by whether the line has an event.
-#[derive(Clone, Copy, PartialEq, Eq)]
+#[derive(Clone, Copy)]
 pub(crate) enum Part {
     /// What stands before the first line.
     FirstLine,

@@ -30,7 +30,7 @@ pub enum WriteFault {
 }
 
 /// A piece was not taken whole.
-#[derive(Clone, Copy, Debug, PartialEq, Eq, Error)]
+#[derive(Clone, Copy, Debug, Error)]
 #[error("the output could not be written")]
 pub struct SinkFailed {
     /// How many first bytes of the piece were taken.

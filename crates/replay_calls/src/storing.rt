@@ -15,7 +15,7 @@ use std::alloc::{AllocError, Global};
 use syntax_tree::Name;
 
 /// What a store to one of a list of variables came to.
-#[derive(Clone, Copy, Debug)]
+#[derive(Clone, Copy)]
 pub enum StoreResult {
     /// None of them has that name.
     Absent,

@@ -9,7 +9,7 @@ ghost use Rattle.replay_calls.specs.Seen.{answer_of, value_in};
 use syntax_tree::Op;
 
 /// A value, or the number of the exception that is raised.
-#[derive(Clone, Copy, Debug, PartialEq, Eq)]
+#[derive(Clone, Copy)]
 pub enum Answer {
     Word(i64),
     Raised(u32),

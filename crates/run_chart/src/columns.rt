@@ -2,7 +2,7 @@
 
 /// The ticks that a chart shows, from `first` up to before `end`, in columns of `width` ticks each,
 /// but for the last, which may be shorter.
-#[derive(Clone, Copy, Debug, PartialEq, Eq)]
+#[derive(Clone, Copy)]
 pub struct Columns {
     pub first: u64,
     pub end: u64,

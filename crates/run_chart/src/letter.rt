@@ -1,7 +1,7 @@
 //! Letters.
 
 /// What a process does in a tick. Of several ticks the first of these is shown.
-#[derive(Clone, Copy, Debug, PartialEq, Eq)]
+#[derive(Clone, Copy)]
 pub enum Letter {
     /// `m`: it runs inside a monitor.
     Inside,

@@ -10,7 +10,7 @@ use std::marker::Model;
 /// deadline.
 ///
 /// All are ticks. A number above 1,000,000,000 stands for all larger ones and is 1,000,000,001.
-#[derive(Clone, Copy, Debug, PartialEq, Eq)]
+#[derive(Clone, Copy)]
 pub struct DemandTask {
     /// The ticks from one release to the next, at least.
     pub frame: u64,

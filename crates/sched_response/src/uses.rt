@@ -13,7 +13,7 @@ pub struct Stay {
 }
 
 /// What a process uses.
-#[derive(Debug, Drop)]
+#[derive(Drop)]
 pub struct Use {
     /// The ticks from one release to the next, at least.
     pub frame: u64,

@@ -8,7 +8,7 @@ use sched_response::Task;
 use syntax_tree::Name;
 
 /// What makes a block: the entry of a monitor in which a process of lower rank can stay.
-#[derive(Debug, Drop)]
+#[derive(Drop)]
 pub struct Blocker {
     /// The monitor's name.
     pub monitor: Name,
@@ -19,7 +19,7 @@ pub struct Blocker {
 }
 
 /// A rank of a program: whose it is, what it asks for, and how long it can take.
-#[derive(Debug, Drop)]
+#[derive(Drop)]
 pub struct Level {
     /// The name of the process.
     pub name: Name,

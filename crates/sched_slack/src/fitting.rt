@@ -10,7 +10,7 @@ use sched_response::{Steps, TaskSet};
 use std::sync::ledger::Ledger;
 
 /// Which number of a task is changed.
-#[derive(Clone, Copy, Debug, PartialEq, Eq)]
+#[derive(Clone, Copy)]
 pub enum Varied {
     /// The ticks that one activation runs.
     Cost,

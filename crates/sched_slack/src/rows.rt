@@ -3,7 +3,7 @@
 use syntax_tree::Name;
 
 /// What fits in the place of a suspension.
-#[derive(Clone, Copy, Debug, PartialEq, Eq)]
+#[derive(Clone, Copy)]
 pub struct SuspensionFit {
     /// The suspension as it is, in ticks, capped.
     pub ticks: u64,
@@ -12,7 +12,7 @@ pub struct SuspensionFit {
 }
 
 /// What fits of a process.
-#[derive(Debug, Drop)]
+#[derive(Drop)]
 pub struct ProcessFit {
     /// The name of the process.
     pub name: Name,

@@ -9,7 +9,7 @@ use sched_response::{Steps, TaskSet};
 use std::sync::ledger::Ledger;
 
 /// What a level can spare.
-#[derive(Clone, Copy, Debug, PartialEq, Eq)]
+#[derive(Clone, Copy)]
 pub struct Spare {
     /// The most ticks that can be added to the run of the level's task while each level has a
     /// bound.

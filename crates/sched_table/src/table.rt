@@ -7,7 +7,7 @@ use base::Cost;
 use syntax_tree::List;
 
 /// The words of memory that a process needs.
-#[derive(Clone, Copy, Debug, PartialEq, Eq)]
+#[derive(Clone, Copy, Debug)]
 pub struct Size {
     /// The words of its variables.
     pub words: u32,
@@ -16,7 +16,7 @@ pub struct Size {
 }
 
 /// The timing of a process. All but the rank, the waits of the cost and the size are ticks.
-#[derive(Clone, Copy, Debug, PartialEq, Eq)]
+#[derive(Clone, Copy, Debug)]
 pub struct Row {
     /// The ticks from one release to the next, at least.
     pub frame: u64,

@@ -10,7 +10,7 @@ use crate::in_time::{activations_meet_deadlines, placed_runs_are_in_time};
 use sched_response::Task;
 
 /// What is left of an activation.
-#[derive(Clone, Copy, Debug, PartialEq, Eq)]
+#[derive(Clone, Copy, PartialEq, Eq)]
 pub struct RemainingWork {
     /// Ticks of execution: 0 exactly in an idle process.
     pub run_left: u8,
@@ -23,7 +23,7 @@ pub struct RemainingWork {
 }
 
 /// A process inside a monitor.
-#[derive(Clone, Copy, Debug, PartialEq, Eq)]
+#[derive(Clone, Copy, PartialEq, Eq)]
 pub struct Visit {
     /// The rank that is the monitor's ceiling.
     pub ceiling: usize,
@@ -32,7 +32,7 @@ pub struct Visit {
 }
 
 /// A process in a tick.
-#[derive(Clone, Copy, Debug, PartialEq, Eq)]
+#[derive(Clone, Copy, PartialEq, Eq)]
 pub struct Moment {
     /// Whether it is released in the tick.
     pub released: bool,
@@ -45,7 +45,7 @@ pub struct Moment {
 }
 
 /// A tick of two processes.
-#[derive(Clone, Copy, Debug, PartialEq, Eq)]
+#[derive(Clone, Copy, PartialEq, Eq)]
 pub struct Tick {
     /// The place of the process that runs.
     pub picked: Option<usize>,
@@ -56,7 +56,7 @@ pub struct Tick {
 /// A run of 18 ticks, after which both processes are idle, with the tasks that it is a run of.
 ///
 /// Ranks and places count from 0, and rank 0 is the highest.
-#[derive(Clone, Copy, Debug, PartialEq, Eq)]
+#[derive(Clone, Copy)]
 pub struct Run {
     /// What the processes may take, by rank.
     pub tasks: [Task; 2],

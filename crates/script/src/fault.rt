@@ -6,7 +6,7 @@ use std::fmt::{self, Display, Formatter, Write};
 use thiserror::Error;
 
 /// What is wrong with a line by what stands before it.
-#[derive(Clone, Copy, Debug, PartialEq, Eq)]
+#[derive(Clone, Copy)]
 pub enum Flaw {
     /// There is no in device, or no event, of the name.
     Unknown,
@@ -17,7 +17,7 @@ pub enum Flaw {
 }
 
 /// Why a text was refused. Lines count from 1.
-#[derive(Debug, Drop, Error, PartialEq, Eq)]
+#[derive(Debug, Drop, Error)]
 pub enum ScriptFault {
     /// The text is no script for the names. It prints as its number and its line, and S4 also as
     /// the two ticks `a` and `b`, which are 0 elsewhere:

@@ -6,7 +6,7 @@
 //! Verdicts.
 
 /// Whether a list of events is a run.
-#[derive(Clone, Copy, Debug, PartialEq, Eq)]
+#[derive(Clone, Copy)]
 pub enum Verdict {
     /// It is a run.
     Run,

@@ -7,14 +7,14 @@ ghost use Rattle.static_declarations.specs.Things.{sort_of as sort_of_scalar, sh
 use syntax_tree::{Scalar, Type};
 
 /// The sort of a value. Whole numbers and subranges go together.
-#[derive(Clone, Copy, Debug, PartialEq, Eq)]
+#[derive(Clone, Copy, PartialEq, Eq)]
 pub enum Sort {
     Number,
     Truth,
 }
 
 /// What a variable holds: one word, or an array of words.
-#[derive(Clone, Copy, Debug, PartialEq, Eq)]
+#[derive(Clone, Copy)]
 pub enum VarType {
     One(Sort),
     Many(Sort),

@@ -14,7 +14,7 @@ use syntax_tree::{Place, Program};
 use thiserror::Error;
 
 /// Why a program was refused. A rule prints as its number and its place.
-#[derive(Debug, Drop, Error, PartialEq, Eq)]
+#[derive(Debug, Drop, Error)]
 pub enum NameFault {
     /// A rule for names fails: 20 where a name that is used is declared nowhere in reach, 21 where
     /// a name is declared where the same name is in reach, 22 where a name is of the wrong kind for

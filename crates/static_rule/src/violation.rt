@@ -7,7 +7,7 @@ ghost use Rattle.static_rule.specs.Parts.{blame as blamed};
 use syntax_tree::Place;
 
 /// A rule that fails, by its number, at a place.
-#[derive(Clone, Copy, Debug, PartialEq, Eq)]
+#[derive(Clone, Copy, PartialEq, Eq)]
 pub struct Violation {
     pub number: u8,
     pub place: Place,

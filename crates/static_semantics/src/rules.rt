@@ -24,7 +24,7 @@ use syntax_tree::{Place, Program};
 use thiserror::Error;
 
 /// Why a program was refused. A rule prints as its number and its place.
-#[derive(Debug, Drop, Error, PartialEq, Eq)]
+#[derive(Debug, Drop, Error)]
 pub enum RuleFault {
     /// A static rule fails, by its number from 30 to 45.
     #[error("E{number} {}:{}", .place.line, .place.col)]

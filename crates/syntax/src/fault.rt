@@ -4,7 +4,7 @@ use thiserror::Error;
 
 /// Why a text was refused. A place is a line and a byte in that line, both from 1. A fault of the
 /// text prints as its number and its place.
-#[derive(Debug, Drop, Error, PartialEq, Eq)]
+#[derive(Debug, Drop, Error)]
 pub enum LexFault {
     /// A byte that begins no blank, no comment and no token.
     #[error("E1 {line}:{col}")]

@@ -16,7 +16,7 @@ const GREATEST_LITERAL: u64 = 2_147_483_647;
 const LONGEST_NAME: usize = 63;
 
 /// A piece of a text, and how many bytes it takes; a blank takes one.
-#[derive(Clone, Copy, Debug, PartialEq, Eq)]
+#[derive(Clone, Copy)]
 pub enum Front {
     Blank,
     Comment { len: usize },
@@ -24,7 +24,7 @@ pub enum Front {
 }
 
 /// Why some bytes begin with no piece.
-#[derive(Clone, Copy, Debug, PartialEq, Eq)]
+#[derive(Clone, Copy)]
 pub enum Cause {
     /// The first byte begins no piece.
     Byte,

@@ -17,7 +17,7 @@ use syntax_tree::{List, Place};
 const LONGEST_TEXT: usize = 1_048_576;
 
 /// A byte of a text, by its offset, with its line and its byte in that line.
-#[derive(Clone, Copy, Debug, PartialEq, Eq)]
+#[derive(Clone, Copy)]
 struct Spot {
     at: usize,
     line: u32,

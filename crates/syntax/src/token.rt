@@ -5,7 +5,7 @@ ghost use Rattle.std.specs.Prelude.{◌≡◌, length, IsTrue, ◌↔◌, []};
 use syntax_tree::{List, Place};
 
 /// What a token is. The bytes of a name are the token's slice of the text.
-#[derive(Clone, Copy, Debug, PartialEq, Eq)]
+#[derive(Clone, Copy)]
 pub enum TokenKind {
     /// An identifier that is no keyword.
     Ident,
@@ -19,7 +19,7 @@ pub enum TokenKind {
 
 /// A token: its kind, its first byte's offset in the text, its bytes' count, and the line and the
 /// byte of that line, both from 1, where it begins.
-#[derive(Clone, Copy, Debug, PartialEq, Eq)]
+#[derive(Clone, Copy)]
 pub struct Token {
     pub kind: TokenKind,
     pub start: u32,
@@ -29,7 +29,7 @@ pub struct Token {
 }
 
 /// The tokens of a text in order, and the place one past the text's last byte.
-#[derive(Debug, Drop)]
+#[derive(Drop)]
 pub struct Tokens {
     list: List<Token>,
     end: Place,

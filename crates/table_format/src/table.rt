@@ -3,7 +3,7 @@
 use syntax_tree::{List, Name};
 
 /// Once in each activation the process is inside the monitor for so many ticks.
-#[derive(Debug, Drop)]
+#[derive(Drop)]
 pub struct TaskStay {
     pub monitor: Name,
     pub ticks: u64,
@@ -11,7 +11,7 @@ pub struct TaskStay {
 
 /// A process line: a process, what releases it, and its frame, deadline, first activation and cost
 /// in ticks. Without an event it is periodic. Without a deadline the frame is its deadline.
-#[derive(Debug, Drop)]
+#[derive(Drop)]
 pub struct TaskLine {
     pub name: Name,
     pub event: Option<Name>,
@@ -23,7 +23,7 @@ pub struct TaskLine {
 }
 
 /// A table: its name and its process lines.
-#[derive(Debug, Drop)]
+#[derive(Drop)]
 pub struct TaskTable {
     pub name: Name,
     pub tasks: List<TaskLine>,

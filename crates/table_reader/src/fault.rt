@@ -4,7 +4,7 @@ use std::alloc::AllocError;
 use thiserror::Error;
 
 /// Why a text was refused. Lines count from 1.
-#[derive(Debug, Drop, Error, PartialEq, Eq)]
+#[derive(Debug, Drop, Error)]
 pub enum TableFault {
     /// The text is no table. It prints as its number and its line, the first line with a fault and
     /// on it the least number:

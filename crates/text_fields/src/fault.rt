@@ -6,14 +6,14 @@ ghost use Rattle.text_fields.specs.declared.fault.FieldError.TheVariants.{Memory
 use std::alloc::{AllocError, AllocFailed};
 
 /// What is wrong with a line, and how many bytes of the text are left from its beginning on.
-#[derive(Clone, Copy, Debug, PartialEq, Eq)]
+#[derive(Clone, Copy)]
 pub struct FieldFault {
     pub number: u8,
     pub left: usize,
 }
 
 /// Why a part was not read.
-#[derive(Debug, Drop)]
+#[derive(Drop)]
 pub enum FieldError {
     Memory,
     Fault(FieldFault),

@@ -14,7 +14,7 @@ use crate::step::step;
 use machine_isa::{Instr, ticks};
 
 /// Why a row of instructions ended.
-#[derive(Clone, Copy, Debug, PartialEq, Eq)]
+#[derive(Clone, Copy)]
 pub enum Halt {
     /// All ticks passed.
     Spent,

@@ -1,7 +1,7 @@
 //! What an instruction comes to.
 
 /// What an instruction that others do not see comes to.
-#[derive(Clone, Copy, Debug, PartialEq, Eq)]
+#[derive(Clone, Copy)]
 pub enum StepResult {
     /// It is done.
     Done,

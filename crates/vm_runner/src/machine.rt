@@ -25,7 +25,7 @@ use vm_state::{DecodedImage, EventBuffer, MOST, MachineState};
 use vm_stretch::Completed;
 
 /// What a call of `advance` or `advance_row` came to.
-#[derive(Clone, Copy, Debug, PartialEq, Eq)]
+#[derive(Clone, Copy)]
 pub enum Progress {
     /// Ticks passed, in which events fell.
     Events,

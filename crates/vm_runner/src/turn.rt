@@ -21,7 +21,7 @@ use vm_state::{DecodedImage, EventBuffer, MachineState};
 use vm_turn::{choose, end_row, left, pass, run_row};
 
 /// How far a call goes.
-#[derive(Clone, Copy, PartialEq, Eq)]
+#[derive(Clone, Copy)]
 pub(crate) enum Reach {
     /// To the end of what the process that is picked is at.
     Turn,

@@ -6,7 +6,7 @@ ghost use Rattle.vm_stretch.specs.declared.choice.Contender.{Contender};
 
 /// How a process stands in the choice: whether it is ready, its active rank, and whether it is
 /// inside a monitor.
-#[derive(Clone, Copy, Debug, PartialEq, Eq)]
+#[derive(Clone, Copy)]
 pub struct Contender {
     pub ready: bool,
     pub active: u16,

@@ -1,7 +1,7 @@
 //! How a process stands.
 
 /// How a process stands between two ticks.
-#[derive(Clone, Copy, Debug, PartialEq, Eq)]
+#[derive(Clone, Copy)]
 pub enum View {
     /// No activation is in progress.
     Idle,
