@@ -4,6 +4,7 @@ pub mod Examples
 pub mod Joined
 pub mod Loops
 pub mod Order
+pub mod Parts
 pub mod Spots
 pub mod Standing
 pub mod Steps

@@ -129,7 +129,7 @@ deeper (suc depth) k = k depth
 retold : {R : List (Tok Place) → List (Tok Place) → Type 0} {ps qs : List Place} → ps ≡ qs → Takes R ps → Takes R qs
 retold {R} e k = subst (Takes R) e k
 
-map-append : (ms ns : List Mention) → places ms ++ places ns ≡ places (ms ++ ns)
+pub map-append : (ms ns : List Mention) → places ms ++ places ns ≡ places (ms ++ ns)
 map-append [] ns = refl
 map-append (m ∷ ms) ns = ap (λ l. m.place ∷ l) (map-append ms ns)
 
