@@ -1,4 +1,10 @@
+pub mod Closing
+pub mod Counts
 pub mod Examples
 pub mod Joined
 pub mod Loops
+pub mod Order
+pub mod Parts
+pub mod Spots
+pub mod Standing
 pub mod Steps

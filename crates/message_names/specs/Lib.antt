@@ -1,3 +1,4 @@
+pub mod Laws
 pub mod Mentions
 pub mod Reach
 pub mod Seen

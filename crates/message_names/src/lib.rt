@@ -12,6 +12,7 @@
 mod declarations;
 mod errors;
 mod expressions;
+mod laws;
 mod lookup;
 mod mentions;
 mod notes;
@@ -22,4 +23,5 @@ mod statements;
 mod told;
 mod words;
 
+pub use laws::{closing_names_are_told, told_where_rules_fail};
 pub use told::{name_notes, name_sentence};
