@@ -1,6 +1,7 @@
 -- The fault of an operand is that of the piece that its address belongs to.
-use Rattle.std.proofs.Common.{◌≡◌, ◌<◌, ◌+◌, ◌-◌, ◌++◌, ℕ, zero, suc, Bool, true, false, List, [], ◌∷◌, length, Option, Some, None, ℤ, arith, refl, ap, sym, ◌∙◌, map}
-use Rattle.std.specs.Prelude.{cond, nat_lt, slice_get}
+use Rattle.std.proofs.Common.{◌≡◌, ◌<◌, ◌≤◌, ◌+◌, ◌-◌, ◌++◌, ℕ, zero, suc, Bool, true, false, List, [], ◌∷◌, length, Option, Some, None, ℤ, arith, refl, ap, sym, subst, ◌∙◌, map, drop, get_or}
+use Rattle.std.specs.Prelude.{◌&&◌, cond, nat_le, nat_lt, slice_get}
+use Rattle.std.proofs.lemmas.List.{drop_more, drop_all}
 use Rattle.std.proofs.lemmas.Bool.{eqb-true}
 use Rattle.std.proofs.lemmas.Bool.Decides.{nat_tests}
 use Rattle.std.proofs.lemmas.Option.{slice_get_within}
@@ -16,7 +17,8 @@ use Rattle.faulty_part.specs.declared.part.Subject.{Subject}
 use Rattle.faulty_part.specs.declared.part.Subject.TheVariants as subject
 use Rattle.faulty_part.specs.declared.part.PartFault.{PartFault}
 use Rattle.faulty_part.specs.Parts.{of, handler_of_process, handler_part, operand_of_routine, operand_of_process, operand_part}
-use Rattle.validity_parts.specs.Found.{part_at}
+use Rattle.validity_parts.specs.Found.{IsOwner, is_closer, part_at}
+use Rattle.validity_parts.specs.declared.operands.CodePiece.{CodePiece}
 
 -- ---- the closest piece of two lists
 
@@ -26,6 +28,63 @@ closest_append (x ∷ xs) ys k a best =
     let next : Option Owner = cond (comes_closer best x.start a) (Some (record { number = k; start = x.start })) best in
     let e : length xs + suc k ≡ suc (length xs) + k = omega arith in
     closest_append xs ys (suc k) a next ∙ ap (λ n. closest ys n a (closest xs (suc k) a next)) e
+
+-- a search through pieces, of which these are left, and the best so far
+pub record IsSearch (routines : ℕ) (rest : List Piece) (k a : ℕ) (best : Option CodePiece) (whole : Option Owner) : Type 0 where
+  pub owner : Option Owner
+  pub is : IsOwner routines best owner
+  pub left : closest rest k a owner ≡ whole
+
+first_better : (routines : ℕ) (p : FaultyPart) (k s : ℕ) (test : Bool) → p ≡ part_at routines k → IsOwner routines (cond test (Some (record { part = p; start = s })) None) (cond test (Some (record { number = k; start = s })) None)
+first_better routines p k s true is = (is, refl)
+first_better routines p k s false is = tt
+
+next_better : (routines : ℕ) (x : CodePiece) (o : Owner) (p : FaultyPart) (k s : ℕ) (test : Bool) → p ≡ part_at routines k → IsOwner routines (Some x) (Some o)
+    → IsOwner routines (cond test (Some (record { part = p; start = s })) (Some x)) (cond test (Some (record { number = k; start = s })) (Some o))
+next_better routines x o p k s true is held = (is, refl)
+next_better routines x o p k s false is held = held
+
+better : (routines : ℕ) (best : Option CodePiece) (owner : Option Owner) (p : FaultyPart) (k s a : ℕ) → p ≡ part_at routines k → IsOwner routines best owner
+    → IsOwner routines (cond (is_closer best s a) (Some (record { part = p; start = s })) best) (cond (comes_closer owner s a) (Some (record { number = k; start = s })) owner)
+better routines None None p k s a is held = first_better routines p k s (nat_le s a) is
+better routines None (Some o) p k s a is held = absurd held
+better routines (Some x) None p k s a is held = absurd held
+better routines (Some x) (Some o) p k s a is held =
+    subst (λ n. IsOwner routines (cond (nat_le s a && nat_le n s) (Some (record { part = p; start = s })) (Some x)) (cond (nat_le s a && nat_le o.start s) (Some (record { number = k; start = s })) (Some o))) (sym held.1)
+    (next_better routines x o p k s (nat_le s a && nat_le o.start s) is held)
+
+-- the next piece
+pub passed : {A B : Type 0} (routines : ℕ) (v : A → B) (w : B → Piece) (xs : List A) (i before a : ℕ) (x : A) (p : FaultyPart) (best next : Option CodePiece) (whole : Option Owner) → i < length xs → x ≡ get_or xs i x → p ≡ part_at routines (before + i)
+    → (s : ℕ) → s ≡ (w (v x)).start → next ≡ cond (is_closer best s a) (Some (record { part = p; start = s })) best
+    → IsSearch routines (map w (map v (drop i xs))) (before + i) a best whole → IsSearch routines (map w (map v (drop (i + 1) xs))) (before + (i + 1)) a next whole
+passed routines v w xs i before a x p best next whole below is named s starts taken so_far =
+    let y = w (v x) in
+    let owner : Option Owner = cond (comes_closer so_far.owner y.start a) (Some (record { number = before + i; start = y.start })) so_far.owner in
+    let split : drop i xs ≡ x ∷ drop (i + 1) xs = drop_more xs i x below ∙ ap (λ z. z ∷ drop (i + 1) xs) (sym is) in
+    let behind : before + (i + 1) ≡ suc (before + i) = omega arith in
+    record {
+      owner = owner;
+      is = subst (λ b. IsOwner routines b owner) (sym (taken ∙ ap (λ n. cond (is_closer best n a) (Some (record { part = p; start = n })) best) starts)) (better routines best so_far.owner p (before + i) y.start a named so_far.is);
+      left = ap (λ n. closest (map w (map v (drop (i + 1) xs))) n a owner) behind ∙ sym (ap (λ ys. closest (map w (map v ys)) (before + i) a so_far.owner) split) ∙ so_far.left;
+    }
+
+-- no piece is left
+pub ended : {A B : Type 0} (routines : ℕ) (v : A → B) (w : B → Piece) (xs : List A) (i k a : ℕ) (best : Option CodePiece) (whole : Option Owner) → length xs ≤ i → IsSearch routines (map w (map v (drop i xs))) k a best whole → IsOwner routines best whole
+ended routines v w xs i k a best whole end so_far =
+    subst (λ o. IsOwner routines best o) (sym (ap (λ ys. closest (map w (map v ys)) k a so_far.owner) (drop_all i xs end)) ∙ so_far.left) so_far.is
+
+-- the number of a routine, of a process
+pub routine_there : (routines r : ℕ) → r < routines → part.Routine r ≡ part_at routines (0 + r)
+routine_there routines r low =
+    let hit : nat_lt (0 + r) routines ≡ true = grind (arith, nat_tests, low) in
+    let same : r ≡ 0 + r = omega arith in
+    ap part.Routine same ∙ sym (ap (λ b. cond b (part.Routine (0 + r)) (part.Process (0 + r - routines))) hit)
+
+pub process_there : (routines k : ℕ) → part.Process k ≡ part_at routines (routines + k)
+process_there routines k =
+    let miss : nat_lt (routines + k) routines ≡ false = grind (arith, nat_tests) in
+    let back : k ≡ routines + k - routines = omega arith in
+    ap part.Process back ∙ sym (ap (λ b. cond b (part.Routine (routines + k)) (part.Process (routines + k - routines))) miss)
 
 -- ---- the first that has one
 
@@ -148,12 +207,14 @@ placed image f is = go (routines_operand_fault image) refl where
   go None none = in_processes image f none (ap (λ o. or_else o (processes_operand_fault image)) (sym none) ∙ sym is)
   go (Some g) some = in_routines image f (some ∙ (ap (λ o. or_else o (processes_operand_fault image)) (sym some) ∙ sym is))
 
--- the piece is the closest one
-pub is_closest : (k : ℕ) (o : Option Owner) (x : Owner) → is_owner k o ≡ true → o ≡ Some x → x.number ≡ k
-is_closest k o x hit is = eqb-true x.number k (ap (is_owner k) (sym is) ∙ hit)
+-- that piece is the closest one
+pub owner_found : (routines k : ℕ) (o : Option Owner) (x : CodePiece) → is_owner k o ≡ true → IsOwner routines (Some x) o → x.part ≡ part_at routines k
+owner_found routines k None x hit is = absurd is
+owner_found routines k (Some o) x hit is = is.0 ∙ ap (part_at routines) (eqb-true o.number k hit)
 
-pub never_none : (k : ℕ) (o : Option Owner) → is_owner k o ≡ true → o ≡ None → ⊥
-never_none k o hit is = let wrong : false ≡ true = ap (is_owner k) (sym is) ∙ hit in absurd cc
+pub owner_missing : (routines k : ℕ) (o : Option Owner) → is_owner k o ≡ true → IsOwner routines None o → ⊥
+owner_missing routines k None hit is = absurd cc
+owner_missing routines k (Some o) hit is = is
 
 pub no_operand : (image : Image) → None ≡ operand_fault image → operand_part image ≡ None
 no_operand image is = go (routines_operand_fault image) refl where

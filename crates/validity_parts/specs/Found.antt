@@ -1,5 +1,5 @@
 -- The tests of parts, by what was found of them.
-use Rattle.std.specs.Prelude.{◌-◌, ℕ, List, Option, Some, None, cond, nat_le, nat_lt}
+use Rattle.std.specs.Prelude.{◌≡◌, ◌-◌, ◌&&◌, ⊤, ℕ, Bool, List, Option, Some, None, cond, nat_le, nat_lt}
 use Rattle.base.specs.Capped.{cap}
 use Rattle.machine_semantics.specs.Image.{Image, Routine, Process}
 use Rattle.sched_response.specs.declared.tasks.Task.{Task}
@@ -15,14 +15,20 @@ use Rattle.faulty_part.specs.declared.part.PartFault.{PartFault}
 use Rattle.faulty_part.specs.Parts.{of, handler_part, cost_part, size_part, locals_of_routine, stack_of_process, base_of_monitor, code_part, rank_part, bound_part}
 use Rattle.validity_parts.specs.declared.operands.CodePiece.{CodePiece}
 
--- a piece of code, as the definition has it
-abbrev pub owner_of : Option CodePiece → Option Owner
-owner_of None = None
-owner_of (Some x) = Some (record { number = x.number; start = x.start })
-
 -- the part that a piece is of, where so many routines come first
 abbrev pub part_at : (routines piece : ℕ) → FaultyPart
 part_at routines piece = cond (nat_lt piece routines) (part.Routine piece) (part.Process (piece - routines))
+
+-- the best piece so far is this owner
+abbrev pub IsOwner : (routines : ℕ) → Option CodePiece → Option Owner → Type 0
+IsOwner routines None None = ⊤
+IsOwner routines (Some x) (Some o) = (x.part ≡ part_at routines o.number) × (x.start ≡ o.start)
+IsOwner routines _ _ = ⊥
+
+-- a piece that starts there is closer to the address than the best so far
+abbrev pub is_closer : Option CodePiece → (start address : ℕ) → Bool
+is_closer None start address = nat_le start address
+is_closer (Some best) start address = nat_le start address && nat_le best.start start
 
 -- a routine whose code comes to f, and which stays so long in its monitor
 abbrev pub routine_cost_by : ℕ → Routine → Found → (stay : ℕ) → Option PartFault
