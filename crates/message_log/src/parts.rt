@@ -83,20 +83,32 @@ fn among_owner(routines: &[RawRoutine], number: usize, routine: &RawRoutine) -> 
     before
 }
 
+/// Puts a routine by its number among those of its owner.
+fn add_numbered(
+    text: &mut Text,
+    raw: &RawImage,
+    number: usize,
+    routine: &RawRoutine,
+) -> Result<(), AllocError>
+    requires { number < length raw.now.routines }
+    ensures { OnOk result (text.new ≡ text.old ++
+        routine_called (named_of raw.now) number (Some (routine_of routine.now))) }
+{
+    let among = among_owner(raw.routines.as_slice(), number, routine);
+    text.extend(b"routine ")?;
+    add_number(text, among)?;
+    text.extend(b" of ")?;
+    add_owner(text, &raw.names, routine)
+}
+
 /// Puts a routine, where there is one of this number.
 fn add_routine(text: &mut Text, raw: &RawImage, number: usize) -> Result<(), AllocError>
     ensures { OnOk result (text.new ≡ text.old ++ routine_called (named_of raw.now) number
         (slice_get (named_of raw.now).image.routines number)) }
 {
-    let routines = raw.routines.as_slice();
-    match routines.get(number) {
+    match raw.routines.as_slice().get(number) {
         None => text.extend(b"the image"),
-        Some(routine) => {
-            text.extend(b"routine ")?;
-            add_number(text, among_owner(routines, number, routine))?;
-            text.extend(b" of ")?;
-            add_owner(text, &raw.names, routine)
-        }
+        Some(routine) => add_numbered(text, raw, number, routine),
     }
 }
 

@@ -12,11 +12,11 @@ loop-other-preserved c =
     let low : i < length xs = omega (arith, c.loop-other-test.true, c.requires) in
     elim c.if-share_owner.branch [
       | then-share_owner w ↦ record {
-        count = w.before-is ∙ ap (λ n. n + 1) c.loop-other.invariant.count ∙ sym (counted_yes xs i c.args.routine.now c.index-routines-other.result low c.index-routines-other.is (sym w.if-share_owner ∙ c.share_owner.ensures));
+        count = w.before-is ∙ ap (λ n. n + 1) c.loop-other.invariant.count ∙ sym (counted_yes xs i c.args.routine.now c.index-routines-other.result low c.index-routines-other.is (w.if-share_owner.ensures));
         small = omega (arith, w.before-is, c.loop-other.invariant.small);
       }
       | else-share_owner w ↦ record {
-        count = w.before-is ∙ c.loop-other.invariant.count ∙ sym (counted_no xs i c.args.routine.now c.index-routines-other.result low c.index-routines-other.is (sym w.if-share_owner ∙ c.share_owner.ensures));
+        count = w.before-is ∙ c.loop-other.invariant.count ∙ sym (counted_no xs i c.args.routine.now c.index-routines-other.result low c.index-routines-other.is (w.if-share_owner.ensures));
         small = omega (arith, w.before-is, c.loop-other.invariant.small);
       }
     ]
