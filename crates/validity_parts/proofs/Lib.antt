@@ -1,4 +1,4 @@
 pub mod Owners
 pub mod Needs
-pub mod Bounds
+pub mod BoundTests
 pub mod Coding

@@ -1,5 +1,5 @@
 -- What routines and processes declare, against what was kept of their code.
-use Rattle.std.proofs.Common.{◌≡◌, ◌<◌, ◌+◌, ◌*◌, ℕ, Option, Some, None, arith, refl, ap, sym, ◌∙◌, map}
+use Rattle.std.proofs.Common.{◌≡◌, ◌+◌, ℕ, Option, Some, None, arith, refl, ap, sym, ◌∙◌}
 use Rattle.std.specs.Prelude.{IfSome, take, slice_get}
 use Rattle.base.proofs.Lists.{map_get}
 use Rattle.base.specs.Capped.{cap}
@@ -8,7 +8,7 @@ use Rattle.image.specs.declared.raw.RawProcess.{RawProcess}
 use Rattle.image.specs.declared.raw.RawRoutine.{RawRoutine}
 use Rattle.image.specs.Raw.{image_of, process_of, routine_of}
 use Rattle.machine_semantics.specs.Image.{Image, Process, Routine}
-use Rattle.valid_image.specs.Fault.{Fault, or_else, of_some, first_in}
+use Rattle.valid_image.specs.Fault.{Fault, or_else, first_in}
 use Rattle.valid_image.specs.Found.{Found, longer, plus}
 use Rattle.valid_image.specs.Sizes.{below, other, due_base, with_dispatch, needed_stay, needed_stack, params_fault, stack_fault, base_fault, words_fault, size_fault}
 use Rattle.valid_image.specs.Tables.{known, routine_found, body_found, handler_found, found_or_nothing}
@@ -27,10 +27,10 @@ use Rattle.loader.proofs.Needs.{process_stacks, run_same}
 use Rattle.faulty_part.specs.declared.part.FaultyPart.TheVariants as part
 use Rattle.faulty_part.specs.declared.part.Subject.TheVariants as subject
 use Rattle.faulty_part.specs.declared.part.PartFault.{PartFault}
-use Rattle.faulty_part.specs.Parts.{of, base_of_monitor, cost_of_routine, cost_of_process, locals_of_routine, rank_part, size_part, stack_of_process}
+use Rattle.faulty_part.specs.Parts.{of, base_of_monitor, code_part, cost_of_routine, cost_of_process, cost_part, handler_part, locals_of_routine, operand_part, part_fault, rank_part, size_part, stack_of_process}
 use Rattle.faulty_part.proofs.Told.{IsTold, told_of, told_in}
 use Rattle.faulty_part.proofs.Whole.{ranks_told}
-use Rattle.validity_parts.specs.Found.{routine_cost_by, process_cost_by, sized_part}
+use Rattle.validity_parts.specs.Found.{after_operands, routine_cost_by, process_cost_by, sized_part, times_part}
 
 -- ---- routines
 
@@ -139,3 +139,13 @@ other_first image f is = before_last (first_in locals_of_routine image.routines)
 
 pub ranks_right : (image : Image) → None ≡ rank_part image → rank_fault image ≡ None
 ranks_right image none = untold Ranks (rank_part image) (rank_fault image) (ranks_told image) (sym none)
+
+-- ---- all tests
+
+either_way : {A : Type 0} (x y z : Option A) → or_else (or_else x y) z ≡ or_else x (or_else y z)
+either_way None y z = refl
+either_way (Some x) y z = refl
+
+-- costs and sizes taken together
+pub in_order : (image : Image) → or_else (operand_part image) (after_operands image) ≡ part_fault image
+in_order image = ap (λ o. or_else (operand_part image) (or_else (code_part image) (or_else (handler_part image) o))) (either_way (cost_part image) (size_part image) (times_part image))

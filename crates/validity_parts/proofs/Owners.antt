@@ -6,7 +6,7 @@ use Rattle.std.proofs.lemmas.Bool.{eqb-true}
 use Rattle.std.proofs.lemmas.Bool.Decides.{nat_tests}
 use Rattle.std.proofs.lemmas.Option.{slice_get_within}
 use Rattle.machine_isa.specs.declared.instr.Instr.{Instr}
-use Rattle.machine_semantics.specs.Image.{Image, Routine, Process}
+use Rattle.machine_semantics.specs.Image.{Image}
 use Rattle.valid_image.specs.Fault.{Fault, unless, or_else, first_of, of_some, first_in}
 use Rattle.valid_image.specs.Operands.{Whose, whose_routine, whose_process, shown_operand, bad_operand, operand_fault_at, operand_fault_in, routines_operand_fault, processes_operand_fault, operand_fault}
 use Rattle.valid_image.specs.Shape.{is_handler, handler_fault}
@@ -16,7 +16,10 @@ use Rattle.faulty_part.specs.declared.part.FaultyPart.TheVariants as part
 use Rattle.faulty_part.specs.declared.part.Subject.{Subject}
 use Rattle.faulty_part.specs.declared.part.Subject.TheVariants as subject
 use Rattle.faulty_part.specs.declared.part.PartFault.{PartFault}
-use Rattle.faulty_part.specs.Parts.{of, handler_of_process, handler_part, operand_of_routine, operand_of_process, operand_part}
+use Rattle.valid_image.specs.Valid.{fault_of}
+use Rattle.faulty_part.specs.Law.{shown_if, shown_part}
+use Rattle.faulty_part.proofs.Whole as law
+use Rattle.faulty_part.specs.Parts.{of, part_fault, handler_of_process, handler_part, operand_of_routine, operand_of_process, operand_part}
 use Rattle.validity_parts.specs.Found.{IsOwner, is_closer, part_at}
 use Rattle.validity_parts.specs.declared.operands.CodePiece.{CodePiece}
 
@@ -250,3 +253,12 @@ pub no_handler : (image : Image) → None ≡ handler_fault image → None ≡ h
 no_handler image is =
     sym (none_named (λ k. of_some (λ p. unless (is_handler image p p.handler_tree) k 0) (slice_get image.processes k)) (λ k. of_some (handler_of_process image k) (slice_get image.processes k))
     (λ k none. no_name (part.Process k) subject.Handler (λ p. unless (is_handler image p p.handler_tree) k 0) (slice_get image.processes k) none) (length image.processes) 0 (sym is))
+
+-- ---- the whole
+
+-- an image without a fault has none of any part
+pub no_part : (image : Image) → None ≡ fault_of image → None ≡ part_fault image
+no_part image is = go (part_fault image) refl where
+  go : (o : Option PartFault) → part_fault image ≡ o → None ≡ part_fault image
+  go None none = sym none
+  go (Some f) some = let wrong : Some (shown_part f) ≡ None = ap shown_if (sym some) ∙ law.whole image ∙ sym is in absurd cc

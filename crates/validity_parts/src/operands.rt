@@ -31,12 +31,7 @@ fn comes_closer(best: Option<CodePiece>, start: u32, address: u64) -> bool
 }
 
 /// The closer of the best so far and of the next piece.
-fn closer(
-    best: Option<CodePiece>,
-    part: FaultyPart,
-    start: u32,
-    address: u64,
-) -> Option<CodePiece>
+fn closer(best: Option<CodePiece>, part: FaultyPart, start: u32, address: u64) -> Option<CodePiece>
     ensures { result ≡ cond (is_closer best start address)
         (Some (record { part = part; start = start })) best }
 {
@@ -93,7 +88,6 @@ fn at_address(raw: &RawImage, fault: FaultNumbers) -> Option<PartFault>
 
 /// The first instruction that breaks a rule, with the routine or process that its address belongs
 /// to; or that memory is short.
-#[tactic(auto, using(crate::proofs::Owners::no_operand))]
 pub fn operand_part_fault(alloc: Global, raw: &RawImage) -> Result<Option<PartFault>, AllocError>
     requires { length raw.now.processes ≤ 64 }
     ensures { IfOk result (λ found. found ≡ operand_part (image_of raw.now)) }

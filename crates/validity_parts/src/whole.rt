@@ -18,11 +18,10 @@ use crate::ranks::rank_part_fault;
 use crate::sizes::size_part_fault;
 use faulty_part::{FaultyPart, PartFault, Subject};
 use image::RawImage;
-use loader::{CodeCosts, handler_fault, longest_stays, task_set, waits_table};
+use loader::{CodeCosts, first_fault, handler_fault, longest_stays, task_set, waits_table};
 use std::alloc::{AllocError, Global};
 
 /// The first process with a wrong handler.
-#[tactic(auto, using(crate::proofs::Owners::handler_named, crate::proofs::Owners::no_handler))]
 fn handler_part_fault(alloc: Global, raw: &RawImage) -> Result<Option<PartFault>, AllocError>
     ensures { IfOk result (λ found. found ≡ handler_part (image_of raw.now)) }
 {
@@ -49,7 +48,6 @@ fn bounds_fault(alloc: Global, raw: &RawImage) -> Result<Option<PartFault>, Allo
 }
 
 /// The first fault of a rank, a ceiling, a block or a bound.
-#[tactic(auto, using(crate::proofs::Needs::ranks_right))]
 fn times_fault(alloc: Global, raw: &RawImage) -> Result<Option<PartFault>, AllocError>
     requires { HasRanges raw.now }
     ensures { IfOk result (λ found. found ≡ times_part (image_of raw.now)) }
@@ -104,14 +102,25 @@ fn fault_behind_operands(alloc: Global, raw: &RawImage) -> Result<Option<PartFau
     }
 }
 
-/// The first test that the image fails, in the order of the tests, with its part and its subject;
-/// none exactly where the image is valid; or that memory is short.
-pub fn part_fault(alloc: Global, raw: &RawImage) -> Result<Option<PartFault>, AllocError>
+/// The first of all.
+fn first_part(alloc: Global, raw: &RawImage) -> Result<Option<PartFault>, AllocError>
     requires { HasRanges raw.now }
     ensures { IfOk result (λ found. found ≡ defined_fault (image_of raw.now)) }
 {
     match operand_part_fault(alloc, raw)? {
         Some(fault) => Ok(Some(fault)),
         None => fault_behind_operands(alloc, raw),
+    }
+}
+
+/// The first test that the image fails, in the order of the tests, with its part and its subject;
+/// none exactly where the image is valid; or that memory is short.
+pub fn part_fault(alloc: Global, raw: &RawImage) -> Result<Option<PartFault>, AllocError>
+    requires { HasRanges raw.now }
+    ensures { IfOk result (λ found. found ≡ defined_fault (image_of raw.now)) }
+{
+    match first_fault(alloc, raw)? {
+        Some(_) => first_part(alloc, raw),
+        None => Ok(None),
     }
 }

@@ -4,6 +4,7 @@ use Rattle.loader_code.proofs.Seeking.{stops_in, goes_on_in}
 use Rattle.loader.proofs.InOrder.{level_there}
 use Rattle.faulty_part.specs.Parts.{bound_of_process}
 use Rattle.validity_parts.specs.Found.{bound_by}
+use Rattle.validity_parts.proofs.Coding.{starts_in}
 use Rattle.validity_parts.proofs.bounds.bound_part_fault.Goals as goal
 
 pub returns-in-Some : goal.returns-in-Some
@@ -14,3 +15,6 @@ loop-number-preserved c = goes_on_in process_of (bound_of_process (image_of c.ar
 
 pub process_fault-requires : goal.process_fault-requires
 process_fault-requires c = level_there c.args.raw.now c.as_slice-processes.result.now c.args.set.now c.loop-number.number c.index-processes-number.result c.requires.ranks c.requires.set c.as_slice-processes.ensures c.loop-number-test.true c.index-processes-number.is
+
+pub loop-number-init : goal.loop-number-init
+loop-number-init c = starts_in process_of (bound_of_process (image_of c.args.raw.now)) c.args.raw.now.processes

@@ -1,5 +1,5 @@
 use Rattle.std.proofs.Common.{◌≡◌, ◌≤◌, ◌<◌, List, Some, None, length, arith, refl, sym, ap, ◌∙◌, map}
-use Rattle.std.specs.Prelude.{nat_eq, slice_get, option_map}
+use Rattle.std.specs.Prelude.{nat_eq, slice_get}
 use Rattle.std.proofs.lemmas.Option.{slice_get_read}
 use Rattle.image.specs.Raw.{image_of, process_of}
 use Rattle.machine_isa.specs.declared.instr.Instr.{Instr}

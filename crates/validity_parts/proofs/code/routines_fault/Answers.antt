@@ -1,5 +1,6 @@
 use Rattle.std.proofs.Common.{◌≡◌, ◌<◌, ◌+◌, List, Some, None, length, arith, refl, sym, ap, ◌∙◌, map}
-use Rattle.std.specs.Prelude.{nat_eq, slice_get}
+use Rattle.std.specs.Prelude.{nat_eq, option_map, slice_get}
+use Rattle.std.proofs.lemmas.List.{length-map}
 use Rattle.std.proofs.lemmas.Option.{slice_get_read}
 use Rattle.image.specs.Raw.{image_of, routine_of}
 use Rattle.base.specs.Capped.{cap}
@@ -10,12 +11,16 @@ use Rattle.valid_image.specs.Found.{guard}
 use Rattle.valid_image.specs.Tables.{monitor_of, routine_found}
 use Rattle.valid_image_law.specs.Held.{hold}
 use Rattle.loader_code.proofs.Seeking.{stops_in, goes_on_in}
+use Rattle.valid_image.specs.Fault.{first_of}
+use Rattle.valid_image_law.specs.Held.{held_known}
+use Rattle.loader_code.specs.declared.known.RoutineCost.{RoutineCost}
+use Rattle.loader.proofs.Shaping.{test_at}
 use Rattle.loader.proofs.Kept.{on, all_kept}
 use Rattle.faulty_part.specs.declared.part.FaultyPart.TheVariants as part
 use Rattle.faulty_part.specs.declared.part.Subject.TheVariants as subject
 use Rattle.faulty_part.specs.declared.part.PartFault.{PartFault}
 use Rattle.faulty_part.specs.Parts.{code_of_routine}
-use Rattle.validity_parts.proofs.Coding.{ends_in, right_routine, wrong_routine}
+use Rattle.validity_parts.proofs.Coding.{ends_in, right_routine, starts_in, wrong_routine}
 use Rattle.validity_parts.proofs.code.routines_fault.Goals as goal
 
 pub returns-in-None-clause-fault : goal.returns-in-None-clause-fault
@@ -67,3 +72,21 @@ pub returns-clause-fault : goal.returns-clause-fault
 returns-clause-fault c =
     let end : c.loop-routine.routine-index ≡ length c.args.raw.now.routines = omega (arith, c.loop-routine.auto.routine-index-end, ap length c.as_slice-routine-items.ensures) in
     ends_in routine_of (code_of_routine (image_of c.args.raw.now)) c.args.raw.now.routines c.loop-routine.routine-index _ end c.loop-routine.invariant.search
+
+pub loop-routine-init : goal.loop-routine-init
+loop-routine-init c =
+    let raw = c.args.raw.now in
+    let all : length (map routine_of raw.routines) ≡ length raw.routines = length-map raw.routines routine_of in
+    record {
+      before = record {
+        due = c.requires.end;
+        within = omega (arith, c.requires.end);
+        known_rows = λ j. ap (λ ks. option_map held_known (slice_get (map known_of ks) j)) c.requires.known;
+        known_count = ap (λ (ks : List RoutineCost). length ks) c.requires.known;
+        count = ap (λ (ks : List PartCost). length ks) c.requires.routines;
+        kept = λ j x low. absurd (omega (arith, low));
+        rest = ap (λ n. first_of (test_at raw) n 0) (omega (arith, all));
+      };
+      processes = refl;
+      search = starts_in routine_of (code_of_routine (image_of raw)) raw.routines;
+    }

@@ -5,6 +5,7 @@ use Rattle.loader_code.proofs.Seeking.{stops_in, goes_on_in}
 use Rattle.loader.proofs.Needs.{read, copied}
 use Rattle.faulty_part.specs.Parts.{cost_of_routine}
 use Rattle.validity_parts.proofs.Needs.{routine_named}
+use Rattle.validity_parts.proofs.Coding.{starts_in}
 use Rattle.validity_parts.proofs.costs.routines_fault.Goals as goal
 
 pub returns-in-Some : goal.returns-in-Some
@@ -28,3 +29,6 @@ loop-r-preserved c =
     let kept = copied c.as_slice-kept.result.now c.args.parts.now.routines at _ c.as_slice-kept.ensures (omega (arith, low', c.requires.routines.count)) in
     goes_on_in routine_of (cost_of_routine (image_of raw)) raw.routines c.as_slice-routines.result.now at c.index-routines-r.result _ c.as_slice-routines.ensures low c.index-routines-r.is
     (c.in-None.ensures ∙ routine_named raw c.args.parts.now at c.index-routines-r.result _ c.requires x kept) c.loop-r.invariant
+
+pub loop-r-init : goal.loop-r-init
+loop-r-init c = starts_in routine_of (cost_of_routine (image_of c.args.raw.now)) c.args.raw.now.routines

@@ -1,7 +1,7 @@
 use Rattle.std.proofs.Common.{◌≡◌, ◌<◌, ◌≤◌, ◌+◌, List, None, length, arith, sym, ap, ◌∙◌, get_or, map}
 use Rattle.std.proofs.lemmas.List.{length-map}
 use Rattle.image.specs.declared.raw.RawProcess.{RawProcess}
-use Rattle.image.specs.Raw.{image_of, process_of, routine_of}
+use Rattle.image.specs.Raw.{process_of, routine_of}
 use Rattle.valid_image.specs.Pieces.{Piece, closest, piece_of_process, piece_of_routine}
 use Rattle.faulty_part.specs.declared.part.FaultyPart.TheVariants as part
 use Rattle.validity_parts.proofs.Owners.{closest_append, ended, passed, process_there}

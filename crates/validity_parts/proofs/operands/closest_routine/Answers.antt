@@ -1,6 +1,4 @@
-use Rattle.std.proofs.Common.{◌≡◌, ◌<◌, ◌≤◌, length, arith, refl, sym, ap, ◌∙◌, get_or}
-use Rattle.std.specs.Prelude.{nat_lt}
-use Rattle.std.proofs.lemmas.Bool.Decides.{nat_tests}
+use Rattle.std.proofs.Common.{◌<◌, ◌≤◌, length, arith, sym, ap, ◌∙◌, get_or}
 use Rattle.image.specs.declared.raw.RawRoutine.{RawRoutine}
 use Rattle.image.specs.Raw.{routine_of}
 use Rattle.valid_image.specs.Pieces.{piece_of_routine}

@@ -10,4 +10,4 @@ pub returns-in-Some : goal.returns-in-Some
 returns-in-Some c = other_first (image_of c.args.raw.now) _ c.in-Some.ensures
 
 pub returns-in-None : goal.returns-in-None
-returns-in-None c = c.named-in-None.ensures ∙ ap (of part.Whole subject.Words) c.size_fault-in-None.ensures ∙ only_words (image_of c.args.raw.now) c.in-None.ensures
+returns-in-None c = c.named.ensures ∙ ap (of part.Whole subject.Words) c.size_fault.ensures ∙ only_words (image_of c.args.raw.now) c.in-None.ensures

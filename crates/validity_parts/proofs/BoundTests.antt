@@ -1,5 +1,5 @@
 -- Which of its two tests the fault of a bound is of.
-use Rattle.std.proofs.Common.{◌≡◌, ◌<◌, ℕ, Bool, true, false, Option, Some, None, arith, refl, ap, sym, ◌∙◌}
+use Rattle.std.proofs.Common.{◌≡◌, ◌<◌, ℕ, Bool, true, false, Option, Some, None, arith, refl, ap, ◌∙◌}
 use Rattle.std.specs.Prelude.{cond, nat_le, nat_lt}
 use Rattle.std.proofs.lemmas.Bool.Decides.{nat_tests}
 use Rattle.valid_image.specs.Fault.{Fault, unless, or_else}
