@@ -9,7 +9,7 @@ use Rattle.assembler.specs.Answer.{Tells}
 use Rattle.assembler.specs.declared.fault.AssemblyFault.{AssemblyFault}
 use Rattle.assembler.specs.declared.fault.AssemblyFault.TheVariants as asm
 use Rattle.asm_law.specs.AsmLaws.{ImagesToldAreHeld, TextsReadAreOfImages}
-use Rattle.command_images.specs.Telling.{IsTold, IsValidText, JudgesTold, LoadsText, TellsImage}
+use Rattle.command_images.specs.Telling.{IsInvalidText, IsTold, IsValidText, JudgesTold, LoadsText, TellsImage}
 use Rattle.command_images.specs.declared.telling.ImageTextFault.{ImageTextFault}
 use Rattle.command_images.specs.declared.telling.ImageTextFault.TheVariants as fault
 
@@ -26,5 +26,5 @@ loads_text text raw held is (Ok same) h =
     subst (λ (x : RawImage). IsValidText text x) (sym h.0)
     (let valid : IsValidText text raw = record { told = is.told; file = record { held = held text raw is.told; valid = h.1 } } in valid)
 loads_text text raw held is (Err (fault.Text number line)) h = absurd h
-loads_text text raw held is (Err (fault.Invalid number a b)) h = record { raw = raw; told = is.told; first = h }
+loads_text text raw held is (Err (fault.Invalid same found)) h = subst (λ (x : RawImage). IsInvalidText text x found) (sym h.0) (let told : IsInvalidText text raw found = record { told = is.told; first = h.1 } in told)
 loads_text text raw held is (Err fault.Memory) h = tt

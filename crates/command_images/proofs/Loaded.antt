@@ -7,7 +7,7 @@ use Rattle.image_reader.specs.declared.fault.ImageFault.{ImageFault}
 use Rattle.image_reader.specs.declared.fault.ImageFault.TheVariants as image
 use Rattle.image_reader_law.specs.ValidLimits.{ImagesReadHaveFewMonitors, ImagesReadHaveLimits}
 use Rattle.command_due.specs.CommandsDue.{IsImageFile}
-use Rattle.command_images.specs.Loading.{IsRead, Judges, Loads, Reads}
+use Rattle.command_images.specs.Loading.{IsInvalid, IsRead, Judges, Loads, Reads}
 use Rattle.command_images.specs.declared.loading.FileFault.{FileFault}
 use Rattle.command_images.specs.declared.loading.FileFault.TheVariants as fault
 
@@ -23,5 +23,5 @@ pub loads : (bytes : List ℕ) (raw : RawImage) → IsRead bytes raw → (answer
 loads bytes raw read (Ok same) h =
     subst (λ (x : RawImage). IsImageFile bytes x) (sym h.0) (let file : IsImageFile bytes raw = record { held = read.held; valid = h.1 } in file)
 loads bytes raw read (Err (fault.Image number offset)) h = absurd h
-loads bytes raw read (Err (fault.Invalid number a b)) h = record { raw = raw; held = read.held; first = h }
+loads bytes raw read (Err (fault.Invalid same found)) h = subst (λ (x : RawImage). IsInvalid bytes x found) (sym h.0) (let is : IsInvalid bytes raw found = record { held = read.held; first = h.1 } in is)
 loads bytes raw read (Err fault.Memory) h = tt

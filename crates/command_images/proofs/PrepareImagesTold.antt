@@ -1,5 +1,5 @@
 -- What is due of texts that tell images, and of images whose text is told, by what was answered.
-use Rattle.std.proofs.Common.{◌≡◌, ◌<◌, ◌∙◌, ℕ, List, length, map, Ok, Err, inl, refl, sym, subst, ap}
+use Rattle.std.proofs.Common.{◌≡◌, ◌<◌, ◌∙◌, ℕ, List, length, map, Ok, Err, inl, inr, refl, sym, subst, ap}
 use Rattle.std.specs.Prelude.{Result, IfOk}
 use Rattle.std.proofs.lemmas.List.{length-map}
 use Rattle.image.specs.InRange.{IsInRange}
@@ -11,6 +11,11 @@ use Rattle.image_reader.specs.Answer.{Tells, parts_of}
 use Rattle.image_reader.specs.declared.fault.ImageFault.{ImageFault}
 use Rattle.image_reader.specs.declared.fault.ImageFault.TheVariants as image_fault
 use Rattle.asm_format.specs.Text.{text_of}
+use Rattle.faulty_part.specs.declared.part.PartFault.{PartFault}
+use Rattle.faulty_part.specs.Law.{shown_part}
+use Rattle.message_log.specs.Image.{valid_message}
+use Rattle.command_refusals.specs.Told.{IsImageTextTold}
+use Rattle.command_images.proofs.Refused.{same_fault}
 use Rattle.command_images.specs.Telling.{IsInvalidText, LoadsText}
 use Rattle.command_images.specs.declared.telling.ImageTextFault.{ImageTextFault}
 use Rattle.command_images.specs.declared.telling.ImageTextFault.TheVariants as text_fault
@@ -36,11 +41,18 @@ long_text text long = inl (record { long = long; is = refl; nowhere = refl })
 pub faulty_image_text : (why : ImageTextFault) (number line : ℕ) → why ≡ text_fault.Text number line → (text : List ℕ) → LoadsText text (Err why) → IsAsmDue text (told 4 (text_fault_line number line))
 faulty_image_text why number line is text answer = asm_faulty number line (subst (λ (w : ImageTextFault). LoadsText text (Err w)) is answer) refl
 
-pub invalid_image_text : (why : ImageTextFault) (number a b : ℕ) → why ≡ text_fault.Invalid number a b → (text : List ℕ) → LoadsText text (Err why)
-    → IsAsmDue text (told 4 (valid_fault_line (record { number = number; a = a; b = b })))
-invalid_image_text why number a b is text answer =
-    let found : IsInvalidText text number a b = subst (λ (w : ImageTextFault). LoadsText text (Err w)) is answer in
-    asm_invalid found.raw (record { number = number; a = a; b = b }) found.told found.first refl
+pub invalid_image_text : (why : ImageTextFault) (raw : RawImage) (found : PartFault) → why ≡ text_fault.Invalid raw found → (text : List ℕ) → LoadsText text (Err why)
+    → IsAsmDue text (told 4 (valid_fault_line (shown_part found)))
+invalid_image_text why raw found is text answer =
+    let of : IsInvalidText text raw found = subst (λ (w : ImageTextFault). LoadsText text (Err w)) is answer in
+    asm_invalid raw (shown_part found) of.told (same_fault raw found of.first) refl
+
+-- what is told of it
+pub invalid_text_told : (why : ImageTextFault) (raw : RawImage) (found : PartFault) → why ≡ text_fault.Invalid raw found → (file message text : List ℕ) → message ≡ valid_message file (named_of raw) found → LoadsText text (Err why)
+    → IsImageTextTold file text (told 4 (valid_fault_line (shown_part found))) message
+invalid_text_told why raw found is file message text made answer =
+    let of : IsInvalidText text raw found = subst (λ (w : ImageTextFault). LoadsText text (Err w)) is answer in
+    inr (record { raw = raw; read = of.told; fault = found; first = of.first; put = refl; is = made })
 
 pub refused_text_line : (line : List ℕ) (text : List ℕ) → IsAsmDue text (told 4 line) → IsAsmDue text (outcome_of (puts status.Image line))
 refused_text_line line text is = subst (λ (o : Outcome). IsAsmDue text o) (sym (outcome_of_puts status.Image line)) is

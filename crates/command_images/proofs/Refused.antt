@@ -1,13 +1,20 @@
 -- What is due of bytes, by what was answered of them.
-use Rattle.std.proofs.Common.{◌≡◌, ◌<◌, ◌-◌, ℕ, List, length, Ok, Err, Bool, true, refl, sym, subst, ap, arith}
+use Rattle.std.proofs.Common.{◌≡◌, ◌<◌, ◌-◌, inr, ℕ, List, length, Some, Ok, Err, Bool, true, refl, sym, subst, ap, ◌∙◌, arith}
 use Rattle.std.specs.Prelude.{Result, IfOk, cond, nat_lt}
 use Rattle.std.proofs.lemmas.Bool.Decides.{nat_tests}
-use Rattle.image.specs.Raw.{named_of}
+use Rattle.image.specs.Raw.{image_of, named_of}
 use Rattle.image.specs.declared.raw.RawImage.{RawImage}
 use Rattle.image.specs.Bytes.{Version}
 use Rattle.image_reader.specs.Answer.{HasFault}
 use Rattle.image_reader.specs.File.{Parts, longest, read_file, whole_read}
 use Rattle.image_format.specs.Format.{Read, fault}
+use Rattle.valid_image.specs.Valid.{fault_of}
+use Rattle.faulty_part.specs.declared.part.PartFault.{PartFault}
+use Rattle.faulty_part.specs.Law.{shown_if, shown_part}
+use Rattle.faulty_part.specs.Parts.{part_fault}
+use Rattle.faulty_part.proofs.Whole.{whole}
+use Rattle.message_log.specs.Image.{valid_message}
+use Rattle.command_refusals.specs.Told.{IsImageTold}
 use Rattle.command_images.specs.Loading.{IsInvalid, Loads}
 use Rattle.command_images.specs.declared.loading.FileFault.{FileFault}
 use Rattle.command_images.specs.declared.loading.FileFault.TheVariants as file_fault
@@ -34,11 +41,22 @@ long_image bytes long =
 pub misread_image : (why : FileFault) (number offset : ℕ) → why ≡ file_fault.Image number offset → (bytes : List ℕ) → Loads bytes (Err why) → IsImageRefused bytes (told 4 (image_fault_line number offset))
 misread_image why number offset is bytes answer = misread number offset (subst (λ (w : FileFault). Loads bytes (Err w)) is answer) refl
 
-pub invalid_image : (why : FileFault) (number a b : ℕ) → why ≡ file_fault.Invalid number a b → (bytes : List ℕ) → Loads bytes (Err why)
-    → IsImageRefused bytes (told 4 (valid_fault_line (record { number = number; a = a; b = b })))
-invalid_image why number a b is bytes answer =
-    let found : IsInvalid bytes number a b = subst (λ (w : FileFault). Loads bytes (Err w)) is answer in
-    invalid found.raw (record { number = number; a = a; b = b }) found.held found.first refl
+-- the fault with its part is the fault of the image
+pub same_fault : (raw : RawImage) (found : PartFault) → part_fault (image_of raw) ≡ Some found → fault_of (image_of raw) ≡ Some (shown_part found)
+same_fault raw found first = sym (whole (image_of raw)) ∙ ap shown_if first
+
+pub invalid_image : (why : FileFault) (raw : RawImage) (found : PartFault) → why ≡ file_fault.Invalid raw found → (bytes : List ℕ) → Loads bytes (Err why)
+    → IsImageRefused bytes (told 4 (valid_fault_line (shown_part found)))
+invalid_image why raw found is bytes answer =
+    let of : IsInvalid bytes raw found = subst (λ (w : FileFault). Loads bytes (Err w)) is answer in
+    invalid raw (shown_part found) of.held (same_fault raw found of.first) refl
+
+-- what is told of it
+pub invalid_told : (why : FileFault) (raw : RawImage) (found : PartFault) → why ≡ file_fault.Invalid raw found → (file message bytes : List ℕ) → message ≡ valid_message file (named_of raw) found → Loads bytes (Err why)
+    → IsImageTold file bytes (told 4 (valid_fault_line (shown_part found))) message
+invalid_told why raw found is file message bytes made answer =
+    let of : IsInvalid bytes raw found = subst (λ (w : FileFault). Loads bytes (Err w)) is answer in
+    inr (record { raw = raw; read = of.held; fault = found; first = of.first; put = refl; is = made })
 
 pub refused_line : (line : List ℕ) (bytes : List ℕ) → IsImageRefused bytes (told 4 line) → IsImageRefused bytes (outcome_of (puts status.Image line))
 refused_line line bytes is = subst (λ (o : Outcome). IsImageRefused bytes o) (sym (outcome_of_puts status.Image line)) is

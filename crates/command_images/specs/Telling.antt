@@ -2,7 +2,9 @@
 use Rattle.std.specs.Prelude.{◌≡◌, ℕ, List, Some, Result, Ok, Err}
 use Rattle.image.specs.Raw.{image_of, named_of}
 use Rattle.image.specs.declared.raw.RawImage.{RawImage}
-use Rattle.valid_image.specs.Valid.{IsValid, fault_of}
+use Rattle.valid_image.specs.Valid.{IsValid}
+use Rattle.faulty_part.specs.declared.part.PartFault.{PartFault}
+use Rattle.faulty_part.specs.Parts.{part_fault}
 use Rattle.loader.specs.Verified.{HasRanges}
 use Rattle.command_due.specs.CommandsDue.{IsImageFile, stored}
 use Rattle.assembler.specs.declared.fault.AssemblyFault.{AssemblyFault}
@@ -17,17 +19,16 @@ pub record IsValidText (text : List ℕ) (raw : RawImage) : Type 0 where
   pub told : IsTextOf text raw
   pub file : IsImageFile (stored (named_of raw)) raw
 
--- the text is that of an image whose first fault of validity has this number and shows these
-pub record IsInvalidText (text : List ℕ) (number a b : ℕ) : Type 0 where
-  pub raw : RawImage
+-- the text is that of the image, of which this is the first fault of validity
+pub record IsInvalidText (text : List ℕ) (raw : RawImage) (found : PartFault) : Type 0 where
   pub told : IsTextOf text raw
-  pub first : fault_of (image_of raw) ≡ Some (record { number = number; a = a; b = b })
+  pub first : part_fault (image_of raw) ≡ Some found
 
 -- want of memory says nothing of the text
 abbrev pub LoadsText : List ℕ → Result RawImage ImageTextFault → Type 0
 LoadsText text (Ok raw) = IsValidText text raw
 LoadsText text (Err (fault.Text number line)) = IsFaultOf text number line
-LoadsText text (Err (fault.Invalid number a b)) = IsInvalidText text number a b
+LoadsText text (Err (fault.Invalid raw found)) = IsInvalidText text raw found
 LoadsText text (Err fault.Memory) = Unit {0}
 
 -- ---- on the way
@@ -46,5 +47,5 @@ TellsImage text (Err asm.Memory) = Unit {0}
 abbrev pub JudgesTold : RawImage → Result RawImage ImageTextFault → Type 0
 JudgesTold raw (Ok same) = (same ≡ raw) × IsValid (image_of raw)
 JudgesTold raw (Err (fault.Text number line)) = ⊥
-JudgesTold raw (Err (fault.Invalid number a b)) = fault_of (image_of raw) ≡ Some (record { number = number; a = a; b = b })
+JudgesTold raw (Err (fault.Invalid same found)) = (same ≡ raw) × (part_fault (image_of raw) ≡ Some found)
 JudgesTold raw (Err fault.Memory) = Unit {0}

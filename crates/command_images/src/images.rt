@@ -26,7 +26,7 @@ use command_answers::{
 use image::{RawImage, write_image};
 use image_format::refusal;
 use image_reader_law::images_read_can_be_written;
-use message_log::{image_message, valid_message};
+use message_log::{image_message, test_number, valid_message};
 use outside::Files;
 use std::alloc::{AllocError, Global};
 use syntax_tree::Text;
@@ -72,16 +72,17 @@ fn line_of(
 ) -> Result<Text, AllocError>
     ensures due { IfOk result (λ line. (bytes : List ℕ) → Loads bytes (Err fault) →
         IsImageRefused bytes (told 4 line)) }
-    ensures told { IfOk result (λ line. IsImageTold file.now (told 4 line) message.new) }
+    ensures told { IfOk result (λ line. (bytes : List ℕ) → Loads bytes (Err fault) →
+        IsImageTold file.now bytes (told 4 line) message.new) }
 {
     match fault {
         FileFault::Image { number, offset } => {
             *message = image_message(alloc, file, number, offset)?;
             image_fault_line(alloc, number, offset)
         }
-        FileFault::Invalid { number, a, b } => {
-            *message = valid_message(alloc, file, number, a, b)?;
-            valid_fault_line(alloc, number, a, b)
+        FileFault::Invalid { raw, fault: found } => {
+            *message = valid_message(alloc, file, &raw, found)?;
+            valid_fault_line(alloc, test_number(found.subject), found.a, found.b)
         }
         FileFault::Memory => Err(AllocError),
     }
@@ -99,7 +100,8 @@ pub fn refuse_image<'a>(
         IsImageRefused bytes (outcome_of act)) }
     ensures quiet { IfOk result IsQuiet }
     ensures refused { IfOk result (λ act. number_of act.status ≢ 0) }
-    ensures told { IfOk result (λ act. IsImageTold file.now (outcome_of act) message.new) }
+    ensures told { IfOk result (λ act. (bytes : List ℕ) → Loads bytes (Err fault) →
+        IsImageTold file.now bytes (outcome_of act) message.new) }
 {
     let line = line_of(alloc, message, file, fault)?;
     Ok(put(Status::Image, line))
@@ -138,8 +140,8 @@ fn migrate_act<'a>(
     ensures due { IfOk result (λ act. (bytes : List ℕ) → IsContent longest content.now bytes →
         IsMigrateDue bytes (outcome_of act)) }
     ensures done { IfOk result (CanBeDone (Some target.now)) }
-    ensures told { IfOk result (λ act.
-        Explains (IsImageTold image.now (outcome_of act) message.new) act) }
+    ensures told { IfOk result (λ act. (bytes : List ℕ) → IsContent longest content.now bytes →
+        Explains (IsImageTold image.now bytes (outcome_of act) message.new) act) }
 {
     match load_content(alloc, content) {
         Ok(raw) => store_image(alloc, &raw, target),

@@ -3,19 +3,21 @@
 ghost use Rattle.command_images.specs.Loading.{Judges, Loads, Reads};
 ghost use Rattle.loader.specs.Verified.{HasRanges};
 
+use faulty_part::PartFault;
 use image::RawImage;
 use image_reader::{ImageFault, read_image};
 use image_reader_law::images_read_are_in_their_ranges;
-use loader::first_fault;
 use std::alloc::Global;
+use validity_parts::part_fault;
 
 /// Why bytes gave no valid image.
-#[derive(Clone, Copy)]
+#[derive(Drop)]
 pub enum FileFault {
     /// They are no image: the first fault, by its number from 1 to 9 and its place from 0.
     Image { number: u8, offset: u32 },
-    /// They are an image that is not valid: the first part that fails, with its two numbers.
-    Invalid { number: u8, a: u64, b: u64 },
+    /// They are this image, which is not valid: the first test that fails, with the part of the
+    /// image that it is of.
+    Invalid { raw: RawImage, fault: PartFault },
     /// There was not enough memory.
     Memory,
 }
@@ -33,13 +35,9 @@ pub(crate) fn judge(alloc: Global, raw: RawImage) -> Result<RawImage, FileFault>
     requires { HasRanges raw }
     ensures { Judges raw result }
 {
-    match first_fault(alloc, &raw) {
+    match part_fault(alloc, &raw) {
         Ok(None) => Ok(raw),
-        Ok(Some(found)) => Err(FileFault::Invalid {
-            number: found.number,
-            a: found.a,
-            b: found.b,
-        }),
+        Ok(Some(fault)) => Err(FileFault::Invalid { raw, fault }),
         Err(_) => Err(FileFault::Memory),
     }
 }
@@ -49,7 +47,7 @@ pub(crate) fn judge(alloc: Global, raw: RawImage) -> Result<RawImage, FileFault>
 /// # Errors
 ///
 /// `Image` exactly where the bytes are no image, with their first fault; `Invalid` exactly where
-/// they are one that is not valid, with the first part that fails in the order of the parts 6, 1,
+/// they are one that is not valid, with the first test that fails in the order of the tests 6, 1,
 /// 7, 2, 3, 4, 5. `Memory` where there is not enough memory.
 pub fn load(alloc: Global, bytes: &[u8]) -> Result<RawImage, FileFault>
     ensures { Loads bytes.now result }

@@ -6,18 +6,20 @@ ghost use Rattle.loader.specs.Verified.{HasRanges};
 use crate::loading::{FileFault, judge};
 use asm_law::text_and_image::{images_told_are_held, texts_read_are_of_images};
 use assembler::{AssemblyFault, asm};
+use faulty_part::PartFault;
 use image::RawImage;
 use image_reader_law::images_read_are_in_their_ranges;
 use std::alloc::Global;
 
 /// Why a text gave no valid image.
-#[derive(Clone, Copy)]
+#[derive(Drop)]
 pub enum ImageTextFault {
     /// It is that of no image: the number of its fault from 1 to 3, and the line, from 1 on; 3 is of
     /// a text that is too long, on line 0.
     Text { number: u8, line: u32 },
-    /// It is that of an image that is not valid: the first part that fails, with its two numbers.
-    Invalid { number: u8, a: u64, b: u64 },
+    /// It is that of this image, which is not valid: the first test that fails, with the part of
+    /// the image that it is of.
+    Invalid { raw: RawImage, fault: PartFault },
     /// There was not enough memory.
     Memory,
 }
@@ -39,7 +41,7 @@ fn judge_told(alloc: Global, raw: RawImage) -> Result<RawImage, ImageTextFault>
 {
     match judge(alloc, raw) {
         Ok(raw) => Ok(raw),
-        Err(FileFault::Invalid { number, a, b }) => Err(ImageTextFault::Invalid { number, a, b }),
+        Err(FileFault::Invalid { raw, fault }) => Err(ImageTextFault::Invalid { raw, fault }),
         Err(FileFault::Image { .. }) => unreachable!(),
         Err(FileFault::Memory) => Err(ImageTextFault::Memory),
     }

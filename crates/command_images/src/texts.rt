@@ -34,7 +34,9 @@ use image::RawImage;
 use image_format::refusal;
 use image_reader::{ImageFault, read_image};
 use image_reader_law::images_read_can_be_written;
-use message_log::{image_message, image_text_message, long_text_message, valid_message};
+use message_log::{
+    image_message, image_text_message, long_text_message, test_number, valid_message,
+};
 use outside::Files;
 use std::alloc::{AllocError, Global};
 use syntax_tree::Text;
@@ -98,16 +100,16 @@ fn line_of_text(
     ensures due { IfOk result (λ line. (text : List ℕ) → LoadsText text (Err fault) →
         IsAsmDue text (told 4 line)) }
     ensures told { IfOk result (λ line. (text : List ℕ) → IsContent longest_text content.now text →
-        IsImageTextTold file.now text (told 4 line) message.new) }
+        LoadsText text (Err fault) → IsImageTextTold file.now text (told 4 line) message.new) }
 {
     match fault {
         ImageTextFault::Text { number, line } => {
             *message = message_of_lines(alloc, file, content, number, line)?;
             text_fault_line(alloc, number, line)
         }
-        ImageTextFault::Invalid { number, a, b } => {
-            *message = valid_message(alloc, file, number, a, b)?;
-            valid_fault_line(alloc, number, a, b)
+        ImageTextFault::Invalid { raw, fault: found } => {
+            *message = valid_message(alloc, file, &raw, found)?;
+            valid_fault_line(alloc, test_number(found.subject), found.a, found.b)
         }
         ImageTextFault::Memory => Err(AllocError),
     }
@@ -126,7 +128,7 @@ fn refuse_text<'a>(
         IsAsmDue text (outcome_of act)) }
     ensures quiet { IfOk result IsQuiet }
     ensures told { IfOk result (λ act. (text : List ℕ) → IsContent longest_text content.now text →
-        IsImageTextTold file.now text (outcome_of act) message.new) }
+        LoadsText text (Err fault) → IsImageTextTold file.now text (outcome_of act) message.new) }
 {
     let line = line_of_text(alloc, message, file, content, fault)?;
     Ok(put(Status::Image, line))

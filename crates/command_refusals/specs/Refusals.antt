@@ -60,15 +60,15 @@ IsToldOf (why program over) held outcome message = IsSomeAnd (held program) (λ 
 IsToldOf (fit program over) held outcome message = IsSomeAnd (held program) (λ bytes. IsTextTold program bytes outcome message)
 IsToldOf (print program) held outcome message = IsSomeAnd (held program) (λ bytes. IsTextTold program bytes outcome message)
 IsToldOf (table tasks program) held outcome message = IsSomeAnd (held tasks) (λ bytes. IsTableTold tasks bytes outcome message)
-IsToldOf (migrate image target) held outcome message = IsSomeAnd (held image) (λ bytes. IsImageTold image outcome message)
+IsToldOf (migrate image target) held outcome message = IsSomeAnd (held image) (λ bytes. IsImageTold image bytes outcome message)
 IsToldOf (dis image text) held outcome message = IsSomeAnd (held image) (λ bytes. IsBytesTold image outcome message)
 IsToldOf (asm text image) held outcome message = IsSomeAnd (held text) (λ bytes. IsImageTextTold text bytes outcome message)
 IsToldOf (run image script) held outcome message =
-    IsScriptedTold (λ bytes. IsImageTold image outcome message) HasImageNames script (held image) (held script) outcome message
+    IsScriptedTold (λ bytes. IsImageTold image bytes outcome message) HasImageNames script (held image) (held script) outcome message
 IsToldOf (watch image script stop) held outcome message =
-    IsScriptedTold (λ bytes. IsImageTold image outcome message) HasImageNames script (held image) (held script) outcome message
+    IsScriptedTold (λ bytes. IsImageTold image bytes outcome message) HasImageNames script (held image) (held script) outcome message
 IsToldOf (chart image script first end) held outcome message =
-    IsScriptedTold (λ bytes. IsImageTold image outcome message) HasImageNames script (held image) (held script) outcome message
+    IsScriptedTold (λ bytes. IsImageTold image bytes outcome message) HasImageNames script (held image) (held script) outcome message
 IsToldOf (edf program script) held outcome message =
     IsScriptedTold (λ bytes. IsDemandedTold program bytes outcome message) HasFeasibleNames script (held program) (held script) outcome message
 IsToldOf (replay program script log) held outcome message =

@@ -1,5 +1,5 @@
 -- What a person is told of a call that is refused: the message of the fault whose line is put.
-use Rattle.std.specs.Prelude.{◌≡◌, ◌⊎◌, ℕ, List}
+use Rattle.std.specs.Prelude.{◌≡◌, ◌⊎◌, ℕ, List, Some}
 use Rattle.base.specs.declared.event.Event.{Event}
 use Rattle.syntax_tree.specs.declared.place.Place.{Place}
 use Rattle.syntax_tree.specs.Placed.{Prog, plain}
@@ -10,13 +10,19 @@ use Rattle.built_image.specs.Named.{names_of}
 use Rattle.event_log.specs.Logs.{IsLog}
 use Rattle.image.specs.Named.{NamedImage}
 use Rattle.image.specs.declared.names.ImageNames.{ImageNames}
-use Rattle.valid_image.specs.Valid.{Shown}
+use Rattle.image.specs.Raw.{image_of, named_of}
+use Rattle.image.specs.declared.raw.RawImage.{RawImage}
+use Rattle.image_reader.specs.Answer.{Holds}
+use Rattle.faulty_part.specs.declared.part.PartFault.{PartFault}
+use Rattle.faulty_part.specs.Law.{shown_part}
+use Rattle.faulty_part.specs.Parts.{part_fault}
 use Rattle.sched_demand.specs.declared.judging.Judgement.{Judgement}
 use Rattle.script.specs.declared.fault.ScriptFault.{ScriptFault}
 use Rattle.event_log.specs.declared.fault.LogFault.{LogFault}
 use Rattle.command_due.specs.Source.{Style, IsLateText, fault_line}
 use Rattle.command_due.specs.CommandsDue.{Outcome, told, bad_script, image_fault_line, valid_fault_line}
 use Rattle.command_due.specs.AsmDue.{text_fault_line}
+use Rattle.command_due.specs.Texts.{IsTextOf}
 use Rattle.command_due.specs.TableDue.{table_fault_line}
 use Rattle.command_due.specs.EdfDue.{IsJudgedText}
 use Rattle.command_due.specs.ReplayDue.{log_fault_line, refused_line}
@@ -79,14 +85,18 @@ pub record IsBytesTold (file : List ℕ) (outcome : Outcome) (message : List ℕ
   pub put : outcome ≡ told 4 (image_fault_line number offset)
   pub is : message ≡ image_message file number offset
 
--- the fault of an image that is not valid
-pub record IsInvalidTold (file : List ℕ) (outcome : Outcome) (message : List ℕ) : Type 0 where
-  pub fault : Shown
-  pub put : outcome ≡ told 4 (valid_fault_line fault)
-  pub is : message ≡ valid_message file fault.number fault.a fault.b
+-- the first fault of an image that is not valid, with the part of the image that it speaks of; what
+-- was read is of that image
+pub record IsInvalidTold (IsOf : RawImage → Type 0) (file : List ℕ) (outcome : Outcome) (message : List ℕ) : Type 0 where
+  pub raw : RawImage
+  pub read : IsOf raw
+  pub fault : PartFault
+  pub first : part_fault (image_of raw) ≡ Some fault
+  pub put : outcome ≡ told 4 (valid_fault_line (shown_part fault))
+  pub is : message ≡ valid_message file (named_of raw) fault
 
-abbrev pub IsImageTold : (file : List ℕ) (outcome : Outcome) (message : List ℕ) → Type 0
-IsImageTold file outcome message = IsBytesTold file outcome message ⊎ IsInvalidTold file outcome message
+abbrev pub IsImageTold : (file bytes : List ℕ) (outcome : Outcome) (message : List ℕ) → Type 0
+IsImageTold file bytes outcome message = IsBytesTold file outcome message ⊎ IsInvalidTold (Holds bytes) file outcome message
 
 -- the fault of a text that is that of no image
 pub record IsLinesTold (file bytes : List ℕ) (outcome : Outcome) (message : List ℕ) : Type 0 where
@@ -96,7 +106,7 @@ pub record IsLinesTold (file bytes : List ℕ) (outcome : Outcome) (message : Li
   pub is : message ≡ image_text_message file bytes number line
 
 abbrev pub IsImageTextTold : (file bytes : List ℕ) (outcome : Outcome) (message : List ℕ) → Type 0
-IsImageTextTold file bytes outcome message = IsLinesTold file bytes outcome message ⊎ IsInvalidTold file outcome message
+IsImageTextTold file bytes outcome message = IsLinesTold file bytes outcome message ⊎ IsInvalidTold (IsTextOf bytes) file outcome message
 
 -- ---- scripts and logs
 

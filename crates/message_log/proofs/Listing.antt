@@ -1,5 +1,5 @@
 -- The list of start events that are missing, put in its parts.
-use Rattle.std.proofs.Common.{◌≡◌, ◌++◌, ℕ, List, length, map, take, ap, sym, ◌∙◌, append_assoc}
+use Rattle.std.proofs.Common.{◌≡◌, ◌++◌, ℕ, List, length, take, ap, sym, ◌∙◌, append_assoc}
 use Rattle.std.proofs.lemmas.List.{length-map, take-map}
 use Rattle.image.specs.declared.names.ImageNames.{ImageNames}
 use Rattle.replay_reason_spec.specs.Events.{event_of, events_of}

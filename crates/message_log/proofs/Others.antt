@@ -1,7 +1,7 @@
 -- The numbers that no fault has.
 use Rattle.std.proofs.Common.{◌≡◌, ◌≢◌, ◌≤◌, ◌<◌, ℕ, zero, suc, List, ◌∷◌, length, get_or, refl, arith}
 use Rattle.std.proofs.lemmas.List.{get_or_past}
-use Rattle.message_log.specs.Image.{image_sentence, image_sentences, no_image, no_text, not_valid, text_sentence, text_sentences, valid_sentence, valid_sentences}
+use Rattle.message_log.specs.Image.{image_sentence, image_sentences, no_image, no_text, text_sentence, text_sentences}
 
 -- a number that no row of a table has but the first
 other_row : (row : List ℕ) (rows : List (List ℕ)) (n : ℕ) → (n ≢ 0 → length rows < n) → get_or (row ∷ rows) n row ≡ row
@@ -14,11 +14,6 @@ pub no_image_number : (n : ℕ) → n ≢ 1 → n ≢ 2 → n ≢ 3 → n ≢ 4 
 no_image_number n a b c d e f g h i =
     let above : n ≢ 0 → 9 < n = λ some. omega (arith, some, a, b, c, d, e, f, g, h, i) in
     other_row no_image image_sentences n above
-
-pub not_valid_number : (n x y : ℕ) → n ≢ 1 → n ≢ 2 → n ≢ 3 → n ≢ 4 → n ≢ 5 → n ≢ 6 → n ≢ 7 → valid_sentence n x y ≡ not_valid
-not_valid_number n x y a b c d e f g =
-    let above : n ≢ 0 → 7 < n = λ some. omega (arith, some, a, b, c, d, e, f, g) in
-    other_row not_valid (valid_sentences x y) n above
 
 pub no_text_number : (n : ℕ) → n ≢ 1 → n ≢ 2 → text_sentence n ≡ no_text
 no_text_number n a b =

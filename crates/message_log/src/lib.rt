@@ -11,7 +11,8 @@
 //! message. The only error is want of memory.
 //!
 //! Bytes that are no image, an image that is not valid and a text that is that of no image are told
-//! by the file's name, the number of the fault and a sentence; of a text its line is shown too,
+//! by the file's name, the number of the fault and a sentence, which names the part of an image
+//! (`faulty_part`) and what is wrong with it; of a text its line is shown too,
 //! with what may have led to the fault. `specs/Image.antt` defines these messages.
 #![tactic(auto)]
 
@@ -19,6 +20,7 @@ mod bytes;
 mod event_line;
 mod messages;
 mod openings;
+mod parts;
 mod reasons;
 mod refused;
 mod table;
@@ -30,4 +32,4 @@ pub use bytes::image_message;
 pub use messages::{log_message, long_message};
 pub use refused::refused_message;
 pub use texts::{image_text_message, long_text_message};
-pub use validity::valid_message;
+pub use validity::{test_number, valid_message};

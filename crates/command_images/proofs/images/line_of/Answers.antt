@@ -1,8 +1,8 @@
-use Rattle.std.proofs.Common.{ℕ, List, Err, ap, inr}
-use Rattle.std.proofs.lemmas.Result.{IfOk-weaker}
+use Rattle.std.proofs.Common.{ℕ, List, Err, sym, subst}
 use Rattle.command_due.specs.CommandsDue.{IsImageRefused, image_fault_line, told, valid_fault_line}
 use Rattle.command_images.specs.Loading.{Loads}
-use Rattle.command_images.proofs.Refused.{invalid_image, misread_image}
+use Rattle.command_refusals.specs.Told.{IsImageTold}
+use Rattle.command_images.proofs.Refused.{invalid_image, invalid_told, misread_image}
 use Rattle.command_answers.proofs.Judged.{of_made}
 use Rattle.command_images.proofs.images.line_of.Goals as goal
 
@@ -13,12 +13,16 @@ returns-in_ok-message-in-Image-clause-due c =
 
 pub returns-in_ok-message-in-Invalid-clause-due : goal.returns-in_ok-message-in-Invalid-clause-due
 returns-in_ok-message-in-Invalid-clause-due c =
-    of_made c.valid_fault_line.result (valid_fault_line (record { number = c.in-Invalid.number; a = c.in-Invalid.a; b = c.in-Invalid.b }))
+    of_made c.valid_fault_line.result (valid_fault_line (record { number = c.test_number.result; a = c.in-Invalid.found.a; b = c.in-Invalid.found.b }))
     (λ line. (bytes : List ℕ) → Loads bytes (Err c.args.fault) → IsImageRefused bytes (told 4 line))
-    c.valid_fault_line.ensures (invalid_image c.args.fault c.in-Invalid.number c.in-Invalid.a c.in-Invalid.b c.in-Invalid.is)
+    c.valid_fault_line.ensures
+    (subst (λ n. (bytes : List ℕ) → Loads bytes (Err c.args.fault) → IsImageRefused bytes (told 4 (valid_fault_line (record { number = n; a = c.in-Invalid.found.a; b = c.in-Invalid.found.b })))) (sym c.test_number.ensures)
+    (invalid_image c.args.fault c.in-Invalid.raw c.in-Invalid.found c.in-Invalid.is))
 
 pub returns-in_ok-message-in-Invalid-clause-told : goal.returns-in_ok-message-in-Invalid-clause-told
 returns-in_ok-message-in-Invalid-clause-told c =
-    IfOk-weaker c.valid_fault_line.result _ _
-    (λ line is. inr (record { fault = record { number = c.in-Invalid.number; a = c.in-Invalid.a; b = c.in-Invalid.b }; put = ap (told 4) is; is = c.in_ok-message-in-Invalid.ensures }))
+    of_made c.valid_fault_line.result (valid_fault_line (record { number = c.test_number.result; a = c.in-Invalid.found.a; b = c.in-Invalid.found.b }))
+    (λ line. (bytes : List ℕ) → Loads bytes (Err c.args.fault) → IsImageTold c.args.file.now bytes (told 4 line) c.in_ok-message-in-Invalid.message)
     c.valid_fault_line.ensures
+    (λ bytes answer. subst (λ n. IsImageTold c.args.file.now bytes (told 4 (valid_fault_line (record { number = n; a = c.in-Invalid.found.a; b = c.in-Invalid.found.b }))) c.in_ok-message-in-Invalid.message) (sym c.test_number.ensures)
+    (invalid_told c.args.fault c.in-Invalid.raw c.in-Invalid.found c.in-Invalid.is c.args.file.now c.in_ok-message-in-Invalid.message bytes c.in_ok-message-in-Invalid.ensures answer))

@@ -1,0 +1,4 @@
+pub mod Owners
+pub mod Needs
+pub mod BoundTests
+pub mod Coding
