@@ -8,3 +8,5 @@ pub mod Parts
 pub mod Spots
 pub mod Standing
 pub mod Steps
+pub mod Uses
+pub mod Views
