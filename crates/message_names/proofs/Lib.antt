@@ -1,3 +1,4 @@
+pub mod Bodies
 pub mod Closing
 pub mod Counts
 pub mod Examples

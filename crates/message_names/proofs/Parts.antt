@@ -70,13 +70,13 @@ part-rises (q ∷ qs) (p ∷ ps) (inr h) r = part-rises (q ∷ qs) ps h r.1
 part-joined : (ms ns : List Mention) (ps qs : List Place) → Part (places ms) ps → Part (places ns) qs → Part (places (ms ++ ns)) (ps ++ qs)
 part-joined ms ns ps qs g h = subst (λ l. Part l (ps ++ qs)) (map-append ms ns) (part-both (places ms) ps (places ns) qs g h)
 
-part-flat : {X : Type 0} (f : X → List Mention) (g : X → List Place) → ((x : X) → Part (places (f x)) (g x)) → (xs : List X) → Part (places (flat_map f xs)) (flat_map g xs)
+pub part-flat : {X : Type 0} (f : X → List Mention) (g : X → List Place) → ((x : X) → Part (places (f x)) (g x)) → (xs : List X) → Part (places (flat_map f xs)) (flat_map g xs)
 part-flat f g each [] = tt
 part-flat f g each (x ∷ xs) = part-joined (f x) (flat_map f xs) (g x) (flat_map g xs) (each x) (part-flat f g each xs)
 
 -- ---- part by part
 
-part-value : (c : Constant Place) → Part (places (told.constant_mentions c)) (value_place c ∷ [])
+pub part-value : (c : Constant Place) → Part (places (told.constant_mentions c)) (value_place c ∷ [])
 part-value (literal_constant p is_minus n q) = tt
 part-value (named_constant p is_minus n q) = inl (refl, tt)
 
@@ -108,13 +108,13 @@ mutual
   part-stmts no_stmts = tt
   part-stmts (stmts s ss) = part-joined (told.stmt_mentions s) (told.stmts_mentions ss) (stmt_spots s) (stmts_spots ss) (part-stmt s) (part-stmts ss)
 
-part-var : (scope : Scope) (v : Var Place) → Part (places (told.var_mentions scope v)) (var_spots v)
+pub part-var : (scope : Scope) (v : Var Place) → Part (places (told.var_mentions scope v)) (var_spots v)
 part-var scope v = part-all (var_spots v)
 
-part-param : (scope : Scope) (v : Param Place) → Part (places (told.param_mentions scope v)) (param_spots v)
+pub part-param : (scope : Scope) (v : Param Place) → Part (places (told.param_mentions scope v)) (param_spots v)
 part-param scope v = part-all (param_spots v)
 
-part-member : (scope : Scope) (m : Member Place) → Part (places (told.member_mentions scope m)) (member_spots m)
+pub part-member : (scope : Scope) (m : Member Place) → Part (places (told.member_mentions scope m)) (member_spots m)
 part-member scope (variable_member v) = part-var scope v
 part-member scope (condition_member name place) = part-all (place ∷ [])
 
@@ -132,7 +132,7 @@ part-routine is_entry scope r =
     inl (refl, part-joined (flat_map (told.param_mentions own) r.params) (result ++ (vars ++ (told.stmts_mentions r.body ++ (value ++ end)))) (flat_map param_spots r.params)
     (places result ++ (flat_map var_spots r.vars ++ (stmts_spots r.body ++ (places value ++ r.close_place ∷ [])))) (part-flat (told.param_mentions own) param_spots (part-param own) r.params) at_result)
 
-part-monitor : (scope : Scope) (m : Monitor Place) → Part (places (told.monitor_mentions scope m)) (monitor_spots m)
+pub part-monitor : (scope : Scope) (m : Monitor Place) → Part (places (told.monitor_mentions scope m)) (monitor_spots m)
 part-monitor scope m =
     let own : Scope = told.scope_from m.place m.close_place in
     let end : List Mention = told.closes m.close m.close_place m.place ∷ [] in
@@ -141,12 +141,12 @@ part-monitor scope m =
     inl (refl, part-joined (flat_map (told.member_mentions own) m.members) (entries ++ end) (flat_map member_spots m.members) (flat_map routine_spots m.entries ++ m.close_place ∷ [])
     (part-flat (told.member_mentions own) member_spots (part-member own) m.members) at_entries)
 
-part-handler : (h : Option (Handler Place)) → Part (places (option_map_or told.handler_mentions h [])) (handler_spots h)
+pub part-handler : (h : Option (Handler Place)) → Part (places (option_map_or told.handler_mentions h [])) (handler_spots h)
 part-handler None = tt
 part-handler (Some h) =
     let numbers : List Mention = flat_map told.constant_mentions h.numbers in part-joined numbers (told.stmts_mentions h.body) (places numbers) (stmts_spots h.body) (part-all (places numbers)) (part-stmts h.body)
 
-part-process : (scope : Scope) (p : Process Place) → Part (places (told.process_mentions scope p)) (process_spots p)
+pub part-process : (scope : Scope) (p : Process Place) → Part (places (told.process_mentions scope p)) (process_spots p)
 part-process scope p =
     let own : Scope = told.scope_from p.place p.close_place in
     let end : List Mention = told.closes p.close p.close_place p.place ∷ [] in
@@ -163,7 +163,7 @@ part-process scope p =
     inl (refl, part-joined begun (vars ++ (routines ++ (told.stmts_mentions p.body ++ (handled ++ end)))) (places begun)
     (flat_map var_spots p.vars ++ (flat_map routine_spots p.routines ++ (stmts_spots p.body ++ (handler_spots p.handler ++ p.close_place ∷ [])))) (part-all (places begun)) at_vars)
 
-part-decl : (scope : Scope) (d : Decl Place) → Part (places (told.decl_mentions scope d)) (decl_spots d)
+pub part-decl : (scope : Scope) (d : Decl Place) → Part (places (told.decl_mentions scope d)) (decl_spots d)
 part-decl scope (constant name place c) = inl (refl, part-value c)
 part-decl scope (device name place is_out) = part-all (place ∷ [])
 part-decl scope (event name place) = part-all (place ∷ [])

@@ -187,7 +187,7 @@ mutual
   bare-operands no_operands = tt
   bare-operands (operand op e rs) = bare-append (told.expr_mentions e) (told.operands_mentions rs) (bare-expr e) (bare-operands rs)
 
-bare-ref : (r : Ref Place) → Bare (told.ref_mentions r)
+pub bare-ref : (r : Ref Place) → Bare (told.ref_mentions r)
 bare-ref (whole p name) = (refl, tt)
 bare-ref (part p name i) = (refl, bare-expr i)
 
@@ -217,16 +217,16 @@ last-mem p [] = inl refl
 last-mem p (m ∷ ms) = inr (last-mem m.place ms)
 
 -- no place of these is behind the last
-last-not : (p : Place) (ms : List Mention) → Rising (p ∷ places ms) → (q : Place) → Mem q (p ∷ places ms) → before (last_place p ms) q ≡ false
+pub last-not : (p : Place) (ms : List Mention) → Rising (p ∷ places ms) → (q : Place) → Mem q (p ∷ places ms) → before (last_place p ms) q ≡ false
 last-not p [] rises q (inl e) = ap (before p) (sym e) ∙ not-itself p
 last-not p [] rises q (inr is) = absurd is
 last-not p (m ∷ ms) rises q (inl e) = not-ahead q (last_place m.place ms) (subst (λ x. Ahead x (last_place m.place ms)) e (rises.0 (last_place m.place ms) (last-mem m.place ms)))
 last-not p (m ∷ ms) rises q (inr is) = last-not m.place ms rises.1 q is
 
-abbrev inner : (low high : Constant Place) → Stmts Place → List Mention
+abbrev pub inner : (low high : Constant Place) → Stmts Place → List Mention
 inner low high a = told.bounds_mentions low high ++ told.stmts_mentions a
 
-abbrev counter : Name → Place → (low high : Constant Place) → Stmts Place → Mention
+abbrev pub counter : Name → Place → (low high : Constant Place) → Stmts Place → Mention
 counter name q low high a = told.declares what_is.LoopVariable (record { begin = value_place high; end = last_place q (inner low high a) }) name q
 
 -- from where and up to where something reaches that is declared
