@@ -6,6 +6,7 @@ pub mod Joined
 pub mod Loops
 pub mod Order
 pub mod Parts
+pub mod Processes
 pub mod Routines
 pub mod Sections
 pub mod Spots

@@ -1,4 +1,4 @@
--- What names mean in monitors and processes.
+-- What names mean in monitors, and in routines one after another.
 use Rattle.std.proofs.Common.{◌≡◌, Bool, true, false, not, List, [], ◌∷◌, ◌++◌, map, Option, Some, None, ◌⊎◌, inl, inr, refl, ap, sym, ◌∙◌, subst, append_assoc, append-nil}
 use Rattle.std.specs.Prelude.{flat_map}
 use Rattle.std.specs.Option.{option_map_or}
@@ -36,7 +36,7 @@ mem-flat f (z ∷ xs) x y (inl e) at = mem-left y (f z) (flat_map f xs) (subst (
 mem-flat f (z ∷ xs) x y (inr is) at = mem-right y (f z) (flat_map f xs) (mem-flat f xs x y is at)
 
 -- where nothing in the routines reaches, they do
-view-routines : (is_entry : Bool) (own : Scope) (q : Place) → Reached own q → (rs : List (Routine Place)) → ((r : Routine Place) → Mem r rs → view q (told.routine_inner r) ≡ [])
+pub view-routines : (is_entry : Bool) (own : Scope) (q : Place) → Reached own q → (rs : List (Routine Place)) → ((r : Routine Place) → Mem r rs → view q (told.routine_inner r) ≡ [])
     → view q (flat_map (told.routine_mentions is_entry own) rs) ≡ map (routine_declares is_entry own) rs
 view-routines is_entry own q at [] silent = refl
 view-routines is_entry own q at (r ∷ rs) silent =
@@ -52,11 +52,11 @@ pub view-behind : (is_entry : Bool) (own : Scope) (q : Place) → Reached own q 
     → view q (flat_map (told.routine_mentions is_entry own) rs) ≡ map (routine_declares is_entry own) rs
 view-behind is_entry own q at rs h = view-routines is_entry own q at rs (λ r is. silent-behind q (routine_spots r) (told.routine_inner r) (enclosed-routine r) (λ y on. h y (mem-flat routine_spots rs r y is on)))
 
-ties-routines : (own : Scope) (rs : List (Routine Place)) → Ties (map (routine_declares false own) rs) (map rule.routine_name rs)
+pub ties-routines : (own : Scope) (rs : List (Routine Place)) → Ties (map (routine_declares false own) rs) (map rule.routine_name rs)
 ties-routines own [] = tt
 ties-routines own (r ∷ rs) = (refl, refl, ties-routines own rs)
 
-ties-entries : (own : Scope) (rs : List (Routine Place)) → Ties (map (routine_declares true own) rs) (map rule.entry_name rs)
+pub ties-entries : (own : Scope) (rs : List (Routine Place)) → Ties (map (routine_declares true own) rs) (map rule.entry_name rs)
 ties-entries own [] = tt
 ties-entries own (r ∷ rs) = (refl, refl, ties-entries own rs)
 
