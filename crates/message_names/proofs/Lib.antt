@@ -7,6 +7,7 @@ pub mod Loops
 pub mod Order
 pub mod Parts
 pub mod Processes
+pub mod Programs
 pub mod Routines
 pub mod Sections
 pub mod Spots

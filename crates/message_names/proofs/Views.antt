@@ -177,7 +177,7 @@ taken b None m low e = refl
 taken b (Some s) m low e = ap (λ c. if c then Some m else Some s) (ap (before (begins s)) e ∙ low)
 
 -- the first in an inner scope counts
-enters : (n : Name) (b : Place) (known : Option Mention) (ms : List Mention) → Lower b known → Begin b ms → pick n known ms ≡ or_else (named n ms) known
+pub enters : (n : Name) (b : Place) (known : Option Mention) (ms : List Mention) → Lower b known → Begin b ms → pick n known ms ≡ or_else (named n ms) known
 enters n b known [] low own = refl
 enters n b known (m ∷ ms) low own = by (bytes_eq m.name n) (enters n b known ms low (λ x is. own x (inr is)))
   where

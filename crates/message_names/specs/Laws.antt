@@ -1,15 +1,18 @@
 -- How what is told of names agrees with the rules for names.
-use Rattle.std.specs.Prelude.{◌≡◌, ℕ, Bool, false, ◌↔◌, true, IsSome, Some, Contains, count_by}
+use Rattle.std.specs.Prelude.{◌≡◌, ℕ, Bool, false, ◌↔◌, true, IsSome, Option, Some, option_map, Contains, count_by}
 use Rattle.syntax_tree.specs.Plain.{Name}
 use Rattle.syntax_tree.specs.Placed.{Prog}
 use Rattle.syntax_tree.specs.Parts.{same_place}
 use Rattle.syntax_tree.specs.declared.place.Place.{Place}
+use Rattle.static_names.specs.declared.kind.Declared.{Declared}
 use Rattle.static_names.specs.declared.kind.NameUse.{NameUse}
 use Rattle.static_names.specs.declared.kind.NameUse.TheVariants as want_is
-use Rattle.static_names.specs.Occurrences.{closes, names}
+use Rattle.static_names.specs.Occurrences.{closes, names, used}
 use Rattle.static_names.specs.Resolved.{IsRead}
 use Rattle.static_names.specs.Rules.{Fails, Stands, place_of}
-use Rattle.message_names.specs.Mentions.{mentions}
+use Rattle.message_names.specs.Mentions.{mentions, uses}
+use Rattle.message_names.specs.Reach.{meaning, mention_at}
+use Rattle.message_names.specs.declared.role.Wanted.{Wanted}
 use Rattle.message_names.specs.Told.{misclosed, name_sentence}
 
 -- at each place stand as many of the names that are told as of those that the rules are about
@@ -32,3 +35,13 @@ TellsOfClosing = (g : Prog Place) → IsRead g → (name : Name) (place : Place)
 abbrev pub stands_alone : NameUse → Bool
 stands_alone want_is.Entry = false
 stands_alone want = true
+
+-- the use is told that stands at the place, and what it means is the declaration that the rules say, or none where they say none
+pub record IsTold (g : Prog Place) (name : Name) (place : Place) (means : Option Declared) : Type 0 where
+  pub wanted : Wanted
+  pub stands : mention_at place (mentions g) ≡ Some (uses wanted name place)
+  pub meant : option_map (λ m. m.place) (meaning (mentions g) (uses wanted name place)) ≡ option_map (λ d. d.place) means
+
+-- each use that stands alone is told so
+abbrev pub TellsOfUses : Type 0
+TellsOfUses = (g : Prog Place) → IsRead g → (name : Name) (place : Place) (want : NameUse) (means : Option Declared) → Contains (names g) (used name place want means) → stands_alone want ≡ true → IsTold g name place means

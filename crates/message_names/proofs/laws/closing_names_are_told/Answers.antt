@@ -1,4 +1,3 @@
-use Rattle.message_names.proofs.Processes.{of-process}
 use Rattle.message_names.proofs.Closing.{tells-of-closing}
 use Rattle.message_names.proofs.laws.closing_names_are_told.Goals as goal
 
