@@ -1,23 +1,20 @@
 -- What names mean in statements: a loop's variable reaches in its statements alone.
-use Rattle.std.proofs.Common.{◌≡◌, Bool, true, false, not, List, [], ◌∷◌, ◌++◌, ◌⊎◌, inl, inr, refl, ap, sym, ◌∙◌, subst, append_assoc, append-nil}
-use Rattle.std.specs.Prelude.{◌&&◌}
+use Rattle.std.proofs.Common.{◌≡◌, false, not, List, [], ◌∷◌, ◌++◌, ◌⊎◌, inl, inr, refl, ap, sym, ◌∙◌, subst, append_assoc}
 use Rattle.std.proofs.lemmas.Bool.{and_from, and_left, not_from_false}
 use Rattle.syntax_tree.specs.Plain.{Name}
 use Rattle.syntax_tree.specs.Placed.{Constant, Stmt, assign, assign_entry, assign_empty, perform, perform_entry, when, when_else, loop, exit_when, get, put, wait, signal, broadcast, except, assert, Stmts, no_stmts, stmts}
 use Rattle.syntax_tree.specs.declared.place.Place.{Place}
-use Rattle.static_names.specs.Reach as site
 use Rattle.static_names.specs.Reach.{Site, inside}
 use Rattle.static_names.specs.Occurrences as rule
 use Rattle.message_names.specs.declared.role.Wanted.TheVariants as wanted_is
-use Rattle.message_names.specs.declared.sight.Sight.TheVariants as sight_is
 use Rattle.message_names.specs.Mentions as told
 use Rattle.message_names.specs.Mentions.{Mention, last_place, value_place}
-use Rattle.message_names.specs.Reach.{before, sees}
-use Rattle.message_names.proofs.Closing.{Each, Within}
+use Rattle.message_names.specs.Reach.{before}
+use Rattle.message_names.proofs.Closing.{Within}
 use Rattle.message_names.proofs.Order.{Ahead, Mem, Rising, not-ahead, not-itself}
 use Rattle.message_names.proofs.Parts.{mem-left, mem-right, mem-place, part-mem, part-rises, part-value, part-stmt, part-stmts}
 use Rattle.message_names.proofs.Spots.{places, map-append, stmt_spots, stmts_spots}
-use Rattle.message_names.proofs.Uses.{Keeps, Sited, of-constant, of-bounds, of-expr, of-get, of-put, of-condition, of-wait, of-assign, of-assign-entry, of-assign-empty, of-perform, of-perform-entry, bare-constant, bare-bounds, bare-expr, bare-exprs, bare-ref, Seen, seen-left, seen-right, sited-bare, last-not, inner, counter, enclosed-stmt, enclosed-stmts}
+use Rattle.message_names.proofs.Uses.{Keeps, of-constant, of-bounds, of-expr, of-get, of-put, of-condition, of-wait, of-assign, of-assign-entry, of-assign-empty, of-perform, of-perform-entry, bare-constant, bare-bounds, bare-expr, bare-exprs, bare-ref, Seen, seen-left, seen-right, sited-bare, last-not, inner, counter, enclosed-stmt, enclosed-stmts}
 use Rattle.message_names.proofs.Views.{mem-split, rises-left, rises-right, rises-apart, view, view-append, not-seen, is-seen, bare-append, bare-view, silent-before, silent-behind, begins, Under, Sees, sees-within}
 
 -- the scopes of these begin before each of the places
@@ -136,16 +133,20 @@ mutual
       let lows : List Place = places (told.constant_mentions low) in
       let at_limit : Under limit (outer ++ behind) = under limit (inr (mem-right limit lows (limit ∷ stmts_spots a) (inl refl))) in
       let mean : Sees (outer ++ (i ∷ behind)) (inside (rule.loop_name name q ∷ []) here).means =
-      sees-within limit outer (i ∷ []) behind (rule.loop_name name q ∷ []) here.means (under-left limit outer behind at_limit) (under-right limit outer behind at_limit) (only i limit refl) (refl, refl, tt) means in
-      (tt, of-bounds ms (outer ++ behind) here means low high (λ m is. (within m (inr (mem-left m bounds body is)),
-      seen m.place (inr (subst (Mem m.place) (map-append bounds body) (mem-left m.place (places bounds) (places body) (mem-place m bounds is)))) ∙ ap (λ v. outer ++ (v ++ behind)) (bounds-view name q low high a p rises m.place (mem-place m bounds is)))) _
-      (of-stmts ms (outer ++ i ∷ []) behind (inside (rule.loop_name name q ∷ []) here) (subst (λ l. Sees l (inside (rule.loop_name name q ∷ []) here).means) (sym (append_assoc outer (i ∷ []) behind)) mean) a
-      (rises-right lows (limit ∷ stmts_spots a) rises.1).1
-      (λ x is. let all = under x (inr (mem-right x lows (limit ∷ stmts_spots a) (inr is))) in
-      under-append x (outer ++ i ∷ []) behind (under-append x outer (i ∷ []) (under-left x outer behind all) (λ m at. subst (λ y. Ahead y x) (sym (only i limit refl m at)) (limit-first name q low high a p rises x is))) (under-right x outer behind all))
-      (λ m is. within m (inr (mem-right m bounds body is)))
-      (λ x is. seen x (inr (subst (Mem x) (map-append bounds body) (mem-right x (places bounds) (places body) is))) ∙ ap (λ v. outer ++ (v ++ behind)) (body-view name q low high a p rises x is) ∙ sym (append_assoc outer (i ∷ []) (view x body ++ behind)))
-      more rest))
+      sees-within limit outer (i ∷ []) behind (rule.loop_name name q ∷ []) here.means (under-left limit outer behind at_limit) (under-right limit outer behind at_limit) (only i limit refl) (refl, refl, tt) means in (
+        tt,
+        of-bounds ms (outer ++ behind) here means low high (λ m is. (
+          within m (inr (mem-left m bounds body is)),
+          seen m.place (inr (subst (Mem m.place) (map-append bounds body) (mem-left m.place (places bounds) (places body) (mem-place m bounds is)))) ∙ ap (λ v. outer ++ (v ++ behind)) (bounds-view name q low high a p rises m.place (mem-place m bounds is)),
+        )) _
+            (of-stmts ms (outer ++ i ∷ []) behind (inside (rule.loop_name name q ∷ []) here) (subst (λ l. Sees l (inside (rule.loop_name name q ∷ []) here).means) (sym (append_assoc outer (i ∷ []) behind)) mean) a
+            (rises-right lows (limit ∷ stmts_spots a) rises.1).1
+            (λ x is. let all = under x (inr (mem-right x lows (limit ∷ stmts_spots a) (inr is))) in
+            under-append x (outer ++ i ∷ []) behind (under-append x outer (i ∷ []) (under-left x outer behind all) (λ m at. subst (λ y. Ahead y x) (sym (only i limit refl m at)) (limit-first name q low high a p rises x is))) (under-right x outer behind all))
+            (λ m is. within m (inr (mem-right m bounds body is)))
+            (λ x is. seen x (inr (subst (Mem x) (map-append bounds body) (mem-right x (places bounds) (places body) is))) ∙ ap (λ v. outer ++ (v ++ behind)) (body-view name q low high a p rises x is) ∙ sym (append_assoc outer (i ∷ []) (view x body ++ behind)))
+            more rest),
+      )
   of-stmt ms outer behind here means (exit_when p e) rises under within seen more rest = of-expr ms (outer ++ behind) here means e (sited-bare ms outer behind (told.expr_mentions e) within seen (bare-expr e)) more rest
   of-stmt ms outer behind here means (get p dev q r) rises under within seen more rest =
       of-get ms (outer ++ behind) here means dev q r p (sited-bare ms outer behind (told.stmt_mentions (get p dev q r)) within seen (refl, bare-ref r)) more rest

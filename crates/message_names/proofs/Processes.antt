@@ -1,5 +1,5 @@
 -- What names mean in processes: their variables and routines reach in all of them.
-use Rattle.std.proofs.Common.{◌≡◌, Bool, true, false, not, List, [], ◌∷◌, ◌++◌, map, Option, Some, None, ◌⊎◌, inl, inr, refl, ap, sym, ◌∙◌, subst, append_assoc, append-nil}
+use Rattle.std.proofs.Common.{◌≡◌, false, List, [], ◌∷◌, ◌++◌, map, Option, Some, None, inl, inr, refl, ap, sym, ◌∙◌, subst, append_assoc, append-nil}
 use Rattle.std.specs.Prelude.{flat_map}
 use Rattle.std.specs.Option.{option_map_or}
 use Rattle.syntax_tree.specs.Placed.{Constant, Activation, periodic, at_event, Handler, Process}
@@ -12,14 +12,14 @@ use Rattle.message_names.specs.Mentions as told
 use Rattle.message_names.specs.Mentions.{Mention, last_place}
 use Rattle.message_names.specs.Reach.{before}
 use Rattle.message_names.proofs.Bodies.{UnderAll, under-append, under-left, under-right, of-stmts}
-use Rattle.message_names.proofs.Closing.{Each, Within}
+use Rattle.message_names.proofs.Closing.{Within}
 use Rattle.message_names.proofs.Order.{Ahead, Mem, Rising}
 use Rattle.message_names.proofs.Parts.{mem-left, mem-right, mem-place, part-mem, part-rises, part-flat, part-var, part-stmts, part-routine, part-handler, part-process}
 use Rattle.message_names.proofs.Routines.{Reached, var_declares, view-vars, ties-vars, begin-map, begin-append, begin-under, of-vars, of-optional, of-declarations, enclosed-vars, last-over, places-within, four-joined}
 use Rattle.message_names.proofs.Sections.{routine_declares, view-before, view-behind, ties-routines, enclosed-routines, of-routines}
-use Rattle.message_names.proofs.Spots.{places, map-append, stmts_spots, var_spots, routine_spots, handler_spots, process_spots}
-use Rattle.message_names.proofs.Uses.{Keeps, Sited, sited-left, sited-right, of-use, of-constant, bare-constant, Seen, sited-bare, last-not, enclosed-stmts}
-use Rattle.message_names.proofs.Views.{rises-left, rises-right, rises-apart, view, view-append, Bare, bare-append, bare-view, Enclosed, enclosed-append, enclosed-more, bare-enclosed, silent-before, silent-behind, begins, Under, Begin, Sees, Ties, ties-append, sees-within}
+use Rattle.message_names.proofs.Spots.{places, stmts_spots, var_spots, routine_spots, handler_spots, process_spots}
+use Rattle.message_names.proofs.Uses.{Keeps, Sited, sited-left, sited-right, of-use, of-constant, bare-constant, Seen, last-not, enclosed-stmts}
+use Rattle.message_names.proofs.Views.{rises-left, rises-right, rises-apart, view, view-append, Bare, bare-append, bare-view, Enclosed, enclosed-append, enclosed-more, bare-enclosed, silent-before, silent-behind, Under, Begin, Sees, ties-append, sees-within}
 
 -- ---- when it is released, and what it handles
 
@@ -42,10 +42,11 @@ of-activation ms reach here means (periodic frame deadline first) at more rest =
     (of-optional ms reach (rule.constant_names here) told.constant_mentions (of-constant ms reach here means) first (sited-right ms reach due start later) more rest))
 of-activation ms reach here means (at_event name place frame deadline) at more rest =
     let due : List Mention = option_map_or told.constant_mentions deadline [] in
-    let later : Sited ms reach (told.constant_mentions frame ++ due) = λ m is. at m (inr is) in
-    (λ h. of-use ms reach here.means means wanted_is.Event refl name place (at _ (inl refl)),
-    of-constant ms reach here means frame (sited-left ms reach (told.constant_mentions frame) due later) _
-    (of-optional ms reach (rule.constant_names here) told.constant_mentions (of-constant ms reach here means) deadline (sited-right ms reach (told.constant_mentions frame) due later) more rest))
+    let later : Sited ms reach (told.constant_mentions frame ++ due) = λ m is. at m (inr is) in (
+      λ h. of-use ms reach here.means means wanted_is.Event refl name place (at _ (inl refl)),
+      of-constant ms reach here means frame (sited-left ms reach (told.constant_mentions frame) due later) _
+          (of-optional ms reach (rule.constant_names here) told.constant_mentions (of-constant ms reach here means) deadline (sited-right ms reach (told.constant_mentions frame) due later) more rest),
+    )
 
 of-constants : (ms reach : List Mention) (here : Site) → Sees reach here.means → (cs : List (Constant Place)) → Sited ms reach (flat_map told.constant_mentions cs) → Keeps ms (rule.constants_names here cs)
 of-constants ms reach here means [] at more rest = rest
@@ -70,9 +71,12 @@ of-handler ms outer behind here means None rises under within seen more rest = r
 of-handler ms outer behind here means (Some h) rises under within seen more rest =
     let numbers : List Mention = flat_map told.constant_mentions h.numbers in
     let body : List Mention = told.stmts_mentions h.body in
-    of-constants ms (outer ++ behind) here means h.numbers (λ m is. (within m (mem-left m numbers body is), seen m.place (mem-place m (numbers ++ body) (mem-left m numbers body is))
-    ∙ ap (λ v. outer ++ (v ++ behind)) (view-append m.place numbers body ∙ ap (λ v. v ++ view m.place body) (bare-view m.place numbers (bare-constants h.numbers))
-    ∙ silent-before m.place (stmts_spots h.body) body (enclosed-stmts h.body) (λ y at. rises-apart (places numbers) (stmts_spots h.body) rises m.place y (mem-place m numbers is) at)))) _
+    of-constants ms (outer ++ behind) here means h.numbers (λ m is. (
+      within m (mem-left m numbers body is),
+      seen m.place (mem-place m (numbers ++ body) (mem-left m numbers body is))
+          ∙ ap (λ v. outer ++ (v ++ behind)) (view-append m.place numbers body ∙ ap (λ v. v ++ view m.place body) (bare-view m.place numbers (bare-constants h.numbers))
+          ∙ silent-before m.place (stmts_spots h.body) body (enclosed-stmts h.body) (λ y at. rises-apart (places numbers) (stmts_spots h.body) rises m.place y (mem-place m numbers is) at)),
+    )) _
     (of-stmts ms outer behind here means h.body (rises-right (places numbers) (stmts_spots h.body) rises) (λ q is. under q (mem-right q (places numbers) (stmts_spots h.body) is)) (λ m is. within m (mem-right m numbers body is))
     (λ q is. seen q (places-within body (numbers ++ body) (λ m at. mem-right m numbers body at) q is)
     ∙ ap (λ v. outer ++ (v ++ behind)) (view-append q numbers body ∙ ap (λ v. v ++ view q body) (bare-view q numbers (bare-constants h.numbers)))) more rest)
@@ -215,15 +219,17 @@ module _ (p : Process Place) (ms outer behind : List Mention) (here : Site) (mea
   front : (some : List Mention) → Within some (process_inner p) → ((q y : Place) → Mem q (places some) → Mem y (rs ++ (bs ++ hs)) → Ahead q y) → Sited ms (outer ++ (own_names ++ behind)) some
   front some part ahead m is =
       let at : Mem m.place (places some) = mem-place m some is in
-      let among : Mem m.place (places (process_inner p)) = mem-place m (process_inner p) (part m is) in
-      (within m (part m is), reaching m.place among ∙ ap (λ v. outer ++ ((own_vars p ++ v) ++ behind))
-      (ap (λ v. v ++ (view m.place (the_body p) ++ view m.place (the_handler p))) (view-before false (own_process p) m.place (in-process p rises m.place among) p.routines (λ y on. ahead m.place y at (mem-left y rs _ on)))
-      ∙ ap (λ v. own_routines p ++ (v ++ view m.place (the_handler p))) (silent-before m.place bs (the_body p) (enclosed-stmts p.body) (λ y on. ahead m.place y at (mem-right y rs _ (mem-left y bs hs on))))
-      ∙ ap (λ v. own_routines p ++ v) (silent-before m.place hs (the_handler p) (enclosed-handler p.handler) (λ y on. ahead m.place y at (mem-right y rs _ (mem-right y bs hs on))))
-      ∙ append-nil (own_routines p)))
+      let among : Mem m.place (places (process_inner p)) = mem-place m (process_inner p) (part m is) in (
+        within m (part m is),
+        reaching m.place among ∙ ap (λ v. outer ++ ((own_vars p ++ v) ++ behind))
+            (ap (λ v. v ++ (view m.place (the_body p) ++ view m.place (the_handler p))) (view-before false (own_process p) m.place (in-process p rises m.place among) p.routines (λ y on. ahead m.place y at (mem-left y rs _ on)))
+            ∙ ap (λ v. own_routines p ++ (v ++ view m.place (the_handler p))) (silent-before m.place bs (the_body p) (enclosed-stmts p.body) (λ y on. ahead m.place y at (mem-right y rs _ (mem-left y bs hs on))))
+            ∙ ap (λ v. own_routines p ++ v) (silent-before m.place hs (the_handler p) (enclosed-handler p.handler) (λ y on. ahead m.place y at (mem-right y rs _ (mem-right y bs hs on))))
+            ∙ append-nil (own_routines p)),
+      )
 
   longer : (y : Place) → Mem y (rs ++ (bs ++ hs)) → Mem y (rs ++ (bs ++ ends_with p))
-  longer y is = subst (Mem y) (ap (λ l. rs ++ l) (append_assoc bs hs (p.close_place ∷ [])) ) (subst (Mem y) (append_assoc rs (bs ++ hs) (p.close_place ∷ [])) (mem-left y (rs ++ (bs ++ hs)) (p.close_place ∷ []) is))
+  longer y is = subst (Mem y) (ap (λ l. rs ++ l) (append_assoc bs hs (p.close_place ∷ []))) (subst (Mem y) (append_assoc rs (bs ++ hs) (p.close_place ∷ [])) (mem-left y (rs ++ (bs ++ hs)) (p.close_place ∷ []) is))
 
   at-begin : Sited ms (outer ++ (own_names ++ behind)) (the_begin p)
   at-begin = front (the_begin p) in-begin (λ q y is on. rises-apart gs (vs ++ (rs ++ (bs ++ ends_with p))) rises.1 q y is (mem-right y vs _ (longer y on)))

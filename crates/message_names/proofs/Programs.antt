@@ -1,9 +1,9 @@
 -- What names mean in a program: its declarations reach everywhere, its constants behind their values.
-use Rattle.std.proofs.Common.{◌≡◌, ℕ, zero, suc, Bool, true, false, not, List, [], ◌∷◌, ◌++◌, map, Option, Some, None, option_map, ◌⊎◌, inl, inr, refl, ap, sym, ◌∙◌, subst, append_assoc, append-nil, arith}
-use Rattle.std.specs.Prelude.{◌&&◌, flat_map}
+use Rattle.std.proofs.Common.{◌≡◌, ℕ, zero, suc, false, not, List, [], ◌∷◌, ◌++◌, Option, Some, None, inl, inr, refl, ap, sym, ◌∙◌, subst, append_assoc, append-nil, arith}
+use Rattle.std.specs.Prelude.{flat_map}
 use Rattle.std.proofs.lemmas.Bool.{and_from, and_left, not_from_false}
 use Rattle.syntax_tree.specs.Plain.{Name}
-use Rattle.syntax_tree.specs.Placed.{Constant, literal_constant, named_constant, Routine, Monitor, Process, Decl, constant, device, event, routine, monitor, process, Prog}
+use Rattle.syntax_tree.specs.Placed.{Constant, Decl, constant, device, event, routine, monitor, process, Prog}
 use Rattle.syntax_tree.specs.declared.place.Place.{Place}
 use Rattle.syntax.specs.Lex.{TokensStandInOrder}
 use Rattle.static_names.specs.Reach as site
@@ -12,20 +12,20 @@ use Rattle.static_names.specs.Occurrences as rule
 use Rattle.message_names.specs.declared.role.Scope.{Scope}
 use Rattle.message_names.specs.declared.role.What.TheVariants as what_is
 use Rattle.message_names.specs.declared.sight.Sight.TheVariants as sight_is
-use Rattle.message_names.specs.Laws.{IsTold, TellsOfUses}
+use Rattle.message_names.specs.Laws.{TellsOfUses}
 use Rattle.message_names.specs.Mentions as told
 use Rattle.message_names.specs.Mentions.{Mention, before_all, value_place}
 use Rattle.message_names.specs.Reach.{before, innermost, sees, sight_behind}
 use Rattle.message_names.proofs.Bodies.{UnderAll, only}
 use Rattle.message_names.proofs.Closing.{Each, Within, each, rising}
 use Rattle.message_names.proofs.Order.{Ahead, Lower, Mem, Rising, ahead-from, ahead-to, not-ahead, not-itself}
-use Rattle.message_names.proofs.Parts.{mem-left, mem-right, mem-place, part-mem, part-rises, part-flat, part-value, part-decl, part-program, found-there}
+use Rattle.message_names.proofs.Parts.{mem-left, mem-right, part-mem, part-rises, part-flat, part-value, part-decl, part-program, found-there}
 use Rattle.message_names.proofs.Processes.{process_inner, enclosed-process, of-process}
 use Rattle.message_names.proofs.Routines.{Reached, own-seen, begin-append, begin-under, places-within, enclosed-routine, of-routine}
 use Rattle.message_names.proofs.Sections.{routine_declares, monitor_inner, enclosed-monitor, of-monitor}
 use Rattle.message_names.proofs.Spots.{places, decl_spots, spots}
 use Rattle.message_names.proofs.Uses.{Meant, Keeps, of-constant, bare-constant, Seen, sited-bare}
-use Rattle.message_names.proofs.Views.{mem-split, rises-left, rises-right, rises-apart, view, view-append, is-seen, not-seen, bare-view, Enclosed, bare-enclosed, silent-before, silent-behind, begins, pick, named, placed, stood, enters, Under, Begin, Sees, Ties, ties-append, ties-first}
+use Rattle.message_names.proofs.Views.{rises-left, rises-right, rises-apart, view, view-append, is-seen, not-seen, bare-view, Enclosed, bare-enclosed, silent-before, silent-behind, begins, named, placed, enters, Under, Begin, Sees, Ties, ties-append, ties-first}
 
 -- the program's scope, up to its closing name
 abbrev whole : Place → Scope
@@ -194,23 +194,25 @@ of-decls close ms outer members earlier (d ∷ ds) ties begin rises reached with
     let inner_part : (q : Place) → Mem q (places (inner d)) → Mem q dsp = λ q is. part-mem (places (told.decl_mentions (whole close) d)) dsp q (part-decl (whole close) d) (subst (λ l. Mem q (places l)) (sym (split close d)) (inr is)) in
     let names_part : (q : Place) → Mem q (places names) → Mem q osp = λ q is. part-mem (places names) osp q (part-flat (told.decl_mentions (whole close)) decl_spots (part-decl (whole close)) ds) is in
     let begin_all : Begin before_all (outer ++ (its ++ later)) = begin-append before_all outer (its ++ later) begin (begin-others close (d ∷ ds)) in
-    let mean : Sees (outer ++ (its ++ later)) here.means = sees-first before_all (outer ++ (its ++ later)) (earlier ++ rule.others (d ∷ ds)) (ties-append outer (its ++ later) earlier (rule.others (d ∷ ds)) ties (ties-others close (d ∷ ds))) begin_all in
-    (tt, of-inner ms (outer ++ its) later here (subst (λ l. Sees l here.means) (sym (append_assoc outer its later)) mean) d (rises-left dsp osp rises)
-    (λ q is. subst (Under q) (sym (append_assoc outer its later)) (begin-under before_all q (outer ++ (its ++ later)) begin_all (reached q (mem-left q dsp osp is)).0))
-    (λ m is. listed m (in_inner m is))
-    (λ q is. let on = inner_part q is in
-    looked q (places-within (inner d) all in_inner q is)
-    ∙ ap (λ v. outer ++ (v ++ [])) (view-in close d q (inner d ++ names) (reached q (mem-left q dsp osp on)) is
-    ∙ ap (λ v. its ++ v) (view-append q (inner d) names ∙ ap (λ v. view q (inner d) ++ v) (view-others close q (reached q (mem-left q dsp osp on)) ds (λ y at. rises-apart dsp osp rises q y on at))))
-    ∙ ap (λ v. outer ++ v) (append-nil (its ++ (view q (inner d) ++ later)))
-    ∙ sym (append_assoc outer its (view q (inner d) ++ later))) _
-    (of-decls close ms (outer ++ one ∷ []) members (earlier ++ rule.decl_name d ∷ []) ds (ties-append outer (one ∷ []) earlier (rule.decl_name d ∷ []) ties (ties-one close d))
-    (begin-append before_all outer (one ∷ []) begin (only one before_all (begin-declares close d))) (rises-right dsp osp rises) (λ q is. reached q (mem-right q dsp osp is)) (λ m is. listed m (in_names m is))
-    (λ q is. let on = names_part q is in
-    looked q (places-within names all in_names q is)
-    ∙ ap (λ v. outer ++ (v ++ [])) (view-past close d q (inner d ++ names) (reached q (mem-right q dsp osp on)) (λ y at. rises-apart dsp osp rises y q at on)
-    ∙ ap (λ l. one ∷ l) (view-append q (inner d) names ∙ ap (λ v. v ++ view q names) (silent-behind q dsp (inner d) (enclosed-decl d) (λ y at. rises-apart dsp osp rises y q at on))))
-    ∙ sym (append_assoc outer (one ∷ []) (view q names ++ []))) more rest))
+    let mean : Sees (outer ++ (its ++ later)) here.means = sees-first before_all (outer ++ (its ++ later)) (earlier ++ rule.others (d ∷ ds)) (ties-append outer (its ++ later) earlier (rule.others (d ∷ ds)) ties (ties-others close (d ∷ ds))) begin_all in (
+      tt,
+      of-inner ms (outer ++ its) later here (subst (λ l. Sees l here.means) (sym (append_assoc outer its later)) mean) d (rises-left dsp osp rises)
+          (λ q is. subst (Under q) (sym (append_assoc outer its later)) (begin-under before_all q (outer ++ (its ++ later)) begin_all (reached q (mem-left q dsp osp is)).0))
+          (λ m is. listed m (in_inner m is))
+          (λ q is. let on = inner_part q is in
+          looked q (places-within (inner d) all in_inner q is)
+          ∙ ap (λ v. outer ++ (v ++ [])) (view-in close d q (inner d ++ names) (reached q (mem-left q dsp osp on)) is
+          ∙ ap (λ v. its ++ v) (view-append q (inner d) names ∙ ap (λ v. view q (inner d) ++ v) (view-others close q (reached q (mem-left q dsp osp on)) ds (λ y at. rises-apart dsp osp rises q y on at))))
+          ∙ ap (λ v. outer ++ v) (append-nil (its ++ (view q (inner d) ++ later)))
+          ∙ sym (append_assoc outer its (view q (inner d) ++ later))) _
+          (of-decls close ms (outer ++ one ∷ []) members (earlier ++ rule.decl_name d ∷ []) ds (ties-append outer (one ∷ []) earlier (rule.decl_name d ∷ []) ties (ties-one close d))
+          (begin-append before_all outer (one ∷ []) begin (only one before_all (begin-declares close d))) (rises-right dsp osp rises) (λ q is. reached q (mem-right q dsp osp is)) (λ m is. listed m (in_names m is))
+          (λ q is. let on = names_part q is in
+          looked q (places-within names all in_names q is)
+          ∙ ap (λ v. outer ++ (v ++ [])) (view-past close d q (inner d ++ names) (reached q (mem-right q dsp osp on)) (λ y at. rises-apart dsp osp rises y q at on)
+          ∙ ap (λ l. one ∷ l) (view-append q (inner d) names ∙ ap (λ v. v ++ view q names) (silent-behind q dsp (inner d) (enclosed-decl d) (λ y at. rises-apart dsp osp rises y q at on))))
+          ∙ sym (append_assoc outer (one ∷ []) (view q names ++ []))) more rest),
+    )
 
 -- ---- the program
 
@@ -231,11 +233,13 @@ of-program g rises =
     let dsp : List Place = flat_map decl_spots g.decls in
     let reached : (q : Place) → Mem q dsp → Reached (whole g.close_place) q = λ q is.
     (above-all g.place q (rises.0 q (mem-left q dsp (g.close_place ∷ []) is)), not-ahead q g.close_place (rises-apart dsp (g.close_place ∷ []) rises.1 q g.close_place is (inl refl))) in
-    let on : (q : Place) → Mem q (places decls) → Mem q dsp = λ q is. part-mem (places decls) dsp q (part-flat (told.decl_mentions (whole g.close_place)) decl_spots (part-decl (whole g.close_place)) g.decls) is in
-    (tt, of-decls g.close_place (told.mentions g) (name ∷ []) (λ place. first (rule.entries_at g.decls place)) (rule.program_name g ∷ []) g.decls (refl, refl, tt) (only name before_all refl)
-    (rises-left dsp (g.close_place ∷ []) rises.1) reached (λ m is. inr (mem-left m decls end is))
-    (λ q is. is-seen name q (decls ++ end) (own-seen what_is.Program (whole g.close_place) g.name g.place q (reached q (on q is)))
-    ∙ ap (λ l. name ∷ l) (view-append q decls end ∙ ap (λ v. view q decls ++ v) (bare-view q end (refl, tt)))) _ (tt, tt))
+    let on : (q : Place) → Mem q (places decls) → Mem q dsp = λ q is. part-mem (places decls) dsp q (part-flat (told.decl_mentions (whole g.close_place)) decl_spots (part-decl (whole g.close_place)) g.decls) is in (
+      tt,
+      of-decls g.close_place (told.mentions g) (name ∷ []) (λ place. first (rule.entries_at g.decls place)) (rule.program_name g ∷ []) g.decls (refl, refl, tt) (only name before_all refl)
+          (rises-left dsp (g.close_place ∷ []) rises.1) reached (λ m is. inr (mem-left m decls end is))
+          (λ q is. is-seen name q (decls ++ end) (own-seen what_is.Program (whole g.close_place) g.name g.place q (reached q (on q is)))
+          ∙ ap (λ l. name ∷ l) (view-append q decls end ∙ ap (λ v. view q decls ++ v) (bare-view q end (refl, tt)))) _ (tt, tt),
+    )
 
 pub tells-of-uses : TokensStandInOrder → TellsOfUses
 tells-of-uses order g read name place want means at alone =

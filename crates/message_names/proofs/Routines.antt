@@ -1,6 +1,6 @@
 -- What names mean in routines: their parameters and variables reach in all of them.
-use Rattle.std.proofs.Common.{◌≡◌, Bool, true, false, not, List, [], ◌∷◌, ◌++◌, map, Option, Some, None, ◌⊎◌, inl, inr, refl, ap, sym, ◌∙◌, subst, append_assoc, append-nil}
-use Rattle.std.specs.Prelude.{◌&&◌, flat_map}
+use Rattle.std.proofs.Common.{◌≡◌, true, false, not, List, [], ◌∷◌, ◌++◌, map, Option, Some, None, ◌⊎◌, inl, inr, refl, ap, sym, ◌∙◌, subst, append_assoc, append-nil}
+use Rattle.std.specs.Prelude.{flat_map}
 use Rattle.std.specs.Option.{option_map_or}
 use Rattle.std.proofs.lemmas.Bool.{and_from, not_from_false}
 use Rattle.syntax_tree.specs.Plain.{Name}
@@ -10,7 +10,6 @@ use Rattle.static_names.specs.Reach as site
 use Rattle.static_names.specs.Reach.{Names, Site, inside}
 use Rattle.static_names.specs.Occurrences as rule
 use Rattle.static_names.specs.Occurrences.{Occurrence}
-use Rattle.message_names.specs.declared.role.Reach.{Reach}
 use Rattle.message_names.specs.declared.role.Scope.{Scope}
 use Rattle.message_names.specs.declared.role.What.{What}
 use Rattle.message_names.specs.declared.role.What.TheVariants as what_is
@@ -19,11 +18,11 @@ use Rattle.message_names.specs.Mentions as told
 use Rattle.message_names.specs.Mentions.{Mention, last_place}
 use Rattle.message_names.specs.Reach.{before, sees}
 use Rattle.message_names.proofs.Bodies.{UnderAll, under-append, under-left, under-right, of-stmts}
-use Rattle.message_names.proofs.Closing.{Each, Within}
-use Rattle.message_names.proofs.Order.{Ahead, Mem, Rising, not-ahead, not-itself}
-use Rattle.message_names.proofs.Parts.{mem-left, mem-right, mem-place, part-mem, part-rises, part-flat, part-var, part-param, part-stmts, part-routine}
-use Rattle.message_names.proofs.Spots.{places, map-append, stmts_spots, var_spots, param_spots, optional_places, routine_spots}
-use Rattle.message_names.proofs.Uses.{Meant, Keeps, Sited, sited-left, sited-right, of-scalar, of-kind, of-expr, bare-scalar, bare-kind, bare-expr, Seen, seen-left, seen-right, from_of, end_of, last-not, enclosed-stmts}
+use Rattle.message_names.proofs.Closing.{Within}
+use Rattle.message_names.proofs.Order.{Ahead, Mem, Rising}
+use Rattle.message_names.proofs.Parts.{mem-left, mem-right, mem-place, part-mem, part-rises, part-flat, part-var, part-param, part-routine}
+use Rattle.message_names.proofs.Spots.{places, stmts_spots, var_spots, param_spots, optional_places, routine_spots}
+use Rattle.message_names.proofs.Uses.{Keeps, Sited, of-scalar, of-kind, of-expr, bare-scalar, bare-kind, bare-expr, Seen, from_of, end_of, last-not, enclosed-stmts}
 use Rattle.message_names.proofs.Views.{mem-split, rises-left, rises-right, rises-apart, view, view-append, is-seen, Bare, bare-append, bare-view, Enclosed, enclosed-append, enclosed-more, bare-enclosed, silent-before, silent-behind, begins, Under, Begin, Sees, Ties, ties-append, sees-within}
 
 -- ---- scopes
@@ -112,15 +111,17 @@ bare-value (Some e) = bare-expr e
 -- what a scope of these places declares
 pub enclosed-vars : (ps : List Place) (own : Scope) → Mem own.begin ps → Mem own.end ps → (vs : List (Var Place)) → Enclosed ps (flat_map (told.var_mentions own) vs)
 enclosed-vars ps own begin end [] = tt
-enclosed-vars ps own begin end (v ∷ vs) =
-    (λ r e. (subst (λ o. Mem (from_of o) ps) e begin, subst (λ o. Mem (end_of o) ps) e end),
-    enclosed-append ps (told.kind_mentions v.kind) _ (bare-enclosed ps (told.kind_mentions v.kind) (bare-kind v.kind)) (enclosed-vars ps own begin end vs))
+enclosed-vars ps own begin end (v ∷ vs) = (
+  λ r e. (subst (λ o. Mem (from_of o) ps) e begin, subst (λ o. Mem (end_of o) ps) e end),
+  enclosed-append ps (told.kind_mentions v.kind) _ (bare-enclosed ps (told.kind_mentions v.kind) (bare-kind v.kind)) (enclosed-vars ps own begin end vs),
+)
 
 enclosed-params : (ps : List Place) (own : Scope) → Mem own.begin ps → Mem own.end ps → (vs : List (Param Place)) → Enclosed ps (flat_map (told.param_mentions own) vs)
 enclosed-params ps own begin end [] = tt
-enclosed-params ps own begin end (v ∷ vs) =
-    (λ r e. (subst (λ o. Mem (from_of o) ps) e begin, subst (λ o. Mem (end_of o) ps) e end),
-    enclosed-append ps (told.scalar_mentions v.kind) _ (bare-enclosed ps (told.scalar_mentions v.kind) (bare-scalar v.kind)) (enclosed-params ps own begin end vs))
+enclosed-params ps own begin end (v ∷ vs) = (
+  λ r e. (subst (λ o. Mem (from_of o) ps) e begin, subst (λ o. Mem (end_of o) ps) e end),
+  enclosed-append ps (told.scalar_mentions v.kind) _ (bare-enclosed ps (told.scalar_mentions v.kind) (bare-scalar v.kind)) (enclosed-params ps own begin end vs),
+)
 
 -- the last place of two lists is that of the other
 pub last-over : (p : Place) (ms ns : List Mention) (c : Place) → ((q : Place) → last_place q ns ≡ c) → last_place p (ms ++ ns) ≡ c
@@ -239,10 +240,12 @@ module _ (r : Routine Place) (ms outer behind : List Mention) (here : Site) (mea
   -- where its statements declare nothing that reaches
   elsewhere : (some : List Mention) → Within some (told.routine_inner r) → ((q : Place) → Mem q (places some) → view q (the_body r) ≡ []) → Sited ms reach some
   elsewhere some part silent m is =
-      let among : Mem m.place (places (told.routine_inner r)) = mem-place m (told.routine_inner r) (part m is) in
-      (within m (part m is), seen m.place among
-      ∙ ap (λ v. outer ++ (v ++ behind)) (view-inner r m.place (in-scope r rises m.place among) ∙ ap (λ v. own_params r ++ (own_vars r ++ v)) (silent m.place (mem-place m some is)) ∙ ap (λ v. own_params r ++ v) (append-nil (own_vars r)))
-      ∙ sym (append_assoc outer (own_names r) behind))
+      let among : Mem m.place (places (told.routine_inner r)) = mem-place m (told.routine_inner r) (part m is) in (
+        within m (part m is),
+        seen m.place among
+            ∙ ap (λ v. outer ++ (v ++ behind)) (view-inner r m.place (in-scope r rises m.place among) ∙ ap (λ v. own_params r ++ (own_vars r ++ v)) (silent m.place (mem-place m some is)) ∙ ap (λ v. own_params r ++ v) (append-nil (own_vars r)))
+            ∙ sym (append_assoc outer (own_names r) behind),
+      )
 
   in-params : Within (the_params r) (told.routine_inner r)
   in-params m is = mem-left m (the_params r) _ is

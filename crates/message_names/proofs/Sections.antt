@@ -1,29 +1,24 @@
 -- What names mean in monitors, and in routines one after another.
-use Rattle.std.proofs.Common.{◌≡◌, Bool, true, false, not, List, [], ◌∷◌, ◌++◌, map, Option, Some, None, ◌⊎◌, inl, inr, refl, ap, sym, ◌∙◌, subst, append_assoc, append-nil}
+use Rattle.std.proofs.Common.{◌≡◌, Bool, true, false, List, [], ◌∷◌, ◌++◌, map, inl, inr, refl, ap, sym, ◌∙◌, subst, append_assoc, append-nil}
 use Rattle.std.specs.Prelude.{flat_map}
-use Rattle.std.specs.Option.{option_map_or}
-use Rattle.syntax_tree.specs.Plain.{Name}
-use Rattle.syntax_tree.specs.Placed.{Constant, Var, Routine, Member, variable_member, condition_member, Monitor, Activation, periodic, at_event, Handler, Process}
+use Rattle.syntax_tree.specs.Placed.{Routine, Member, variable_member, condition_member, Monitor}
 use Rattle.syntax_tree.specs.declared.place.Place.{Place}
-use Rattle.static_names.specs.Reach as site
-use Rattle.static_names.specs.Reach.{Names, Site, inside, inside_monitor}
+use Rattle.static_names.specs.Reach.{Site, inside_monitor}
 use Rattle.static_names.specs.Occurrences as rule
 use Rattle.static_names.specs.Occurrences.{Occurrence}
-use Rattle.message_names.specs.declared.role.Reach.{Reach}
 use Rattle.message_names.specs.declared.role.Scope.{Scope}
-use Rattle.message_names.specs.declared.role.Wanted.TheVariants as wanted_is
 use Rattle.message_names.specs.declared.role.What.TheVariants as what_is
 use Rattle.message_names.specs.Mentions as told
 use Rattle.message_names.specs.Mentions.{Mention, last_place}
 use Rattle.message_names.specs.Reach.{before}
-use Rattle.message_names.proofs.Bodies.{UnderAll, under-append, under-left, under-right, of-stmts}
-use Rattle.message_names.proofs.Closing.{Each, Within}
+use Rattle.message_names.proofs.Bodies.{UnderAll, under-append, under-left, under-right}
+use Rattle.message_names.proofs.Closing.{Within}
 use Rattle.message_names.proofs.Order.{Ahead, Mem, Rising}
-use Rattle.message_names.proofs.Parts.{mem-left, mem-right, mem-place, part-mem, part-rises, part-flat, part-var, part-member, part-stmts, part-routine, part-handler, part-monitor, part-process}
-use Rattle.message_names.proofs.Routines.{Reached, own-seen, var_declares, view-vars, ties-vars, begin-map, begin-append, begin-under, of-vars, of-optional, of-declarations, enclosed-vars, last-over, places-within, enclosed-routine, four-joined, of-routine}
-use Rattle.message_names.proofs.Spots.{places, map-append, stmts_spots, var_spots, member_spots, routine_spots, monitor_spots, handler_spots, process_spots}
-use Rattle.message_names.proofs.Uses.{Meant, Keeps, Sited, sited-left, sited-right, of-use, of-constant, of-kind, bare-constant, bare-kind, Seen, seen-left, seen-right, sited-bare, from_of, end_of, last-not, enclosed-stmts}
-use Rattle.message_names.proofs.Views.{mem-split, rises-left, rises-right, rises-apart, view, view-append, is-seen, Bare, bare-append, bare-view, Enclosed, enclosed-append, enclosed-more, bare-enclosed, silent-before, silent-behind, begins, Under, Begin, Sees, Ties, ties-append, sees-within}
+use Rattle.message_names.proofs.Parts.{mem-left, mem-right, mem-place, part-mem, part-rises, part-flat, part-member, part-routine, part-monitor}
+use Rattle.message_names.proofs.Routines.{Reached, own-seen, var_declares, begin-map, begin-append, begin-under, of-declarations, last-over, places-within, enclosed-routine, of-routine}
+use Rattle.message_names.proofs.Spots.{places, member_spots, routine_spots, monitor_spots}
+use Rattle.message_names.proofs.Uses.{Keeps, Sited, of-kind, bare-kind, Seen, from_of, end_of, last-not}
+use Rattle.message_names.proofs.Views.{rises-left, rises-right, rises-apart, view, view-append, is-seen, bare-view, Enclosed, enclosed-append, enclosed-more, bare-enclosed, silent-before, silent-behind, begins, Under, Begin, Sees, Ties, ties-append, sees-within}
 
 -- ---- routines one after another
 
@@ -63,10 +58,11 @@ ties-entries own (r ∷ rs) = (refl, refl, ties-entries own rs)
 pub enclosed-routines : (ps : List Place) (is_entry : Bool) (own : Scope) → Mem own.begin ps → Mem own.end ps → (rs : List (Routine Place)) → ((y : Place) → Mem y (flat_map routine_spots rs) → Mem y ps)
     → Enclosed ps (flat_map (told.routine_mentions is_entry own) rs)
 enclosed-routines ps is_entry own begin end [] more = tt
-enclosed-routines ps is_entry own begin end (r ∷ rs) more =
-    (λ x e. (subst (λ o. Mem (from_of o) ps) e begin, subst (λ o. Mem (end_of o) ps) e end),
-    enclosed-append ps (told.routine_inner r) _ (enclosed-more (routine_spots r) ps (told.routine_inner r) (λ y on. more y (mem-left y (routine_spots r) (flat_map routine_spots rs) on)) (enclosed-routine r))
-    (enclosed-routines ps is_entry own begin end rs (λ y on. more y (mem-right y (routine_spots r) (flat_map routine_spots rs) on))))
+enclosed-routines ps is_entry own begin end (r ∷ rs) more = (
+  λ x e. (subst (λ o. Mem (from_of o) ps) e begin, subst (λ o. Mem (end_of o) ps) e end),
+  enclosed-append ps (told.routine_inner r) _ (enclosed-more (routine_spots r) ps (told.routine_inner r) (λ y on. more y (mem-left y (routine_spots r) (flat_map routine_spots rs) on)) (enclosed-routine r))
+      (enclosed-routines ps is_entry own begin end rs (λ y on. more y (mem-right y (routine_spots r) (flat_map routine_spots rs) on))),
+)
 
 pub of-routines : (is_entry : Bool) (own : Scope) (ms outer behind : List Mention) (here : Site) (rs : List (Routine Place)) → Sees (outer ++ (map (routine_declares is_entry own) rs ++ behind)) here.means
     → Rising (flat_map routine_spots rs) → UnderAll (outer ++ (map (routine_declares is_entry own) rs ++ behind)) (flat_map routine_spots rs)
@@ -139,9 +135,10 @@ of-members ms reach own here means (condition_member name place ∷ xs) at more 
 
 enclosed-members : (ps : List Place) (own : Scope) → Mem own.begin ps → Mem own.end ps → (xs : List (Member Place)) → Enclosed ps (flat_map (told.member_mentions own) xs)
 enclosed-members ps own begin end [] = tt
-enclosed-members ps own begin end (variable_member v ∷ xs) =
-    (λ r e. (subst (λ o. Mem (from_of o) ps) e begin, subst (λ o. Mem (end_of o) ps) e end),
-    enclosed-append ps (told.kind_mentions v.kind) _ (bare-enclosed ps (told.kind_mentions v.kind) (bare-kind v.kind)) (enclosed-members ps own begin end xs))
+enclosed-members ps own begin end (variable_member v ∷ xs) = (
+  λ r e. (subst (λ o. Mem (from_of o) ps) e begin, subst (λ o. Mem (end_of o) ps) e end),
+  enclosed-append ps (told.kind_mentions v.kind) _ (bare-enclosed ps (told.kind_mentions v.kind) (bare-kind v.kind)) (enclosed-members ps own begin end xs),
+)
 enclosed-members ps own begin end (condition_member name place ∷ xs) =
     (λ r e. (subst (λ o. Mem (from_of o) ps) e begin, subst (λ o. Mem (end_of o) ps) e end), enclosed-members ps own begin end xs)
 
@@ -215,10 +212,12 @@ module _ (m : Monitor Place) (ms outer behind : List Mention) (here : Site) (mea
 
   at-members : Sited ms (outer ++ ((own_members m ++ own_entries m) ++ behind)) (the_members m)
   at-members x is =
-      let among : Mem x.place (places (monitor_inner m)) = mem-place x (monitor_inner m) (in-members x is) in
-      (within x (in-members x is), seen x.place among ∙ ap (λ v. outer ++ (v ++ behind)) (view-monitor m x.place (in-monitor m rises x.place among)
-      ∙ ap (λ v. own_members m ++ v) (view-before true (own_monitor m) x.place (in-monitor m rises x.place among) m.entries (λ y at. rises-apart mps (eps ++ m.close_place ∷ []) rises.1 x.place y
-      (part-mem (places (the_members m)) mps x.place (part-flat (told.member_mentions (own_monitor m)) member_spots (part-member (own_monitor m)) m.members) (mem-place x (the_members m) is)) (mem-left y eps _ at)))))
+      let among : Mem x.place (places (monitor_inner m)) = mem-place x (monitor_inner m) (in-members x is) in (
+        within x (in-members x is),
+        seen x.place among ∙ ap (λ v. outer ++ (v ++ behind)) (view-monitor m x.place (in-monitor m rises x.place among)
+            ∙ ap (λ v. own_members m ++ v) (view-before true (own_monitor m) x.place (in-monitor m rises x.place among) m.entries (λ y at. rises-apart mps (eps ++ m.close_place ∷ []) rises.1 x.place y
+            (part-mem (places (the_members m)) mps x.place (part-flat (told.member_mentions (own_monitor m)) member_spots (part-member (own_monitor m)) m.members) (mem-place x (the_members m) is)) (mem-left y eps _ at)))),
+      )
 
   pub of-monitor : Keeps ms (rule.monitor_names here m)
   of-monitor more rest =

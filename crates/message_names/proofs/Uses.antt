@@ -1,12 +1,9 @@
 -- What names mean in expressions and statements: as the scopes of the rules say.
-use Rattle.std.proofs.Common.{◌≡◌, ℕ, Bool, true, false, cond, not, List, [], ◌∷◌, ◌++◌, Option, Some, None, ◌⊎◌, inl, inr, refl, ap, sym, ◌∙◌, subst, append_assoc, append-nil, true≢false}
-use Rattle.std.specs.Prelude.{◌&&◌}
-use Rattle.std.proofs.lemmas.Bool.{and_from, and_left, not_from_false}
+use Rattle.std.proofs.Common.{◌≡◌, true, false, List, [], ◌∷◌, ◌++◌, Option, Some, None, inl, inr, refl, ap, sym, ◌∙◌, subst, append-nil, true≢false}
 use Rattle.syntax_tree.specs.Plain.{Name}
 use Rattle.syntax_tree.specs.Placed.{Constant, literal_constant, named_constant, Scalar, int, boolean, subrange, Kind, scalar, array, Expr, literal, truth, variable, element, call, minus, negation, paren, row, Exprs, no_exprs, exprs, Operands, no_operands, operand, Ref, whole, part, Stmt, assign, assign_entry, assign_empty, perform, perform_entry, when, when_else, loop, exit_when, get, put, wait, signal, broadcast, except, assert, Stmts, no_stmts, stmts}
 use Rattle.syntax_tree.specs.declared.place.Place.{Place}
 use Rattle.static_names.specs.declared.kind.Declared.{Declared}
-use Rattle.static_names.specs.declared.kind.NameUse.{NameUse}
 use Rattle.static_names.specs.declared.kind.NameUse.TheVariants as want_is
 use Rattle.static_names.specs.Reach as site
 use Rattle.static_names.specs.Reach.{Site, inside}
@@ -21,12 +18,12 @@ use Rattle.message_names.specs.declared.sight.Sight.TheVariants as sight_is
 use Rattle.message_names.specs.Laws.{stands_alone}
 use Rattle.message_names.specs.Mentions as told
 use Rattle.message_names.specs.Mentions.{Mention, last_place, value_place}
-use Rattle.message_names.specs.Reach.{before, declared, innermost, monitor_before, sees}
-use Rattle.message_names.proofs.Closing.{Each, Within, within-left, within-right}
+use Rattle.message_names.specs.Reach.{before, innermost, monitor_before}
+use Rattle.message_names.proofs.Closing.{Each, Within}
 use Rattle.message_names.proofs.Order.{Ahead, Mem, Rising, not-ahead, not-itself}
-use Rattle.message_names.proofs.Parts.{mem-left, mem-right, mem-place, part-mem, part-rises, part-stmt, part-stmts}
+use Rattle.message_names.proofs.Parts.{mem-left, mem-right, mem-place, part-mem, part-stmt}
 use Rattle.message_names.proofs.Spots.{places, map-append, stmt_spots, stmts_spots}
-use Rattle.message_names.proofs.Views.{mem-split, rises-left, rises-right, rises-apart, view, view-append, unseen, not-seen, is-seen, Bare, bare-append, bare-view, Enclosed, enclosed-append, enclosed-more, bare-enclosed, silent-before, silent-behind, begins, pick, innermost-picked, Under, placed, stood, Sees, sees-within}
+use Rattle.message_names.proofs.Views.{view, view-append, Bare, bare-append, bare-view, Enclosed, enclosed-append, enclosed-more, bare-enclosed, pick, innermost-picked, placed, stood, Sees}
 
 -- among the names that are told stands the use, and of these is meant what the rules say
 pub record IsMeant (ms : List Mention) (name : Name) (place : Place) (means : Option Declared) : Type 0 where
@@ -257,10 +254,11 @@ mutual
   enclosed-stmt (loop p name q low high a) =
       let all : List Place = stmt_spots (loop p name q low high a) in
       let at_value : Mem (value_place high) all = inr (mem-right (value_place high) (places (told.constant_mentions low)) (value_place high ∷ stmts_spots a) (inl refl)) in
-      let at_end : Mem (last_place q (inner low high a)) all = part-mem (places (told.stmt_mentions (loop p name q low high a))) all (last_place q (inner low high a)) (part-stmt (loop p name q low high a)) (last-mem q (inner low high a)) in
-      (λ r e. (subst (λ o. Mem (from_of o) all) e at_value, subst (λ o. Mem (end_of o) all) e at_end),
-      enclosed-append all (told.bounds_mentions low high) (told.stmts_mentions a) (bare-enclosed all (told.bounds_mentions low high) (bare-bounds low high))
-      (enclosed-more (stmts_spots a) all (told.stmts_mentions a) (λ x is. inr (mem-right x (places (told.constant_mentions low)) (value_place high ∷ stmts_spots a) (inr is))) (enclosed-stmts a)))
+      let at_end : Mem (last_place q (inner low high a)) all = part-mem (places (told.stmt_mentions (loop p name q low high a))) all (last_place q (inner low high a)) (part-stmt (loop p name q low high a)) (last-mem q (inner low high a)) in (
+        λ r e. (subst (λ o. Mem (from_of o) all) e at_value, subst (λ o. Mem (end_of o) all) e at_end),
+        enclosed-append all (told.bounds_mentions low high) (told.stmts_mentions a) (bare-enclosed all (told.bounds_mentions low high) (bare-bounds low high))
+            (enclosed-more (stmts_spots a) all (told.stmts_mentions a) (λ x is. inr (mem-right x (places (told.constant_mentions low)) (value_place high ∷ stmts_spots a) (inr is))) (enclosed-stmts a)),
+      )
   enclosed-stmt (exit_when p e) = bare-enclosed (stmt_spots (exit_when p e)) (told.stmt_mentions (exit_when p e)) (bare-expr e)
   enclosed-stmt (get p dev q r) = bare-enclosed (stmt_spots (get p dev q r)) (told.stmt_mentions (get p dev q r)) (refl, bare-ref r)
   enclosed-stmt (put p dev q e) = bare-enclosed (stmt_spots (put p dev q e)) (told.stmt_mentions (put p dev q e)) (refl, bare-expr e)

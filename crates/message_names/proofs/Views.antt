@@ -1,5 +1,5 @@
 -- What of the names that are told reaches a place, and which of that is meant.
-use Rattle.std.proofs.Common.{◌≡◌, ℕ, Bool, true, false, cond, not, List, [], ◌∷◌, ◌++◌, Option, Some, None, is_some, option_map, ◌⊎◌, inl, inr, refl, ap, sym, ◌∙◌, subst, append_assoc, true≢false}
+use Rattle.std.proofs.Common.{◌≡◌, Bool, true, false, cond, not, List, [], ◌∷◌, ◌++◌, Option, Some, None, is_some, option_map, ◌⊎◌, inl, inr, refl, ap, sym, ◌∙◌, subst, true≢false}
 use Rattle.std.specs.Prelude.{◌&&◌, filter, fold, find, bytes_eq, if◌then◌else◌}
 use Rattle.std.specs.Option.{option_map_or}
 use Rattle.std.proofs.lemmas.Bool.{and_left, and_right, not_from_true}
@@ -240,7 +240,7 @@ pub ties-first : (n : Name) (ms : List Mention) (ds : Names) → Ties ms ds → 
 ties-first n [] [] g = refl
 ties-first n [] (d ∷ ds) g = absurd g
 ties-first n (m ∷ ms) [] g = absurd g
-ties-first n (m ∷ ms) (d ∷ ds) g = 
+ties-first n (m ∷ ms) (d ∷ ds) g =
     ap (λ b. placed (cond b (Some m) (named n ms))) (ap (λ k. bytes_eq k n) g.0 ∙ nat_list_eq_equiv.symm d.0 n)
     ∙ by (rule.same n d.0) (ties-first n ms ds g.2)
   where
