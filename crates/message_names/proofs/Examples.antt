@@ -184,7 +184,7 @@ pub crossed_found : option_map (λ m. m.place) (meaning (mentions crossed) (uses
 crossed_found = refl
 
 pub crossed_nowhere : Contains (names crossed) (used (codes "x") (at 6 3) want_is.Entry None)
-crossed_nowhere = (3, omega arith, refl)
+crossed_nowhere = (4, omega arith, refl)
 
 pub crossed_wrong : Contains (names crossed) (used (codes "p") (at 6 1) want_is.Monitor (Some (record { place = at 3 9; kind = kind_is.Process })))
-crossed_wrong = (2, omega arith, refl)
+crossed_wrong = (3, omega arith, refl)
