@@ -1,5 +1,5 @@
 -- What names mean in statements: a loop's variable reaches in its statements alone.
-use Rattle.std.proofs.Common.{◌≡◌, false, not, List, [], ◌∷◌, ◌++◌, ◌⊎◌, inl, inr, refl, ap, sym, ◌∙◌, subst, append_assoc}
+use Rattle.std.proofs.Common.{◌≡◌, false, not, List, [], ◌∷◌, ◌++◌, is_some, ◌⊎◌, inl, inr, refl, ap, sym, ◌∙◌, subst, append_assoc}
 use Rattle.std.proofs.lemmas.Bool.{and_from, and_left, not_from_false}
 use Rattle.syntax_tree.specs.Plain.{Name}
 use Rattle.syntax_tree.specs.Placed.{Constant, Stmt, assign, assign_entry, assign_empty, perform, perform_entry, when, when_else, loop, exit_when, get, put, wait, signal, broadcast, except, assert, Stmts, no_stmts, stmts}
@@ -12,6 +12,7 @@ use Rattle.message_names.specs.Mentions.{Mention, last_place, value_place}
 use Rattle.message_names.specs.Reach.{before}
 use Rattle.message_names.proofs.Closing.{Within}
 use Rattle.message_names.proofs.Order.{Ahead, Mem, Rising, not-ahead, not-itself}
+use Rattle.message_names.proofs.Others.{counted, some-seen, taken-as}
 use Rattle.message_names.proofs.Parts.{mem-left, mem-right, mem-place, part-mem, part-rises, part-value, part-stmt, part-stmts}
 use Rattle.message_names.proofs.Spots.{places, map-append, stmt_spots, stmts_spots}
 use Rattle.message_names.proofs.Uses.{Keeps, of-constant, of-bounds, of-expr, of-get, of-put, of-condition, of-wait, of-assign, of-assign-entry, of-assign-empty, of-perform, of-perform-entry, bare-constant, bare-bounds, bare-expr, bare-exprs, bare-ref, Seen, seen-left, seen-right, sited-bare, last-not, inner, counter, enclosed-stmt, enclosed-stmts}
@@ -67,6 +68,14 @@ module _ (name : Name) (q : Place) (low high : Constant Place) (a : Stmts Place)
       ∙ view-append x (told.bounds_mentions low high) (told.stmts_mentions a)
       ∙ ap (λ v. v ++ view x (told.stmts_mentions a)) (bare-view x (told.bounds_mentions low high) (bare-bounds low high))
       ∙ silent-before x (stmts_spots a) (told.stmts_mentions a) (enclosed-stmts a) (bounds-first x is).1
+
+  -- nor its variable
+  pub variable-view : view q (counter name q low high a ∷ inner low high a) ≡ []
+  variable-view =
+      not-seen (counter name q low high a) q (inner low high a) (and_left (before limit q) (not (before (last_place q (inner low high a)) q)) (not-ahead q limit (rises.0 limit (mem-right limit lows (limit ∷ stmts_spots a) (inl refl)))))
+      ∙ view-append q (told.bounds_mentions low high) (told.stmts_mentions a)
+      ∙ ap (λ v. v ++ view q (told.stmts_mentions a)) (bare-view q (told.bounds_mentions low high) (bare-bounds low high))
+      ∙ silent-before q (stmts_spots a) (told.stmts_mentions a) (enclosed-stmts a) (λ y at. rises.0 y (mem-right y lows (limit ∷ stmts_spots a) (inr at)))
 
   pub limit-first : (y : Place) → Mem y (stmts_spots a) → Ahead limit y
   limit-first y at = (rises-right lows (limit ∷ stmts_spots a) rises.1).0 y at
@@ -134,7 +143,9 @@ mutual
       let at_limit : Under limit (outer ++ behind) = under limit (inr (mem-right limit lows (limit ∷ stmts_spots a) (inl refl))) in
       let mean : Sees (outer ++ (i ∷ behind)) (inside (rule.loop_name name q ∷ []) here).means =
       sees-within limit outer (i ∷ []) behind (rule.loop_name name q ∷ []) here.means (under-left limit outer behind at_limit) (under-right limit outer behind at_limit) (only i limit refl) (refl, refl, tt) means in (
-        tt,
+        taken-as ms i name q _ refl refl (within i (inl refl)) (_, refl)
+        (ap is_some (counted ms outer [] [] behind limit q name (seen q (inl refl) ∙ ap (λ v. outer ++ (v ++ behind)) (variable-view name q low high a p rises))
+        (under-left limit outer behind at_limit) (under-right limit outer behind at_limit) (λ m is. absurd is) (λ m is. absurd is) (λ m is. absurd is)) ∙ some-seen (outer ++ behind) here.means means name),
         of-bounds ms (outer ++ behind) here means low high (λ m is. (
           within m (inr (mem-left m bounds body is)),
           seen m.place (inr (subst (Mem m.place) (map-append bounds body) (mem-left m.place (places bounds) (places body) (mem-place m bounds is)))) ∙ ap (λ v. outer ++ (v ++ behind)) (bounds-view name q low high a p rises m.place (mem-place m bounds is)),

@@ -5,6 +5,7 @@ pub mod Examples
 pub mod Joined
 pub mod Loops
 pub mod Order
+pub mod Others
 pub mod Parts
 pub mod Processes
 pub mod Programs

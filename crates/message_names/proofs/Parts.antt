@@ -44,9 +44,15 @@ pub part-all : (ps : List Place) → Part ps ps
 part-all [] = tt
 part-all (p ∷ ps) = inl (refl, part-all ps)
 
-part-behind : (ps qs rs : List Place) → Part qs rs → Part qs (ps ++ rs)
+pub part-behind : (ps qs rs : List Place) → Part qs rs → Part qs (ps ++ rs)
 part-behind [] qs rs h = h
 part-behind (p ∷ ps) qs rs h = part-skip qs p (ps ++ rs) (part-behind ps qs rs h)
+
+pub part-front : (qs ps rs : List Place) → Part qs ps → Part qs (ps ++ rs)
+part-front [] ps rs h = tt
+part-front (q ∷ qs) [] rs h = absurd h
+part-front (q ∷ qs) (p ∷ ps) rs (inl h) = inl (h.0, part-front qs ps rs h.1)
+part-front (q ∷ qs) (p ∷ ps) rs (inr h) = inr (part-front (q ∷ qs) ps rs h)
 
 part-both : (qs ps rs ss : List Place) → Part qs ps → Part rs ss → Part (qs ++ rs) (ps ++ ss)
 part-both [] ps rs ss g h = part-behind ps rs ss h
@@ -67,7 +73,7 @@ part-rises (q ∷ qs) [] h r = absurd h
 part-rises (q ∷ qs) (p ∷ ps) (inl h) r = (λ x m. subst (λ y. Ahead y x) h.0 (r.0 x (part-mem qs ps x h.1 m)), part-rises qs ps h.1 r.1)
 part-rises (q ∷ qs) (p ∷ ps) (inr h) r = part-rises (q ∷ qs) ps h r.1
 
-part-joined : (ms ns : List Mention) (ps qs : List Place) → Part (places ms) ps → Part (places ns) qs → Part (places (ms ++ ns)) (ps ++ qs)
+pub part-joined : (ms ns : List Mention) (ps qs : List Place) → Part (places ms) ps → Part (places ns) qs → Part (places (ms ++ ns)) (ps ++ qs)
 part-joined ms ns ps qs g h = subst (λ l. Part l (ps ++ qs)) (map-append ms ns) (part-both (places ms) ps (places ns) qs g h)
 
 pub part-flat : {X : Type 0} (f : X → List Mention) (g : X → List Place) → ((x : X) → Part (places (f x)) (g x)) → (xs : List X) → Part (places (flat_map f xs)) (flat_map g xs)

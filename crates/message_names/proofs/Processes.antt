@@ -1,5 +1,5 @@
 -- What names mean in processes: their variables and routines reach in all of them.
-use Rattle.std.proofs.Common.{◌≡◌, false, List, [], ◌∷◌, ◌++◌, map, Option, Some, None, inl, inr, refl, ap, sym, ◌∙◌, subst, append_assoc, append-nil}
+use Rattle.std.proofs.Common.{◌≡◌, false, List, [], ◌∷◌, ◌++◌, map, Option, Some, None, ◌⊎◌, inl, inr, refl, ap, sym, ◌∙◌, subst, append_assoc, append-nil}
 use Rattle.std.specs.Prelude.{flat_map}
 use Rattle.std.specs.Option.{option_map_or}
 use Rattle.syntax_tree.specs.Placed.{Constant, Activation, periodic, at_event, Handler, Process}
@@ -14,12 +14,13 @@ use Rattle.message_names.specs.Reach.{before}
 use Rattle.message_names.proofs.Bodies.{UnderAll, under-append, under-left, under-right, of-stmts}
 use Rattle.message_names.proofs.Closing.{Within}
 use Rattle.message_names.proofs.Order.{Ahead, Mem, Rising}
-use Rattle.message_names.proofs.Parts.{mem-left, mem-right, mem-place, part-mem, part-rises, part-flat, part-var, part-stmts, part-routine, part-handler, part-process}
-use Rattle.message_names.proofs.Routines.{Reached, var_declares, view-vars, ties-vars, begin-map, begin-append, begin-under, of-vars, of-optional, of-declarations, enclosed-vars, last-over, places-within, four-joined}
-use Rattle.message_names.proofs.Sections.{routine_declares, view-before, view-behind, ties-routines, enclosed-routines, of-routines}
+use Rattle.message_names.proofs.Others.{OwnAt, of-declarations}
+use Rattle.message_names.proofs.Parts.{part-behind, part-front, part-joined, mem-left, mem-right, mem-place, part-mem, part-rises, part-flat, part-var, part-stmts, part-routine, part-handler, part-process}
+use Rattle.message_names.proofs.Routines.{Reached, var_declares, view-vars, ties-vars, begin-map, begin-append, begin-under, of-vars, of-optional, mem-vars, part-own-vars, declaring-map, enclosed-vars, last-over, places-within, four-joined}
+use Rattle.message_names.proofs.Sections.{routine_declares, part-heads, mem-heads, view-heads, view-before, view-behind, ties-routines, enclosed-routines, of-routines}
 use Rattle.message_names.proofs.Spots.{places, stmts_spots, var_spots, routine_spots, handler_spots, process_spots}
 use Rattle.message_names.proofs.Uses.{Keeps, Sited, sited-left, sited-right, of-use, of-constant, bare-constant, Seen, last-not, enclosed-stmts}
-use Rattle.message_names.proofs.Views.{rises-left, rises-right, rises-apart, view, view-append, Bare, bare-append, bare-view, Enclosed, enclosed-append, enclosed-more, bare-enclosed, silent-before, silent-behind, Under, Begin, Sees, ties-append, sees-within}
+use Rattle.message_names.proofs.Views.{mem-split, rises-left, rises-right, rises-apart, view, view-append, Bare, bare-append, bare-view, Enclosed, enclosed-append, enclosed-more, bare-enclosed, silent-before, silent-behind, Under, Begin, Sees, ties-append, sees-within}
 
 -- ---- when it is released, and what it handles
 
@@ -271,9 +272,28 @@ module _ (p : Process Place) (ms outer behind : List Mention) (here : Site) (mea
       let all : Under q (outer ++ behind) = under q (inr is) in
       under-append q (outer ++ own_names) behind (under-append q outer own_names (under-left q outer behind all) (begin-under p.place q own_names own-begin (rises.0 q is))) (under-right q outer behind all)
 
+  own-rises : Rising (places own_names)
+  own-rises = part-rises (places own_names) (gs ++ (vs ++ (rs ++ (bs ++ ends_with p)))) (part-behind gs (places own_names) (vs ++ (rs ++ (bs ++ ends_with p))) (part-joined (own_vars p) (own_routines p) vs (rs ++ (bs ++ ends_with p)) (part-own-vars (own_process p) p.vars)
+      (part-front (places (own_routines p)) rs (bs ++ ends_with p) (part-heads false (own_process p) p.routines)))) rises.1
+
+  own-at : (x : Mention) → Mem x own_names → OwnAt ms (outer ++ (own_names ++ behind)) x
+  own-at x is = by (mem-split x (own_vars p) (own_routines p) is)
+    where
+      by : Mem x (own_vars p) ⊎ Mem x (own_routines p) → OwnAt ms (outer ++ (own_names ++ behind)) x
+      by (inl on) = let y = at-vars x (mem-vars (own_process p) x p.vars on) in (y.0, declaring-map (var_declares (own_process p)) (λ v. (_, refl)) p.vars x on, y.1)
+      by (inr on) =
+          let among : Mem x (the_routines p) = mem-heads false (own_process p) x p.routines on in
+          let at : Mem x.place (places (the_routines p)) = mem-place x (the_routines p) among in
+          (within x (in-routines x among), declaring-map (routine_declares false (own_process p)) (λ r. (_, refl)) p.routines x on,
+          routines-seen x.place at ∙ ap (λ v. (outer ++ own_vars p) ++ (v ++ behind))
+          (view-heads false (own_process p) p.routines (rises-left rs (bs ++ ends_with p) three) x on (in-process p rises x.place (places-within (the_routines p) (process_inner p) in-routines x.place at)))
+          ∙ sym two-joined)
+
   pub of-process : Keeps ms (rule.process_names here p)
   of-process more rest =
-      of-declarations ms here.means [] (rule.process_scope p) _
+      of-declarations ms outer own_names behind p.place here.means means (under-left p.place outer behind (under p.place (inl refl))) (under-right p.place outer behind (under p.place (inl refl))) own-begin own-rises own-at
+      [] own_names [] (rule.process_scope p) refl tt
+      (ties-append (own_vars p) (own_routines p) (map rule.var_name p.vars) (map rule.routine_name p.routines) (ties-vars (own_process p) p.vars) (ties-routines (own_process p) p.routines)) _
       (of-activation ms (outer ++ (own_names ++ behind)) site_in mean p.activation at-begin _
       (of-vars ms (outer ++ (own_names ++ behind)) (own_process p) site_in mean p.vars at-vars _
       (of-routines false (own_process p) ms (outer ++ own_vars p) behind site_in p.routines (subst (λ l. Sees l site_in.means) two-joined mean) (rises-left rs (bs ++ ends_with p) three)

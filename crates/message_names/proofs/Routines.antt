@@ -10,6 +10,8 @@ use Rattle.static_names.specs.Reach as site
 use Rattle.static_names.specs.Reach.{Names, Site, inside}
 use Rattle.static_names.specs.Occurrences as rule
 use Rattle.static_names.specs.Occurrences.{Occurrence}
+use Rattle.message_names.specs.declared.role.Reach.{Reach}
+use Rattle.message_names.specs.declared.role.Role.TheVariants as role_is
 use Rattle.message_names.specs.declared.role.Scope.{Scope}
 use Rattle.message_names.specs.declared.role.What.{What}
 use Rattle.message_names.specs.declared.role.What.TheVariants as what_is
@@ -20,7 +22,8 @@ use Rattle.message_names.specs.Reach.{before, sees}
 use Rattle.message_names.proofs.Bodies.{UnderAll, under-append, under-left, under-right, of-stmts}
 use Rattle.message_names.proofs.Closing.{Within}
 use Rattle.message_names.proofs.Order.{Ahead, Mem, Rising}
-use Rattle.message_names.proofs.Parts.{mem-left, mem-right, mem-place, part-mem, part-rises, part-flat, part-var, part-param, part-routine}
+use Rattle.message_names.proofs.Others.{OwnAt, of-declarations}
+use Rattle.message_names.proofs.Parts.{Part, part-behind, part-front, part-joined, mem-left, mem-right, mem-place, part-mem, part-rises, part-flat, part-var, part-param, part-routine}
 use Rattle.message_names.proofs.Spots.{places, stmts_spots, var_spots, param_spots, optional_places, routine_spots}
 use Rattle.message_names.proofs.Uses.{Keeps, Sited, of-scalar, of-kind, of-expr, bare-scalar, bare-kind, bare-expr, Seen, from_of, end_of, last-not, enclosed-stmts}
 use Rattle.message_names.proofs.Views.{mem-split, rises-left, rises-right, rises-apart, view, view-append, is-seen, Bare, bare-append, bare-view, Enclosed, enclosed-append, enclosed-more, bare-enclosed, silent-before, silent-behind, begins, Under, Begin, Sees, Ties, ties-append, sees-within}
@@ -96,9 +99,33 @@ pub of-optional : {X : Type 0} (ms reach : List Mention) (names : X → List Occ
 of-optional ms reach names mentions each None at more rest = rest
 of-optional ms reach names mentions each (Some x) at more rest = each x at more rest
 
-pub of-declarations : (ms : List Mention) (outside : site.Reach) (earlier ds : Names) → Keeps ms (rule.declarations outside earlier ds)
-of-declarations ms outside earlier [] more rest = rest
-of-declarations ms outside earlier (d ∷ ds) more rest = (tt, of-declarations ms outside (earlier ++ d ∷ []) ds more rest)
+-- ---- the declarations of a scope among its names
+
+abbrev pub Declaring : Mention → Type 0
+Declaring m = (r : Reach) × (m.role ≡ role_is.Declares r)
+
+pub declaring-map : {X : Type 0} (f : X → Mention) → ((x : X) → Declaring (f x)) → (xs : List X) → (m : Mention) → Mem m (map f xs) → Declaring m
+declaring-map f each [] m is = absurd is
+declaring-map f each (x ∷ xs) m (inl e) = let d = each x in (d.0, sym (ap (λ y. y.role) e) ∙ d.1)
+declaring-map f each (x ∷ xs) m (inr is) = declaring-map f each xs m is
+
+pub mem-vars : (own : Scope) (m : Mention) (vs : List (Var Place)) → Mem m (map (var_declares own) vs) → Mem m (flat_map (told.var_mentions own) vs)
+mem-vars own m [] is = absurd is
+mem-vars own m (v ∷ vs) (inl e) = inl e
+mem-vars own m (v ∷ vs) (inr is) = inr (mem-right m (told.kind_mentions v.kind) _ (mem-vars own m vs is))
+
+mem-params : (own : Scope) (m : Mention) (vs : List (Param Place)) → Mem m (map (param_declares own) vs) → Mem m (flat_map (told.param_mentions own) vs)
+mem-params own m [] is = absurd is
+mem-params own m (v ∷ vs) (inl e) = inl e
+mem-params own m (v ∷ vs) (inr is) = inr (mem-right m (told.scalar_mentions v.kind) _ (mem-params own m vs is))
+
+pub part-own-vars : (own : Scope) (vs : List (Var Place)) → Part (places (map (var_declares own) vs)) (flat_map var_spots vs)
+part-own-vars own [] = tt
+part-own-vars own (v ∷ vs) = inl (refl, part-behind (places (told.kind_mentions v.kind)) (places (map (var_declares own) vs)) (flat_map var_spots vs) (part-own-vars own vs))
+
+part-own-params : (own : Scope) (vs : List (Param Place)) → Part (places (map (param_declares own) vs)) (flat_map param_spots vs)
+part-own-params own [] = tt
+part-own-params own (v ∷ vs) = inl (refl, part-behind (places (told.scalar_mentions v.kind)) (places (map (param_declares own) vs)) (flat_map param_spots vs) (part-own-params own vs))
 
 pub bare-result : (s : Option (Scalar Place)) → Bare (option_map_or told.scalar_mentions s [])
 bare-result None = tt
@@ -302,9 +329,23 @@ module _ (r : Routine Place) (ms outer behind : List Mention) (here : Site) (mea
       let among : Mem q (places (told.routine_inner r)) = places-within (the_body r) (told.routine_inner r) in-body q is in
       seen q among ∙ ap (λ v. outer ++ (v ++ behind)) (view-inner r q (in-scope r rises q among)) ∙ four-joined outer (own_params r) (own_vars r) (view q (the_body r)) behind
 
+  own-rises : Rising (places (own_names r))
+  own-rises = part-rises (places (own_names r)) (ps ++ (rs ++ (vs ++ (bs ++ spots_end r)))) (part-joined (own_params r) (own_vars r) ps (rs ++ (vs ++ (bs ++ spots_end r))) (part-own-params (own_scope r) r.params)
+      (part-behind rs (places (own_vars r)) (vs ++ (bs ++ spots_end r)) (part-front (places (own_vars r)) vs (bs ++ spots_end r) (part-own-vars (own_scope r) r.vars)))) rises.1
+
+  own-at : (m : Mention) → Mem m (own_names r) → OwnAt ms (outer ++ (own_names r ++ behind)) m
+  own-at m is = by (mem-split m (own_params r) (own_vars r) is)
+    where
+      by : Mem m (own_params r) ⊎ Mem m (own_vars r) → OwnAt ms (outer ++ (own_names r ++ behind)) m
+      by (inl on) = let x = at-params m (mem-params (own_scope r) m r.params on) in
+          (x.0, declaring-map (param_declares (own_scope r)) (λ v. (_, refl)) r.params m on, x.1 ∙ append_assoc outer (own_names r) behind)
+      by (inr on) = let x = at-vars m (mem-vars (own_scope r) m r.vars on) in
+          (x.0, declaring-map (var_declares (own_scope r)) (λ v. (_, refl)) r.vars m on, x.1 ∙ append_assoc outer (own_names r) behind)
+
   pub of-routine : Keeps ms (rule.routine_names here r)
   of-routine more rest =
-      of-declarations ms here.means [] (rule.routine_scope r) _
+      of-declarations ms outer (own_names r) behind r.place here.means means (under-left r.place outer behind (under r.place (inl refl))) (under-right r.place outer behind (under r.place (inl refl))) own-begin own-rises own-at
+      [] (own_names r) [] (rule.routine_scope r) refl tt (ties-append (own_params r) (own_vars r) (map rule.param_name r.params) (map rule.var_name r.vars) (ties-params (own_scope r) r.params) (ties-vars (own_scope r) r.vars)) _
       (of-params ms reach (own_scope r) site_in mean r.params at-params _
       (of-optional ms reach (rule.scalar_names site_in) told.scalar_mentions (of-scalar ms reach site_in mean) r.result at-result _
       (of-vars ms reach (own_scope r) site_in mean r.vars at-vars _

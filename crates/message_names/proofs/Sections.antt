@@ -1,5 +1,5 @@
 -- What names mean in monitors, and in routines one after another.
-use Rattle.std.proofs.Common.{◌≡◌, Bool, true, false, List, [], ◌∷◌, ◌++◌, map, inl, inr, refl, ap, sym, ◌∙◌, subst, append_assoc, append-nil}
+use Rattle.std.proofs.Common.{◌≡◌, Bool, true, false, List, [], ◌∷◌, ◌++◌, map, ◌⊎◌, inl, inr, refl, ap, sym, ◌∙◌, subst, append_assoc, append-nil}
 use Rattle.std.specs.Prelude.{flat_map}
 use Rattle.syntax_tree.specs.Placed.{Routine, Member, variable_member, condition_member, Monitor}
 use Rattle.syntax_tree.specs.declared.place.Place.{Place}
@@ -14,11 +14,12 @@ use Rattle.message_names.specs.Reach.{before}
 use Rattle.message_names.proofs.Bodies.{UnderAll, under-append, under-left, under-right}
 use Rattle.message_names.proofs.Closing.{Within}
 use Rattle.message_names.proofs.Order.{Ahead, Mem, Rising}
-use Rattle.message_names.proofs.Parts.{mem-left, mem-right, mem-place, part-mem, part-rises, part-flat, part-member, part-routine, part-monitor}
-use Rattle.message_names.proofs.Routines.{Reached, own-seen, var_declares, begin-map, begin-append, begin-under, of-declarations, last-over, places-within, enclosed-routine, of-routine}
+use Rattle.message_names.proofs.Others.{OwnAt, first-not, of-declarations}
+use Rattle.message_names.proofs.Parts.{Part, part-behind, part-front, part-joined, mem-left, mem-right, mem-place, part-mem, part-rises, part-flat, part-member, part-routine, part-monitor}
+use Rattle.message_names.proofs.Routines.{Reached, own-seen, var_declares, begin-map, begin-append, begin-under, Declaring, declaring-map, last-over, places-within, enclosed-routine, of-routine}
 use Rattle.message_names.proofs.Spots.{places, member_spots, routine_spots, monitor_spots}
 use Rattle.message_names.proofs.Uses.{Keeps, Sited, of-kind, bare-kind, Seen, from_of, end_of, last-not}
-use Rattle.message_names.proofs.Views.{rises-left, rises-right, rises-apart, view, view-append, is-seen, bare-view, Enclosed, enclosed-append, enclosed-more, bare-enclosed, silent-before, silent-behind, begins, Under, Begin, Sees, Ties, ties-append, sees-within}
+use Rattle.message_names.proofs.Views.{mem-split, silent-at, rises-left, rises-right, rises-apart, view, view-append, is-seen, bare-view, Enclosed, enclosed-append, enclosed-more, bare-enclosed, silent-before, silent-behind, begins, Under, Begin, Sees, Ties, ties-append, sees-within}
 
 -- ---- routines one after another
 
@@ -46,6 +47,42 @@ view-before is_entry own q at rs h = view-routines is_entry own q at rs (λ r is
 pub view-behind : (is_entry : Bool) (own : Scope) (q : Place) → Reached own q → (rs : List (Routine Place)) → ((y : Place) → Mem y (flat_map routine_spots rs) → Ahead y q)
     → view q (flat_map (told.routine_mentions is_entry own) rs) ≡ map (routine_declares is_entry own) rs
 view-behind is_entry own q at rs h = view-routines is_entry own q at rs (λ r is. silent-behind q (routine_spots r) (told.routine_inner r) (enclosed-routine r) (λ y on. h y (mem-flat routine_spots rs r y is on)))
+
+abbrev heads : (is_entry : Bool) → Scope → List (Routine Place) → List Mention
+heads is_entry own rs = map (routine_declares is_entry own) rs
+
+pub part-heads : (is_entry : Bool) (own : Scope) (rs : List (Routine Place)) → Part (places (heads is_entry own rs)) (flat_map routine_spots rs)
+part-heads is_entry own [] = tt
+part-heads is_entry own (r ∷ rs) = inl (refl, part-behind _ (places (heads is_entry own rs)) (flat_map routine_spots rs) (part-heads is_entry own rs))
+
+pub mem-heads : (is_entry : Bool) (own : Scope) (m : Mention) (rs : List (Routine Place)) → Mem m (heads is_entry own rs) → Mem m (flat_map (told.routine_mentions is_entry own) rs)
+mem-heads is_entry own m [] is = absurd is
+mem-heads is_entry own m (r ∷ rs) (inl e) = inl e
+mem-heads is_entry own m (r ∷ rs) (inr is) = inr (mem-right m (told.routine_inner r) _ (mem-heads is_entry own m rs is))
+
+-- at the name of one of the routines all of these reach
+pub view-heads : (is_entry : Bool) (own : Scope) (rs : List (Routine Place)) → Rising (flat_map routine_spots rs) → (m : Mention) → Mem m (heads is_entry own rs) → Reached own m.place
+    → view m.place (flat_map (told.routine_mentions is_entry own) rs) ≡ heads is_entry own rs
+view-heads is_entry own [] rises m is at = absurd is
+view-heads is_entry own (r ∷ rs) rises m (inl e) at =
+    let others : List Mention = flat_map (told.routine_mentions is_entry own) rs in
+    let rsp : List Place = routine_spots r in
+    let osp : List Place = flat_map routine_spots rs in
+    let q : Place = m.place in
+    let is_r : r.place ≡ q = ap (λ x. x.place) e in
+    is-seen (routine_declares is_entry own r) q (told.routine_inner r ++ others) (own-seen (told.routine_what is_entry r.kind) own r.name r.place q at)
+    ∙ ap (λ l. routine_declares is_entry own r ∷ l) (view-append q (told.routine_inner r) others
+    ∙ ap (λ v. v ++ view q others) (silent-at q rsp (told.routine_inner r) (enclosed-routine r) (λ y on. subst (λ x. before y x ≡ false) is_r (first-not r.place _ (rises-left rsp osp rises) y on)))
+    ∙ view-before is_entry own q at rs (λ y on. subst (λ x. Ahead x y) is_r (rises-apart rsp osp rises r.place y (inl refl) on)))
+view-heads is_entry own (r ∷ rs) rises m (inr is) at =
+    let others : List Mention = flat_map (told.routine_mentions is_entry own) rs in
+    let rsp : List Place = routine_spots r in
+    let osp : List Place = flat_map routine_spots rs in
+    let q : Place = m.place in
+    is-seen (routine_declares is_entry own r) q (told.routine_inner r ++ others) (own-seen (told.routine_what is_entry r.kind) own r.name r.place q at)
+    ∙ ap (λ l. routine_declares is_entry own r ∷ l) (view-append q (told.routine_inner r) others
+    ∙ ap (λ v. v ++ view q others) (silent-behind q rsp (told.routine_inner r) (enclosed-routine r) (λ y on. rises-apart rsp osp rises y q on (part-mem (places (heads is_entry own rs)) osp q (part-heads is_entry own rs) (mem-place m (heads is_entry own rs) is))))
+    ∙ view-heads is_entry own rs (rises-right rsp osp rises) m is at)
 
 pub ties-routines : (own : Scope) (rs : List (Routine Place)) → Ties (map (routine_declares false own) rs) (map rule.routine_name rs)
 ties-routines own [] = tt
@@ -120,6 +157,22 @@ ties-members : (own : Scope) (xs : List (Member Place)) → Ties (map (member_de
 ties-members own [] = tt
 ties-members own (variable_member v ∷ xs) = (refl, refl, ties-members own xs)
 ties-members own (condition_member name place ∷ xs) = (refl, refl, ties-members own xs)
+
+member-declaring : (own : Scope) (x : Member Place) → Declaring (member_declares own x)
+member-declaring own (variable_member v) = (_, refl)
+member-declaring own (condition_member name place) = (_, refl)
+
+mem-members : (own : Scope) (m : Mention) (xs : List (Member Place)) → Mem m (map (member_declares own) xs) → Mem m (flat_map (told.member_mentions own) xs)
+mem-members own m [] is = absurd is
+mem-members own m (variable_member v ∷ xs) (inl e) = inl e
+mem-members own m (variable_member v ∷ xs) (inr is) = inr (mem-right m (told.kind_mentions v.kind) _ (mem-members own m xs is))
+mem-members own m (condition_member name place ∷ xs) (inl e) = inl e
+mem-members own m (condition_member name place ∷ xs) (inr is) = inr (mem-members own m xs is)
+
+part-own-members : (own : Scope) (xs : List (Member Place)) → Part (places (map (member_declares own) xs)) (flat_map member_spots xs)
+part-own-members own [] = tt
+part-own-members own (variable_member v ∷ xs) = inl (refl, part-behind (places (told.kind_mentions v.kind)) (places (map (member_declares own) xs)) (flat_map member_spots xs) (part-own-members own xs))
+part-own-members own (condition_member name place ∷ xs) = inl (refl, part-own-members own xs)
 
 begin-member : (own : Scope) (x : Member Place) → begins (member_declares own x) ≡ own.begin
 begin-member own (variable_member v) = refl
@@ -219,9 +272,35 @@ module _ (m : Monitor Place) (ms outer behind : List Mention) (here : Site) (mea
             (part-mem (places (the_members m)) mps x.place (part-flat (told.member_mentions (own_monitor m)) member_spots (part-member (own_monitor m)) m.members) (mem-place x (the_members m) is)) (mem-left y eps _ at)))),
       )
 
+  entries-seen : Seen ms (outer ++ own_members m) behind (the_entries m)
+  entries-seen q is =
+      let among = places-within (the_entries m) (monitor_inner m) in-entries q is in
+      seen q among ∙ ap (λ v. outer ++ (v ++ behind)) (view-monitor m q (in-monitor m rises q among)) ∙ ap (λ l. outer ++ l) (append_assoc (own_members m) (view q (the_entries m)) behind) ∙ sym (append_assoc outer (own_members m) (view q (the_entries m) ++ behind))
+
+  entries-rise : Rising eps
+  entries-rise = rises-left eps (m.close_place ∷ []) (rises-right mps (eps ++ m.close_place ∷ []) rises.1)
+
+  own-rises : Rising (places (own_members m ++ own_entries m))
+  own-rises = part-rises (places (own_members m ++ own_entries m)) (mps ++ (eps ++ m.close_place ∷ [])) (part-joined (own_members m) (own_entries m) mps (eps ++ m.close_place ∷ []) (part-own-members (own_monitor m) m.members)
+      (part-front (places (own_entries m)) eps (m.close_place ∷ []) (part-heads true (own_monitor m) m.entries))) rises.1
+
+  own-at : (x : Mention) → Mem x (own_members m ++ own_entries m) → OwnAt ms (outer ++ ((own_members m ++ own_entries m) ++ behind)) x
+  own-at x is = by (mem-split x (own_members m) (own_entries m) is)
+    where
+      by : Mem x (own_members m) ⊎ Mem x (own_entries m) → OwnAt ms (outer ++ ((own_members m ++ own_entries m) ++ behind)) x
+      by (inl on) = let y = at-members x (mem-members (own_monitor m) x m.members on) in (y.0, declaring-map (member_declares (own_monitor m)) (member-declaring (own_monitor m)) m.members x on, y.1)
+      by (inr on) =
+          let among : Mem x (the_entries m) = mem-heads true (own_monitor m) x m.entries on in
+          let at : Mem x.place (places (the_entries m)) = mem-place x (the_entries m) among in
+          (within x (in-entries x among), declaring-map (routine_declares true (own_monitor m)) (λ r. (_, refl)) m.entries x on,
+          entries-seen x.place at ∙ ap (λ v. (outer ++ own_members m) ++ (v ++ behind)) (view-heads true (own_monitor m) m.entries entries-rise x on (in-monitor m rises x.place (places-within (the_entries m) (monitor_inner m) in-entries x.place at)))
+          ∙ sym two-joined)
+
   pub of-monitor : Keeps ms (rule.monitor_names here m)
   of-monitor more rest =
-      of-declarations ms here.means [] (rule.monitor_scope m) _
+      of-declarations ms outer (own_members m ++ own_entries m) behind m.place here.means means (under-left m.place outer behind (under m.place (inl refl))) (under-right m.place outer behind (under m.place (inl refl))) monitor-begin own-rises own-at
+      [] (own_members m ++ own_entries m) [] (rule.monitor_scope m) refl tt
+      (ties-append (own_members m) (own_entries m) (map rule.member_name m.members) (map rule.entry_name m.entries) (ties-members (own_monitor m) m.members) (ties-entries (own_monitor m) m.entries)) _
       (of-members ms (outer ++ ((own_members m ++ own_entries m) ++ behind)) (own_monitor m) site_monitor monitor-mean m.members at-members _
       (of-routines true (own_monitor m) ms (outer ++ own_members m) behind site_monitor m.entries (subst (λ l. Sees l site_monitor.means) two-joined monitor-mean)
       (rises-left eps (m.close_place ∷ []) (rises-right mps (eps ++ m.close_place ∷ []) rises.1))

@@ -1,5 +1,5 @@
 -- What names mean in expressions and statements: as the scopes of the rules say.
-use Rattle.std.proofs.Common.{◌≡◌, true, false, List, [], ◌∷◌, ◌++◌, Option, Some, None, inl, inr, refl, ap, sym, ◌∙◌, subst, append-nil, true≢false}
+use Rattle.std.proofs.Common.{◌≡◌, Bool, true, false, List, [], ◌∷◌, ◌++◌, Option, Some, None, is_some, inl, inr, refl, ap, sym, ◌∙◌, subst, append-nil, true≢false}
 use Rattle.syntax_tree.specs.Plain.{Name}
 use Rattle.syntax_tree.specs.Placed.{Constant, literal_constant, named_constant, Scalar, int, boolean, subrange, Kind, scalar, array, Expr, literal, truth, variable, element, call, minus, negation, paren, row, Exprs, no_exprs, exprs, Operands, no_operands, operand, Ref, whole, part, Stmt, assign, assign_entry, assign_empty, perform, perform_entry, when, when_else, loop, exit_when, get, put, wait, signal, broadcast, except, assert, Stmts, no_stmts, stmts}
 use Rattle.syntax_tree.specs.declared.place.Place.{Place}
@@ -32,8 +32,14 @@ pub record IsMeant (ms : List Mention) (name : Name) (place : Place) (means : Op
   pub alone : monitor_before (role_is.Uses wanted) ≡ None
   pub meant : placed (innermost sight_is.Around name place ms) ≡ stood means
 
+-- among the names that are told stands the declaration, and another of the name is found in reach exactly where it is taken
+pub record IsTaken (ms : List Mention) (name : Name) (place : Place) (taken : Bool) : Type 0 where
+  pub reach : Reach
+  pub listed : Mem (told.mention name place (role_is.Declares reach)) ms
+  pub other : is_some (innermost (sight_is.Others reach.scope.begin) name place ms) ≡ taken
+
 abbrev pub Meant : List Mention → Occurrence → Type 0
-Meant ms (rule.declares name place taken) = Unit {0}
+Meant ms (rule.declares name place taken) = IsTaken ms name place taken
 Meant ms (rule.closes name place opening) = Unit {0}
 Meant ms (rule.used name place want means) = stands_alone want ≡ true → IsMeant ms name place means
 

@@ -96,6 +96,11 @@ pub bare-enclosed : (ps : List Place) (ms : List Mention) → Bare ms → Enclos
 bare-enclosed ps [] g = tt
 bare-enclosed ps (m ∷ ms) g = (λ r e. absurd (true≢false (ap is_some (sym e ∙ g.0))), bare-enclosed ps ms g.1)
 
+-- nothing of it reaches a place before which none of these stands
+pub silent-at : (p : Place) (ps : List Place) (ms : List Mention) → Enclosed ps ms → ((q : Place) → Mem q ps → before q p ≡ false) → view p ms ≡ []
+silent-at p ps [] g h = refl
+silent-at p ps (m ∷ ms) g h = not-seen m p ms (unseen m p (λ r e. and_left (before r.from p) (not (before r.scope.end p)) (h r.from (g.0 r e).0))) ∙ silent-at p ps ms g.1 h
+
 -- nothing of it reaches a place before all of these, or behind
 pub silent-before : (p : Place) (ps : List Place) (ms : List Mention) → Enclosed ps ms → ((q : Place) → Mem q ps → Ahead p q) → view p ms ≡ []
 silent-before p ps [] g h = refl
@@ -116,19 +121,19 @@ abbrev pub pick : Name → Option Mention → List Mention → Option Mention
 pick n known [] = known
 pick n known (m ∷ ms) = pick n (cond (bytes_eq m.name n) (inner known m) known) ms
 
-picked : (n : Name) (p : Place) (known : Option Mention) (ms : List Mention) → fold inner known (filter (λ m. bytes_eq m.name n && sees sight_is.Around p m) ms) ≡ pick n known (view p ms)
-picked n p known [] = refl
-picked n p known (m ∷ ms) = by (bytes_eq m.name n) (sees sight_is.Around p m) refl (λ k. picked n p k ms)
+pub picked : (n : Name) (t : Mention → Bool) (known : Option Mention) (ms : List Mention) → fold inner known (filter (λ m. bytes_eq m.name n && t m) ms) ≡ pick n known (filter t ms)
+picked n t known [] = refl
+picked n t known (m ∷ ms) = by (bytes_eq m.name n) (t m) refl (λ k. picked n t k ms)
   where
-    by : (b c : Bool) → bytes_eq m.name n ≡ b → ((k : Option Mention) → fold inner k (filter (λ x. bytes_eq x.name n && sees sight_is.Around p x) ms) ≡ pick n k (view p ms))
-        → fold inner known (cond (b && c) (m ∷ filter (λ x. bytes_eq x.name n && sees sight_is.Around p x) ms) (filter (λ x. bytes_eq x.name n && sees sight_is.Around p x) ms)) ≡ pick n known (cond c (m ∷ view p ms) (view p ms))
-    by true true e rest = rest (inner known m) ∙ ap (λ x. pick n (cond x (inner known m) known) (view p ms)) (sym e)
-    by false true e rest = rest known ∙ ap (λ x. pick n (cond x (inner known m) known) (view p ms)) (sym e)
+    by : (b c : Bool) → bytes_eq m.name n ≡ b → ((k : Option Mention) → fold inner k (filter (λ x. bytes_eq x.name n && t x) ms) ≡ pick n k (filter t ms))
+        → fold inner known (cond (b && c) (m ∷ filter (λ x. bytes_eq x.name n && t x) ms) (filter (λ x. bytes_eq x.name n && t x) ms)) ≡ pick n known (cond c (m ∷ filter t ms) (filter t ms))
+    by true true e rest = rest (inner known m) ∙ ap (λ x. pick n (cond x (inner known m) known) (filter t ms)) (sym e)
+    by false true e rest = rest known ∙ ap (λ x. pick n (cond x (inner known m) known) (filter t ms)) (sym e)
     by true false e rest = rest known
     by false false e rest = rest known
 
 pub innermost-picked : (n : Name) (p : Place) (ms : List Mention) → innermost sight_is.Around n p ms ≡ pick n None (view p ms)
-innermost-picked n p ms = picked n p None ms
+innermost-picked n p ms = picked n (sees sight_is.Around p) None ms
 
 pick-append : (n : Name) (known : Option Mention) (ms ns : List Mention) → pick n known (ms ++ ns) ≡ pick n (pick n known ms) ns
 pick-append n known [] ns = refl

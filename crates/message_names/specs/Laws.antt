@@ -1,5 +1,5 @@
 -- How what is told of names agrees with the rules for names.
-use Rattle.std.specs.Prelude.{◌≡◌, ℕ, Bool, false, ◌↔◌, true, IsSome, Option, Some, option_map, Contains, count_by}
+use Rattle.std.specs.Prelude.{◌≡◌, ℕ, Bool, false, ◌↔◌, true, IsSome, is_some, Option, Some, option_map, Contains, count_by}
 use Rattle.syntax_tree.specs.Plain.{Name}
 use Rattle.syntax_tree.specs.Placed.{Prog}
 use Rattle.syntax_tree.specs.Parts.{same_place}
@@ -7,11 +7,13 @@ use Rattle.syntax_tree.specs.declared.place.Place.{Place}
 use Rattle.static_names.specs.declared.kind.Declared.{Declared}
 use Rattle.static_names.specs.declared.kind.NameUse.{NameUse}
 use Rattle.static_names.specs.declared.kind.NameUse.TheVariants as want_is
-use Rattle.static_names.specs.Occurrences.{closes, names, used}
+use Rattle.static_names.specs.Occurrences.{closes, declares, names, used}
 use Rattle.static_names.specs.Resolved.{IsRead}
 use Rattle.static_names.specs.Rules.{Fails, Stands, place_of}
-use Rattle.message_names.specs.Mentions.{mentions, uses}
+use Rattle.message_names.specs.Mentions.{mention, mentions, uses}
 use Rattle.message_names.specs.Reach.{meaning, mention_at}
+use Rattle.message_names.specs.declared.role.Reach.{Reach}
+use Rattle.message_names.specs.declared.role.Role.TheVariants as role_is
 use Rattle.message_names.specs.declared.role.Wanted.{Wanted}
 use Rattle.message_names.specs.Told.{misclosed, name_sentence}
 
@@ -45,3 +47,14 @@ pub record IsTold (g : Prog Place) (name : Name) (place : Place) (means : Option
 -- each use that stands alone is told so
 abbrev pub TellsOfUses : Type 0
 TellsOfUses = (g : Prog Place) → IsRead g → (name : Name) (place : Place) (want : NameUse) (means : Option Declared) → Contains (names g) (used name place want means) → stands_alone want ≡ true → IsTold g name place means
+
+-- the declaration is told that stands at the place, and another of its name is found in reach exactly where the rules say that
+-- it is taken
+pub record IsToldDeclared (g : Prog Place) (name : Name) (place : Place) (taken : Bool) : Type 0 where
+  pub reach : Reach
+  pub stands : mention_at place (mentions g) ≡ Some (mention name place (role_is.Declares reach))
+  pub other : is_some (meaning (mentions g) (mention name place (role_is.Declares reach))) ≡ taken
+
+-- each declaration is told so
+abbrev pub TellsOfDeclarations : Type 0
+TellsOfDeclarations = (g : Prog Place) → IsRead g → (name : Name) (place : Place) (taken : Bool) → Contains (names g) (declares name place taken) → IsToldDeclared g name place taken

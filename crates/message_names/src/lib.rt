@@ -27,5 +27,5 @@ mod statements;
 mod told;
 mod words;
 
-pub use laws::{closing_names_are_told, told_where_rules_fail, uses_are_told};
+pub use laws::{closing_names_are_told, declarations_are_told, told_where_rules_fail, uses_are_told};
 pub use told::{name_notes, name_sentence};
