@@ -1,8 +1,7 @@
 -- The name that a closing name has to repeat is the one that is told.
-use Rattle.std.proofs.Common.{◌≡◌, ◌≤◌, ◌<◌, ℕ, zero, suc, ◌+◌, Bool, true, false, cond, List, [], ◌∷◌, ◌++◌, length, slice_index_or, map, Option, Some, None, ◌⊎◌, inl, inr, option_map, refl, ap, sym, ◌∙◌, subst, arith}
+use Rattle.std.proofs.Common.{◌≡◌, ◌<◌, ℕ, zero, suc, Bool, true, false, cond, List, [], ◌∷◌, ◌++◌, length, slice_index_or, Option, Some, None, inl, inr, option_map, refl, ap, ◌∙◌, subst, arith}
 use Rattle.std.specs.Prelude.{flat_map, Contains}
 use Rattle.std.specs.Option.{option_map_or}
-use Rattle.syntax_tree.specs.Plain.{Name}
 use Rattle.syntax_tree.specs.Placed.{Constant, literal_constant, named_constant, Scalar, int, boolean, subrange, Kind, scalar, array, Var, Param, Expr, literal, truth, variable, element, call, minus, negation, paren, row, Exprs, no_exprs, exprs, Operands, no_operands, operand, Ref, whole, part, Stmt, assign, assign_entry, assign_empty, perform, perform_entry, when, when_else, loop, exit_when, get, put, wait, signal, broadcast, except, assert, Stmts, no_stmts, stmts, Routine, Member, variable_member, condition_member, Monitor, Activation, periodic, at_event, Handler, Process, Decl, constant, device, event, routine, monitor, process, Prog}
 use Rattle.syntax_tree.specs.declared.place.Place.{Place}
 use Rattle.syntax.specs.Lex.{TokensStandInOrder}
@@ -226,9 +225,11 @@ by-program g =
     let decls : List Mention = flat_map (told.decl_mentions scope) g.decls in
     let end : List Mention = told.closes g.close g.close_place g.place ∷ [] in
     let name : Mention = told.declares what_is.Program scope g.name g.place in
-    let close : Mention = told.closes g.close g.close_place g.place in
-    (tt, by-decls (told.mentions g) scope (λ place. first (rule.entries_at g.decls place)) (rule.program_name g ∷ []) g.decls (λ x is. inr (mem-left x decls end is)) _
-    ((g.place, inr (mem-right close decls end (inl refl)), (name, inl refl, refl, refl)), tt))
+    let close : Mention = told.closes g.close g.close_place g.place in (
+      tt,
+      by-decls (told.mentions g) scope (λ place. first (rule.entries_at g.decls place)) (rule.program_name g ∷ []) g.decls (λ x is. inr (mem-left x decls end is)) _
+          ((g.place, inr (mem-right close decls end (inl refl)), (name, inl refl, refl, refl)), tt),
+    )
 
 each-at : (T : Occurrence → Type 0) (os : List Occurrence) (o : Occurrence) (k : ℕ) → Each T os → k < length os → slice_index_or os k o ≡ o → T o
 each-at T [] o k all below is = absurd (omega arith)

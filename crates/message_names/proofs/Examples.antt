@@ -1,11 +1,17 @@
--- What is told of names in four programs.
-use Rattle.std.proofs.Common.{◌≡◌, ℕ, true, false, List, [], ◌∷◌, Some, None, refl}
-use Rattle.std.specs.Prelude.{codes}
+-- What is told of names in some programs.
+use Rattle.std.proofs.Common.{◌≡◌, ℕ, true, false, List, [], ◌∷◌, Some, None, option_map, refl, arith}
+use Rattle.std.specs.Prelude.{Contains, codes}
 use Rattle.std.specs.Fmt.{digits}
 use Rattle.message_text.specs.Nearest.{distance, one_more}
 use Rattle.message_text.specs.Shown.{show}
 use Rattle.syntax_tree.specs.Placed.{Constant, literal_constant, named_constant, int, scalar, Var, Member, variable_member, perform, perform_entry, put, loop, literal, variable, no_exprs, Stmts, stmts, no_stmts, procedure, Decl, device, monitor, process, periodic, Prog}
 use Rattle.syntax_tree.specs.declared.place.Place.{Place}
+use Rattle.static_names.specs.declared.kind.Kind.TheVariants as kind_is
+use Rattle.static_names.specs.declared.kind.NameUse.TheVariants as want_is
+use Rattle.static_names.specs.Occurrences.{names, used}
+use Rattle.message_names.specs.declared.role.Wanted.TheVariants as wanted_is
+use Rattle.message_names.specs.Mentions.{mentions, uses}
+use Rattle.message_names.specs.Reach.{meaning}
 use Rattle.message_names.specs.Told.{name_sentence, name_notes}
 
 abbrev at : (line col : ℕ) → Place
@@ -168,3 +174,17 @@ member_notes = refl
 pub far_notes : name_notes behind_text behind 20 (at 10 1) ≡ codes "        = declare it, or correct the name\n"
 unfolding name_notes distance one_more show digits
 far_notes = refl
+
+-- ---- behind a process and a full stop a variable of it is found, where the rules find nothing: they fail of `p` already
+
+abbrev crossed : Prog Place
+crossed = program (task (stmts (perform_entry (at 6 1) (codes "p") (codes "x") (at 6 3) no_exprs) no_stmts) (codes "p") (at 7 5) ∷ []) (at 8 5)
+
+pub crossed_found : option_map (λ m. m.place) (meaning (mentions crossed) (uses (wanted_is.Entry (at 6 1)) (codes "x") (at 6 3))) ≡ Some (at 4 5)
+crossed_found = refl
+
+pub crossed_nowhere : Contains (names crossed) (used (codes "x") (at 6 3) want_is.Entry None)
+crossed_nowhere = (4, omega arith, refl)
+
+pub crossed_wrong : Contains (names crossed) (used (codes "p") (at 6 1) want_is.Monitor (Some (record { place = at 3 9; kind = kind_is.Process })))
+crossed_wrong = (3, omega arith, refl)

@@ -1,9 +1,9 @@
 -- Places along a text: which of two stands before the other, and the places of tokens, which rise.
-use Rattle.std.proofs.Common.{◌≡◌, ℕ, zero, suc, ◌+◌, ◌-◌, ◌<◌, ◌≤◌, Bool, true, false, not, List, [], ◌∷◌, ◌++◌, length, take, get_or, slice_index_or, ◌⊎◌, inl, inr, refl, ap, sym, ◌∙◌, subst, arith, eqb, eqb-true, true≢false}
+use Rattle.std.proofs.Common.{◌≡◌, ℕ, zero, suc, ◌+◌, ◌-◌, ◌<◌, ◌≤◌, Bool, true, false, not, List, [], ◌∷◌, length, take, get_or, slice_index_or, ◌⊎◌, inl, inr, refl, ap, sym, ◌∙◌, subst, arith, eqb, eqb-true}
 use Rattle.std.specs.Prelude.{count_by, nat_lt, nat_eq, ◌&&◌, ◌||◌}
 use Rattle.std.specs.List.{suffix_len}
 use Rattle.std.proofs.lemmas.List.Sums.{count_by_more_yes, count_by_more_no, suffix_len-take_yes}
-use Rattle.std.proofs.lemmas.Bool.{and_parts, and_from, or_left, or_right, ltb-true, lt-ltb, eq-eqb, cases_Bool, false_from_ne_true}
+use Rattle.std.proofs.lemmas.Bool.{and_parts, and_from, or_left, or_right, ltb-true, lt-ltb, eq-eqb, false_from_ne_true}
 use Rattle.syntax_tree.specs.Parts.{same_place}
 use Rattle.syntax_tree.specs.declared.place.Place.{Place}
 use Rattle.syntax.specs.declared.token.Token.{Token}
@@ -136,10 +136,12 @@ listed text (t ∷ ts) u (inr m) = let x = listed text ts u m in let below = x.1
 
 climb : (text : List ℕ) (ts : List Token) → ((i j : ℕ) (d : Token) → i < j → j < length ts → Ahead (spot (slice_index_or ts i d)) (spot (slice_index_or ts j d))) → Climbs (toks_of text ts)
 climb text [] pairs = tt
-climb text (t ∷ ts) pairs = (λ u m.
-    let x = listed text ts u m in let below = x.1 in
-    subst (λ v. Ahead (spot t) v.place) (x.2 t) (pairs zero (suc x.0) t (omega arith) (omega arith)),
-    climb text ts (λ i j d low high. pairs (suc i) (suc j) d (omega arith) (omega arith)))
+climb text (t ∷ ts) pairs = (
+  λ u m.
+      let x = listed text ts u m in let below = x.1 in
+      subst (λ v. Ahead (spot t) v.place) (x.2 t) (pairs zero (suc x.0) t (omega arith) (omega arith)),
+  climb text ts (λ i j d low high. pairs (suc i) (suc j) d (omega arith) (omega arith)),
+)
 
 pub tokens-climb : (text : List ℕ) (toks : List Token) → StandInOrder text toks → Climbs (toks_of text toks)
 tokens-climb text toks order = climb text toks (λ i j d low below.
@@ -156,7 +158,10 @@ among-tokens (p ∷ ps) (t ∷ ts) q (inr s) m = let x = among-tokens (p ∷ ps)
 pub some-rise : (ps : List Place) (ts : List (Tok Place)) → Sub ps ts → Climbs ts → Rising ps
 some-rise [] ts s c = tt
 some-rise (p ∷ ps) [] s c = absurd s
-some-rise (p ∷ ps) (t ∷ ts) (inl s) c = (λ q m.
-    let x = among-tokens ps ts q s.1 m in
-    subst (λ r. Ahead p r) x.2 (subst (λ r. Ahead r x.0.place) s.0 (c.0 x.0 x.1)), some-rise ps ts s.1 c.1)
+some-rise (p ∷ ps) (t ∷ ts) (inl s) c = (
+  λ q m.
+      let x = among-tokens ps ts q s.1 m in
+      subst (λ r. Ahead p r) x.2 (subst (λ r. Ahead r x.0.place) s.0 (c.0 x.0 x.1)),
+  some-rise ps ts s.1 c.1,
+)
 some-rise (p ∷ ps) (t ∷ ts) (inr s) c = some-rise (p ∷ ps) ts s c.1

@@ -1,5 +1,5 @@
 -- The places of the names that are told rise: they are among those of the program, in their order.
-use Rattle.std.proofs.Common.{◌≡◌, ℕ, Bool, true, false, cond, List, [], ◌∷◌, ◌++◌, Option, Some, None, ◌⊎◌, inl, inr, refl, ap, sym, ◌∙◌, subst, append_assoc}
+use Rattle.std.proofs.Common.{◌≡◌, Bool, true, false, cond, List, [], ◌∷◌, ◌++◌, Option, Some, None, ◌⊎◌, inl, inr, refl, ap, sym, ◌∙◌, subst, append_assoc}
 use Rattle.std.specs.Prelude.{flat_map}
 use Rattle.std.specs.Option.{option_map_or}
 use Rattle.syntax_tree.specs.Placed.{Constant, literal_constant, named_constant, Var, Param, Stmt, assign, assign_entry, assign_empty, perform, perform_entry, when, when_else, loop, exit_when, get, put, wait, signal, broadcast, except, assert, Stmts, no_stmts, stmts, Routine, Member, variable_member, condition_member, Monitor, Handler, Process, Decl, constant, device, event, routine, monitor, process, Prog}
@@ -10,7 +10,7 @@ use Rattle.message_names.specs.Mentions as told
 use Rattle.message_names.specs.Mentions.{Mention, value_place}
 use Rattle.message_names.specs.Reach.{mention_at}
 use Rattle.message_names.proofs.Order.{Ahead, Mem, Rising, ahead-apart}
-use Rattle.message_names.proofs.Spots.{places, map-append, stmt_spots, stmts_spots, var_spots, param_spots, member_spots, optional_places, routine_spots, monitor_spots, handler_spots, process_spots, decl_spots, spots}
+use Rattle.message_names.proofs.Spots.{places, map-append, stmt_spots, stmts_spots, var_spots, param_spots, member_spots, routine_spots, monitor_spots, handler_spots, process_spots, decl_spots, spots}
 use Rattle.message_names.proofs.Standing.{itself}
 
 -- ---- members of lists
@@ -44,9 +44,15 @@ pub part-all : (ps : List Place) → Part ps ps
 part-all [] = tt
 part-all (p ∷ ps) = inl (refl, part-all ps)
 
-part-behind : (ps qs rs : List Place) → Part qs rs → Part qs (ps ++ rs)
+pub part-behind : (ps qs rs : List Place) → Part qs rs → Part qs (ps ++ rs)
 part-behind [] qs rs h = h
 part-behind (p ∷ ps) qs rs h = part-skip qs p (ps ++ rs) (part-behind ps qs rs h)
+
+pub part-front : (qs ps rs : List Place) → Part qs ps → Part qs (ps ++ rs)
+part-front [] ps rs h = tt
+part-front (q ∷ qs) [] rs h = absurd h
+part-front (q ∷ qs) (p ∷ ps) rs (inl h) = inl (h.0, part-front qs ps rs h.1)
+part-front (q ∷ qs) (p ∷ ps) rs (inr h) = inr (part-front (q ∷ qs) ps rs h)
 
 part-both : (qs ps rs ss : List Place) → Part qs ps → Part rs ss → Part (qs ++ rs) (ps ++ ss)
 part-both [] ps rs ss g h = part-behind ps rs ss h
@@ -67,16 +73,16 @@ part-rises (q ∷ qs) [] h r = absurd h
 part-rises (q ∷ qs) (p ∷ ps) (inl h) r = (λ x m. subst (λ y. Ahead y x) h.0 (r.0 x (part-mem qs ps x h.1 m)), part-rises qs ps h.1 r.1)
 part-rises (q ∷ qs) (p ∷ ps) (inr h) r = part-rises (q ∷ qs) ps h r.1
 
-part-joined : (ms ns : List Mention) (ps qs : List Place) → Part (places ms) ps → Part (places ns) qs → Part (places (ms ++ ns)) (ps ++ qs)
+pub part-joined : (ms ns : List Mention) (ps qs : List Place) → Part (places ms) ps → Part (places ns) qs → Part (places (ms ++ ns)) (ps ++ qs)
 part-joined ms ns ps qs g h = subst (λ l. Part l (ps ++ qs)) (map-append ms ns) (part-both (places ms) ps (places ns) qs g h)
 
-part-flat : {X : Type 0} (f : X → List Mention) (g : X → List Place) → ((x : X) → Part (places (f x)) (g x)) → (xs : List X) → Part (places (flat_map f xs)) (flat_map g xs)
+pub part-flat : {X : Type 0} (f : X → List Mention) (g : X → List Place) → ((x : X) → Part (places (f x)) (g x)) → (xs : List X) → Part (places (flat_map f xs)) (flat_map g xs)
 part-flat f g each [] = tt
 part-flat f g each (x ∷ xs) = part-joined (f x) (flat_map f xs) (g x) (flat_map g xs) (each x) (part-flat f g each xs)
 
 -- ---- part by part
 
-part-value : (c : Constant Place) → Part (places (told.constant_mentions c)) (value_place c ∷ [])
+pub part-value : (c : Constant Place) → Part (places (told.constant_mentions c)) (value_place c ∷ [])
 part-value (literal_constant p is_minus n q) = tt
 part-value (named_constant p is_minus n q) = inl (refl, tt)
 
@@ -91,10 +97,13 @@ mutual
   part-stmt (when_else p e a b) =
       part-joined (told.expr_mentions e) (told.stmts_mentions a ++ told.stmts_mentions b) (places (told.expr_mentions e)) (stmts_spots a ++ stmts_spots b) (part-all (places (told.expr_mentions e)))
       (part-joined (told.stmts_mentions a) (told.stmts_mentions b) (stmts_spots a) (stmts_spots b) (part-stmts a) (part-stmts b))
-  part-stmt (loop p name q low high a) = inl (refl, subst (λ l. Part (places l) (places (told.constant_mentions low) ++ value_place high ∷ stmts_spots a))
-      (sym (append_assoc (told.constant_mentions low) (told.constant_mentions high) (told.stmts_mentions a)))
-      (part-joined (told.constant_mentions low) (told.constant_mentions high ++ told.stmts_mentions a) (places (told.constant_mentions low)) (value_place high ∷ stmts_spots a)
-      (part-all (places (told.constant_mentions low))) (part-joined (told.constant_mentions high) (told.stmts_mentions a) (value_place high ∷ []) (stmts_spots a) (part-value high) (part-stmts a))))
+  part-stmt (loop p name q low high a) = inl (
+    refl,
+    subst (λ l. Part (places l) (places (told.constant_mentions low) ++ value_place high ∷ stmts_spots a))
+        (sym (append_assoc (told.constant_mentions low) (told.constant_mentions high) (told.stmts_mentions a)))
+        (part-joined (told.constant_mentions low) (told.constant_mentions high ++ told.stmts_mentions a) (places (told.constant_mentions low)) (value_place high ∷ stmts_spots a)
+        (part-all (places (told.constant_mentions low))) (part-joined (told.constant_mentions high) (told.stmts_mentions a) (value_place high ∷ []) (stmts_spots a) (part-value high) (part-stmts a))),
+  )
   part-stmt (exit_when p e) = part-all (stmt_spots (exit_when p e))
   part-stmt (get p dev q r) = part-all (stmt_spots (get p dev q r))
   part-stmt (put p dev q e) = part-all (stmt_spots (put p dev q e))
@@ -108,13 +117,13 @@ mutual
   part-stmts no_stmts = tt
   part-stmts (stmts s ss) = part-joined (told.stmt_mentions s) (told.stmts_mentions ss) (stmt_spots s) (stmts_spots ss) (part-stmt s) (part-stmts ss)
 
-part-var : (scope : Scope) (v : Var Place) → Part (places (told.var_mentions scope v)) (var_spots v)
+pub part-var : (scope : Scope) (v : Var Place) → Part (places (told.var_mentions scope v)) (var_spots v)
 part-var scope v = part-all (var_spots v)
 
-part-param : (scope : Scope) (v : Param Place) → Part (places (told.param_mentions scope v)) (param_spots v)
+pub part-param : (scope : Scope) (v : Param Place) → Part (places (told.param_mentions scope v)) (param_spots v)
 part-param scope v = part-all (param_spots v)
 
-part-member : (scope : Scope) (m : Member Place) → Part (places (told.member_mentions scope m)) (member_spots m)
+pub part-member : (scope : Scope) (m : Member Place) → Part (places (told.member_mentions scope m)) (member_spots m)
 part-member scope (variable_member v) = part-var scope v
 part-member scope (condition_member name place) = part-all (place ∷ [])
 
@@ -129,24 +138,30 @@ part-routine is_entry scope r =
     let at_body = part-joined (told.stmts_mentions r.body) (value ++ end) (stmts_spots r.body) (places value ++ r.close_place ∷ []) (part-stmts r.body) at_value in
     let at_vars = part-joined vars (told.stmts_mentions r.body ++ (value ++ end)) (flat_map var_spots r.vars) (stmts_spots r.body ++ (places value ++ r.close_place ∷ [])) (part-flat (told.var_mentions own) var_spots (part-var own) r.vars) at_body in
     let at_result = part-joined result (vars ++ (told.stmts_mentions r.body ++ (value ++ end))) (places result) (flat_map var_spots r.vars ++ (stmts_spots r.body ++ (places value ++ r.close_place ∷ []))) (part-all (places result)) at_vars in
-    inl (refl, part-joined (flat_map (told.param_mentions own) r.params) (result ++ (vars ++ (told.stmts_mentions r.body ++ (value ++ end)))) (flat_map param_spots r.params)
-    (places result ++ (flat_map var_spots r.vars ++ (stmts_spots r.body ++ (places value ++ r.close_place ∷ [])))) (part-flat (told.param_mentions own) param_spots (part-param own) r.params) at_result)
+    inl (
+      refl,
+      part-joined (flat_map (told.param_mentions own) r.params) (result ++ (vars ++ (told.stmts_mentions r.body ++ (value ++ end)))) (flat_map param_spots r.params)
+          (places result ++ (flat_map var_spots r.vars ++ (stmts_spots r.body ++ (places value ++ r.close_place ∷ [])))) (part-flat (told.param_mentions own) param_spots (part-param own) r.params) at_result,
+    )
 
-part-monitor : (scope : Scope) (m : Monitor Place) → Part (places (told.monitor_mentions scope m)) (monitor_spots m)
+pub part-monitor : (scope : Scope) (m : Monitor Place) → Part (places (told.monitor_mentions scope m)) (monitor_spots m)
 part-monitor scope m =
     let own : Scope = told.scope_from m.place m.close_place in
     let end : List Mention = told.closes m.close m.close_place m.place ∷ [] in
     let entries : List Mention = flat_map (told.routine_mentions true own) m.entries in
     let at_entries = part-joined entries end (flat_map routine_spots m.entries) (m.close_place ∷ []) (part-flat (told.routine_mentions true own) routine_spots (part-routine true own) m.entries) (part-all (m.close_place ∷ [])) in
-    inl (refl, part-joined (flat_map (told.member_mentions own) m.members) (entries ++ end) (flat_map member_spots m.members) (flat_map routine_spots m.entries ++ m.close_place ∷ [])
-    (part-flat (told.member_mentions own) member_spots (part-member own) m.members) at_entries)
+    inl (
+      refl,
+      part-joined (flat_map (told.member_mentions own) m.members) (entries ++ end) (flat_map member_spots m.members) (flat_map routine_spots m.entries ++ m.close_place ∷ [])
+          (part-flat (told.member_mentions own) member_spots (part-member own) m.members) at_entries,
+    )
 
-part-handler : (h : Option (Handler Place)) → Part (places (option_map_or told.handler_mentions h [])) (handler_spots h)
+pub part-handler : (h : Option (Handler Place)) → Part (places (option_map_or told.handler_mentions h [])) (handler_spots h)
 part-handler None = tt
 part-handler (Some h) =
     let numbers : List Mention = flat_map told.constant_mentions h.numbers in part-joined numbers (told.stmts_mentions h.body) (places numbers) (stmts_spots h.body) (part-all (places numbers)) (part-stmts h.body)
 
-part-process : (scope : Scope) (p : Process Place) → Part (places (told.process_mentions scope p)) (process_spots p)
+pub part-process : (scope : Scope) (p : Process Place) → Part (places (told.process_mentions scope p)) (process_spots p)
 part-process scope p =
     let own : Scope = told.scope_from p.place p.close_place in
     let end : List Mention = told.closes p.close p.close_place p.place ∷ [] in
@@ -160,10 +175,13 @@ part-process scope p =
     (part-flat (told.routine_mentions false own) routine_spots (part-routine false own) p.routines) at_body in
     let at_vars = part-joined vars (routines ++ (told.stmts_mentions p.body ++ (handled ++ end))) (flat_map var_spots p.vars)
     (flat_map routine_spots p.routines ++ (stmts_spots p.body ++ (handler_spots p.handler ++ p.close_place ∷ []))) (part-flat (told.var_mentions own) var_spots (part-var own) p.vars) at_routines in
-    inl (refl, part-joined begun (vars ++ (routines ++ (told.stmts_mentions p.body ++ (handled ++ end)))) (places begun)
-    (flat_map var_spots p.vars ++ (flat_map routine_spots p.routines ++ (stmts_spots p.body ++ (handler_spots p.handler ++ p.close_place ∷ [])))) (part-all (places begun)) at_vars)
+    inl (
+      refl,
+      part-joined begun (vars ++ (routines ++ (told.stmts_mentions p.body ++ (handled ++ end)))) (places begun)
+          (flat_map var_spots p.vars ++ (flat_map routine_spots p.routines ++ (stmts_spots p.body ++ (handler_spots p.handler ++ p.close_place ∷ [])))) (part-all (places begun)) at_vars,
+    )
 
-part-decl : (scope : Scope) (d : Decl Place) → Part (places (told.decl_mentions scope d)) (decl_spots d)
+pub part-decl : (scope : Scope) (d : Decl Place) → Part (places (told.decl_mentions scope d)) (decl_spots d)
 part-decl scope (constant name place c) = inl (refl, part-value c)
 part-decl scope (device name place is_out) = part-all (place ∷ [])
 part-decl scope (event name place) = part-all (place ∷ [])

@@ -1,16 +1,16 @@
 -- The places of a program along its text: of its names, and of the values behind which loop variables and constants reach. They
 -- are places of its tokens, in their order.
 use Rattle.std.proofs.Common.{◌≡◌, ℕ, zero, suc, List, [], ◌∷◌, ◌++◌, map, Option, Some, None, true, false, refl, ap, sym, ◌∙◌, subst, inl, inr, ◌⊎◌, append_assoc, append-nil}
-use Rattle.std.specs.Prelude.{Bool, flat_map}
+use Rattle.std.specs.Prelude.{flat_map}
 use Rattle.std.specs.Option.{option_map_or}
-use Rattle.syntax_tree.specs.Plain.{Name, Op}
+use Rattle.syntax_tree.specs.Plain.{Op}
 use Rattle.syntax_tree.specs.Placed.{Constant, literal_constant, named_constant, Scalar, int, boolean, subrange, Kind, scalar, array, Var, Param, Expr, literal, truth, variable, element, call, minus, negation, paren, row, Exprs, no_exprs, exprs, Operands, no_operands, operand, Ref, whole, part, Stmt, assign, assign_entry, assign_empty, perform, perform_entry, when, when_else, loop, exit_when, get, put, wait, signal, broadcast, except, assert, Stmts, no_stmts, stmts, RoutineKind, procedure, function, Routine, Member, variable_member, condition_member, Monitor, Activation, periodic, at_event, Handler, Process, Decl, constant, device, event, routine, monitor, process, Prog}
 use Rattle.syntax_tree.specs.declared.place.Place.{Place}
 use Rattle.syntax.specs.Words as w
 use Rattle.syntax.specs.Words.{Word, named, number, Tok}
 use Rattle.syntax.specs.ExprGrammar.{at, a, ◌▷◌, nothing, Deeper, Each, Listed, SomeListed, Unsigned, IsConstant, op_word, OfLevel, IsExpr, AreOperands, AreArgs, AreMoreArgs, InParens}
 use Rattle.syntax.specs.StmtGrammar.{IsRef, IsStmt, AreStmts}
-use Rattle.syntax.specs.Grammar.{MOST_LEVELS, IsScalar, IsKind, IsVar, IsParam, kind_word, IsResult, IsValue, IsRoutine, IsMember, IsEntry, IsMonitor, IsDeadline, IsFirst, IsActivation, IsHandler, IsProcess, way_word, IsDecl, IsProg}
+use Rattle.syntax.specs.Grammar.{MOST_LEVELS, IsScalar, IsKind, IsVar, IsParam, kind_word, IsResult, IsValue, IsRoutine, IsMember, IsMonitor, IsDeadline, IsFirst, IsActivation, IsHandler, IsProcess, way_word, IsDecl, IsProg}
 use Rattle.message_names.specs.Mentions as told
 use Rattle.message_names.specs.Mentions.{Mention, value_place}
 

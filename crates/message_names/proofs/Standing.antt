@@ -1,13 +1,13 @@
 -- Names that stand at a place: as many of one list as of the other.
-use Rattle.std.proofs.Common.{◌≡◌, ◌≤◌, ℕ, ◌+◌, Bool, true, false, cond, List, [], ◌∷◌, Option, Some, None, ◌⊎◌, inl, inr, IsSome, option_map, refl, ap, sym, ◌∙◌, eqb, eqb-true, arith}
-use Rattle.std.specs.Prelude.{◌↔◌, count_by}
+use Rattle.std.proofs.Common.{◌≡◌, ◌≤◌, ℕ, ◌+◌, Bool, true, false, cond, List, [], ◌∷◌, Option, Some, None, inl, inr, IsSome, option_map, refl, ap, sym, ◌∙◌, eqb, eqb-true, arith}
+use Rattle.std.specs.Prelude.{count_by}
 use Rattle.std.proofs.lemmas.Bool.{and_parts, and_from, eq-eqb}
 use Rattle.std.proofs.lemmas.List.Sums.{sum_by-cons}
 use Rattle.syntax_tree.specs.Placed.{Prog}
 use Rattle.syntax_tree.specs.Parts.{same_place}
 use Rattle.syntax_tree.specs.declared.place.Place.{Place}
 use Rattle.static_names.specs.Occurrences.{Occurrence, names}
-use Rattle.static_names.specs.Rules.{Among, Fails, Stands, place_of}
+use Rattle.static_names.specs.Rules.{Among, place_of}
 use Rattle.message_names.specs.Laws.{ListsEachName, TellsOfFailures, TellsOfNames}
 use Rattle.message_names.specs.Mentions.{Mention, mentions}
 use Rattle.message_names.specs.Reach.{mention_at}
@@ -106,9 +106,12 @@ tells-of g number place T a =
     let y = of-program (weight place) g in told g number place (found place (mentions g) (omega (arith, x, y)))
 
 pub tells-of-names : TellsOfNames
-tells-of-names g number place = (λ h.
-    let x = there place (mentions g) (stood g number place h) in
-    let y = of-program (weight place) g in among place (names g) (omega (arith, x, y)), tells-of g number place (λ o. true ≡ true))
+tells-of-names g number place = (
+  λ h.
+      let x = there place (mentions g) (stood g number place h) in
+      let y = of-program (weight place) g in among place (names g) (omega (arith, x, y)),
+  tells-of g number place (λ o. true ≡ true),
+)
 
 pub tells-of-failures : TellsOfFailures
 tells-of-failures g number place (inl f) = tells-of g number place _ f.1

@@ -1,5 +1,5 @@
 -- What a person is told of a name that is wrong: the sentence, and the notes, which show other
--- declarations.
+-- declarations. It is asked for the numbers of the rules for names alone, 20 to 23.
 use Rattle.std.specs.Prelude.{ℕ, ◌++◌, ◌==◌, ◌&&◌, Bool, true, false, not, is_some, List, [], ◌∷◌, Option, Some, None, codes, length, option_map, if◌then◌else◌}
 use Rattle.std.specs.List.{concat}
 use Rattle.std.specs.Option.{option_map_or}

@@ -7,6 +7,10 @@
 //! with the places that it reaches; `specs/Reach.antt` says which of them a name means;
 //! `specs/Told.antt` says it in words. `name_sentence` and `name_notes` make exactly those; the
 //! only error is want of memory.
+//!
+//! Three laws (`laws`) tie this to the rules of `static_names`: there is a sentence wherever one of
+//! the rules fails; of a closing name it tells the name that has to be repeated; and what a name
+//! means that is used, with no full stop before it, is what the rules say.
 #![tactic(auto)]
 
 mod declarations;
@@ -23,5 +27,5 @@ mod statements;
 mod told;
 mod words;
 
-pub use laws::{closing_names_are_told, told_where_rules_fail};
+pub use laws::{closing_names_are_told, declarations_are_told, told_where_rules_fail, uses_are_told};
 pub use told::{name_notes, name_sentence};

@@ -77,7 +77,7 @@ fn add_closing(
     add_misclosed(text, mention.name, wanted)
 }
 
-/// Puts what is wrong with a name by the rule of this number.
+/// Puts what is wrong with a name by the rule of this number, 20 to 23.
 pub(crate) fn add_sentence(
     text: &mut Text,
     number: u8,
