@@ -52,8 +52,8 @@ fn judge_told(alloc: Global, raw: RawImage) -> Result<RawImage, ImageTextFault>
 /// # Errors
 ///
 /// `Text` exactly where the text is that of no image, with its first faulty line; `Invalid` exactly
-/// where it is that of one that is not valid, with the first part that fails in the order of the
-/// parts 6, 1, 7, 2, 3, 4, 5. `Memory` where there is not enough memory.
+/// where it is that of one that is not valid, with the first test that fails in the order of the
+/// tests 6, 1, 7, 2, 3, 4, 5. `Memory` where there is not enough memory.
 pub fn load_text(alloc: Global, text: &[u8]) -> Result<RawImage, ImageTextFault>
     ensures { LoadsText text.now result }
 {

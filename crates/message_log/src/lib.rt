@@ -11,9 +11,9 @@
 //! message. The only error is want of memory.
 //!
 //! Bytes that are no image, an image that is not valid and a text that is that of no image are told
-//! by the file's name, the number of the fault and a sentence, which names the part of an image
-//! (`faulty_part`) and what is wrong with it; of a text its line is shown too,
-//! with what may have led to the fault. `specs/Image.antt` defines these messages.
+//! by the file's name, the number of the fault and a sentence. That of an image that is not valid
+//! names the part of it that fails (`faulty_part`) and what is wrong there; of a text its line is
+//! shown too, with what may have led to the fault. `specs/Image.antt` defines these messages.
 #![tactic(auto)]
 
 mod bytes;

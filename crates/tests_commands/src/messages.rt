@@ -169,6 +169,43 @@ rte: `rte why P 1` takes the bounds apart; `rte fit P 1` tells what would fit
     },
 ];
 
+/// Texts of images with a wrong operand: in a routine, and below 0 in a process.
+const OPERANDS: &[Row] = &[
+    Row {
+        line: "asm A I",
+        given: &[(
+            "A",
+            "image a overhead 0
+routine program params 0 locals 0 result 0 start 0 run 4 suspend 0 waits 0
+tree
+process p periodic frame 10 deadline 10 first 0 rank 1 run 4 suspend 0 waits 0 block 0 bound 4 data 0 stack 0 locals 0 start 2
+tree
+LDL 3
+RET
+END
+end
+",
+        )],
+        failures: NO_FAILURES,
+        told: "A: V6: routine 0 of the program: the instruction at address 0: the operand 3 is not allowed\n",
+    },
+    Row {
+        line: "asm A I",
+        given: &[(
+            "A",
+            "image a overhead 0
+process p periodic frame 10 deadline 10 first 0 rank 1 run 4 suspend 0 waits 0 block 0 bound 4 data 0 stack 0 locals 0 start 0
+tree
+LDG -1
+END
+end
+",
+        )],
+        failures: NO_FAILURES,
+        told: "A: V6: process `p`: the instruction at address 0: the operand -1 is not allowed\n",
+    },
+];
+
 /// Just this is told.
 pub(crate) fn is_told(line: &str, message: &str, want: &str) -> Result<(), Fail> {
     if message == want {
@@ -192,6 +229,11 @@ fn tell(alloc: Global, rows: &[Row]) -> Result<(), Fail> {
 #[test]
 fn calls_tell_why_they_end(rt: HostRuntime) -> Result<(), Fail> {
     tell(rt.alloc(), MESSAGES)
+}
+
+#[test]
+fn wrong_operands_have_their_part(rt: HostRuntime) -> Result<(), Fail> {
+    tell(rt.alloc(), OPERANDS)
 }
 
 #[test]

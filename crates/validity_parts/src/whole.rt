@@ -102,7 +102,7 @@ fn fault_behind_operands(alloc: Global, raw: &RawImage) -> Result<Option<PartFau
     }
 }
 
-/// The first of all.
+/// The first fault of all.
 fn first_part(alloc: Global, raw: &RawImage) -> Result<Option<PartFault>, AllocError>
     requires { HasRanges raw.now }
     ensures { IfOk result (λ found. found ≡ defined_fault (image_of raw.now)) }

@@ -25,7 +25,7 @@ returns-in_ok-message-in-Invalid-clause-due c =
 pub returns-in_ok-message-in-Invalid-clause-told : goal.returns-in_ok-message-in-Invalid-clause-told
 returns-in_ok-message-in-Invalid-clause-told c =
     of_made c.valid_fault_line.result (valid_fault_line (record { number = c.test_number.result; a = c.in-Invalid.found.a; b = c.in-Invalid.found.b }))
-    (λ line. (text : List ℕ) → IsContent longest_text c.args.content.now text → LoadsText text (Err c.args.fault) → IsImageTextTold c.args.file.now text (told 4 line) c.in_ok-message-in-Invalid.message)
+    (λ line. (text : List ℕ) → IsContent longest_text c.args.content.now text → LoadsText text (Err c.args.fault) → IsImageTextTold c.args.file.now text (told 4 line) c.in_ok-message-in-Invalid.field-0)
     c.valid_fault_line.ensures
-    (λ text held answer. subst (λ n. IsImageTextTold c.args.file.now text (told 4 (valid_fault_line (record { number = n; a = c.in-Invalid.found.a; b = c.in-Invalid.found.b }))) c.in_ok-message-in-Invalid.message) (sym c.test_number.ensures)
-    (invalid_text_told c.args.fault c.in-Invalid.raw c.in-Invalid.found c.in-Invalid.is c.args.file.now c.in_ok-message-in-Invalid.message text c.in_ok-message-in-Invalid.ensures answer))
+    (λ text held answer. subst (λ n. IsImageTextTold c.args.file.now text (told 4 (valid_fault_line (record { number = n; a = c.in-Invalid.found.a; b = c.in-Invalid.found.b }))) c.in_ok-message-in-Invalid.field-0) (sym c.test_number.ensures)
+    (invalid_text_told c.args.fault c.in-Invalid.raw c.in-Invalid.found c.in-Invalid.is c.args.file.now c.in_ok-message-in-Invalid.field-0 text c.in_ok-message-in-Invalid.ensures answer))
