@@ -11,7 +11,9 @@ ghost use Rattle.event_log.specs.Finding.{AreFound};
 ghost use Rattle.event_log.specs.Logs.{AreWordNames};
 ghost use Rattle.event_log.specs.Parts.{ActIsTold, IsSaid, IsUnsaid, act_words};
 
-use crate::find::{NameIndex, find_condition, find_device, find_monitor, find_process};
+use crate::find::{
+    NameIndex, Near, find_condition, find_device_near, find_monitor_near, find_process,
+};
 use crate::verb::{Verb, verb_named};
 use base::Act;
 use text_fields::fields_number::signed;
@@ -103,8 +105,8 @@ fn read_woken(names: &NameIndex<'_, '_>, word: &[u8]) -> Option<Woken>
     }
 }
 
-/// The device and the value that the bytes spell.
-fn read_transfer(names: &NameIndex<'_, '_>, bytes: &[u8]) -> Option<Transfer>
+/// The device and the value that the bytes spell. The device of the number is tried first.
+fn read_transfer(names: &NameIndex<'_, '_>, bytes: &[u8], near: u16) -> Option<Transfer>
     requires words { AreWordNames names.now.names.now }
     requires found { AreFound names.now }
     ensures within { IfSome result (λ t. t.dev < length names.now.names.now.devices) }
@@ -116,7 +118,7 @@ fn read_transfer(names: &NameIndex<'_, '_>, bytes: &[u8]) -> Option<Transfer>
 {
     match cut_at(bytes, b' ') {
         None => None,
-        Some(parts) => match find_device(names, parts.before) {
+        Some(parts) => match find_device_near(names, parts.before, near) {
             None => None,
             Some(dev) => match signed(parts.after) {
                 None => None,
@@ -262,7 +264,7 @@ fn read_bare(verb: Verb) -> Option<Act>
 }
 
 /// The act with this verb and these bytes behind it.
-fn read_args(names: &NameIndex<'_, '_>, verb: Verb, bytes: &[u8]) -> Option<Act>
+fn read_args(names: &NameIndex<'_, '_>, verb: Verb, bytes: &[u8], near: Near) -> Option<Act>
     requires words { AreWordNames names.now.names.now }
     requires found { AreFound names.now }
     ensures found { IfSome result (λ a. IsSaid names.now.names.now verb (Some bytes.now) a) }
@@ -275,19 +277,19 @@ fn read_args(names: &NameIndex<'_, '_>, verb: Verb, bytes: &[u8]) -> Option<Act>
             None => None,
             Some(Counted { cond, number }) => Some(Act::TimeOut { cond, number }),
         },
-        Verb::Get => match read_transfer(names, bytes) {
+        Verb::Get => match read_transfer(names, bytes, near.device) {
             None => None,
             Some(Transfer { dev, value }) => Some(Act::Get { dev, value }),
         },
-        Verb::Put => match read_transfer(names, bytes) {
+        Verb::Put => match read_transfer(names, bytes, near.device) {
             None => None,
             Some(Transfer { dev, value }) => Some(Act::Put { dev, value }),
         },
-        Verb::Enter => match find_monitor(names, bytes) {
+        Verb::Enter => match find_monitor_near(names, bytes, near.monitor) {
             None => None,
             Some(mon) => Some(Act::Enter { mon }),
         },
-        Verb::Leave => match find_monitor(names, bytes) {
+        Verb::Leave => match find_monitor_near(names, bytes, near.monitor) {
             None => None,
             Some(mon) => Some(Act::Leave { mon }),
         },
@@ -318,7 +320,7 @@ fn read_args(names: &NameIndex<'_, '_>, verb: Verb, bytes: &[u8]) -> Option<Act>
 }
 
 /// The act that the bytes behind a process tell.
-pub fn read_act(names: &NameIndex<'_, '_>, bytes: &[u8]) -> Option<Act>
+pub fn read_act(names: &NameIndex<'_, '_>, bytes: &[u8], near: Near) -> Option<Act>
     requires words { AreWordNames names.now.names.now }
     requires found { AreFound names.now }
     ensures told { IfSome result (λ a. ActIsTold names.now.names.now a) }
@@ -333,7 +335,7 @@ pub fn read_act(names: &NameIndex<'_, '_>, bytes: &[u8]) -> Option<Act>
         },
         Some(parts) => match verb_named(parts.before) {
             None => None,
-            Some(verb) => read_args(names, verb, parts.after),
+            Some(verb) => read_args(names, verb, parts.after, near),
         },
     }
 }

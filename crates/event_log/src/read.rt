@@ -6,7 +6,7 @@ ghost use Rattle.event_log.specs.Finding.{AreFound};
 ghost use Rattle.event_log.specs.Logs.{AreFew, AreWordNames, IsFault, IsLog, longest_text};
 
 use crate::fault::LogFault;
-use crate::find::NameIndex;
+use crate::find::{NameIndex, Near};
 use crate::line::read_line;
 use crate::numbers::{device_numbers, numbers_of, qualified_names};
 use crate::words::are_words;
@@ -34,7 +34,11 @@ fn read_lines(
 {
     let mut events = List::new(alloc);
     let mut rest = text;
-    let mut near = 0;
+    let mut near = Near {
+        process: 0,
+        device: 0,
+        monitor: 0,
+    };
     while !rest.is_empty() {
         let number = events.len() as u32 + 1;
         match cut_at(rest, b'\n') {
@@ -42,7 +46,7 @@ fn read_lines(
             Some(parts) => match read_line(parts.before, names, near) {
                 None => return Err(LogFault::Line(number)),
                 Some(event) => {
-                    near = event.proc;
+                    near = near.after(&event);
                     events.push(event)?;
                     rest = parts.after;
                 }

@@ -3,3 +3,4 @@ pub mod Positions
 pub mod Queueing
 pub mod Exceptions
 pub mod Starting
+pub mod Free

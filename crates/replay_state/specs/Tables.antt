@@ -1,8 +1,8 @@
 -- Ranks and ceilings of a program by number, and the configurations of a program.
-use Rattle.std.specs.Prelude.{◌≡◌, ℕ, ◌<◌, None, length, slice_index, slice_index_or}
+use Rattle.std.specs.Prelude.{◌≡◌, ◌<◌, ◌&&◌, ℕ, Bool, true, List, [], ◌∷◌, None, is_some, length, not, slice_index, slice_index_or}
 use Rattle.syntax_tree.specs.Plain.{Program}
 use Rattle.source_semantics.specs.Names.{processes, monitors, condition_count}
-use Rattle.source_semantics.specs.Config.{Config}
+use Rattle.source_semantics.specs.Config.{Config, Hold}
 use Rattle.source_semantics.specs.Ranks.{rank, ceiling}
 use Rattle.replay_state.specs.declared.ranks.Ranks.{Ranks}
 
@@ -17,3 +17,8 @@ pub record AreRanksOf (g : Program) (r : Ranks) : Type 0 where
   pub each : (k : ℕ) → k < length (processes g) → slice_index r.ranks.items k ≡ rank g k
   pub ceiling_count : length r.ceilings.items ≡ length (monitors g)
   pub each_ceiling : (m : ℕ) → m < length (monitors g) → slice_index_or r.ceilings.items m None ≡ ceiling g m
+
+-- nobody is inside any of the monitors
+abbrev pub are_free : List Hold → Bool
+are_free [] = true
+are_free (h ∷ hs) = not (is_some h.occupant) && are_free hs
