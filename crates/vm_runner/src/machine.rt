@@ -45,6 +45,8 @@ pub struct Machine {
     board: MachineState,
     agenda: Timers,
     fired: EventBuffer,
+    /// Who is picked, while rows follow one another.
+    ranking: Ranking,
 }
 
 impl Machine {
@@ -62,6 +64,7 @@ impl Machine {
             board: MachineState::new(alloc, plan)?,
             agenda: Timers::new(alloc, plan, script)?,
             fired: EventBuffer::new(),
+            ranking: Ranking::new(),
         })
     }
 
@@ -190,7 +193,7 @@ impl Machine {
     /// One row more, from a tick at which nothing is due, up to the limit at most: what falls in it
     /// stands after the events before. The ranking is that of the processes, and stays so.
     #[inline(always)]
-    fn row_on(&mut self, plan: &DecodedImage, limit: u64, ranking: &mut Ranking)
+    fn row_on(&mut self, plan: &DecodedImage, limit: u64)
         ghost run: { Run }
         requires plan { IsOf run.image plan.now }
         requires runnable { IsRunnable run.image run.script }
@@ -199,13 +202,13 @@ impl Machine {
         requires before { self.old.tick < limit }
         requires calm { least self.old.agenda.slots ≢ Some self.old.tick }
         requires room { array_vec_len self.old.fired < 65 }
-        requires ranking { IsRanking run.image (state_of self.old.board).threads ranking.old }
+        requires ranking { IsRanking run.image (state_of self.old.board).threads self.old.ranking }
         ensures within { self.new.tick ≤ limit }
         ensures passed { self.old.tick < self.new.tick }
         ensures stands { StandsIn run.image run.script self.new }
         ensures events { self.new.fired.items ≡ self.old.fired.items ++
             events_between run.image run.script self.old.tick self.new.tick }
-        ensures ranking { IsRanking run.image (state_of self.new.board).threads ranking.new }
+        ensures ranking { IsRanking run.image (state_of self.new.board).threads self.new.ranking }
     {
         let most = span(&self.agenda, self.tick, limit);
         let ticks = take_row(
@@ -215,7 +218,7 @@ impl Machine {
             &mut self.fired,
             self.tick,
             most,
-            ranking,
+            &mut self.ranking,
         );
         self.tick += ticks;
     }
@@ -239,9 +242,9 @@ impl Machine {
         if !self.goes_on(limit) {
             return;
         }
-        let mut ranking = Ranking::of(plan, &self.board);
+        self.ranking.fill(plan, &self.board);
         while self.goes_on(limit) {
-            self.row_on(plan, limit, &mut ranking);
+            self.row_on(plan, limit);
         }
     }
 

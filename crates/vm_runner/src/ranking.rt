@@ -74,19 +74,27 @@ fn least_of(entries: &[u32]) -> u32
 }
 
 impl Ranking {
-    /// The numbers of all processes.
-    pub(crate) fn of(plan: &DecodedImage, board: &MachineState) -> Ranking
+    /// Room for the numbers; none is known.
+    pub(crate) fn new() -> Ranking {
+        Ranking {
+            entries: ArrayVec::new(),
+            least: NOBODY,
+        }
+    }
+
+    /// Notes the numbers of all processes.
+    pub(crate) fn fill(&mut self, plan: &DecodedImage, board: &MachineState)
         ghost image: { Image }
         requires plan { IsOf image plan.now }
         requires board { IsBoardOf image board.now }
-        ensures { IsRanking image (state_of board.now).threads result }
+        ensures { IsRanking image (state_of board.now).threads self.new }
     {
-        let mut entries = ArrayVec::new();
+        self.entries.clear();
         for k in 0..board.cells.len() {
-            entries.push(entry_of(plan, &plan.processes[k], &board.cells[k], k));
+            self.entries
+                .push(entry_of(plan, &plan.processes[k], &board.cells[k], k));
         }
-        let least = least_of(entries.as_slice());
-        Ranking { entries, least }
+        self.least = least_of(self.entries.as_slice());
     }
 
     /// The process that is picked.
@@ -143,7 +151,7 @@ impl Ranking {
         ensures { IsRanking at.image (state_of board.now).threads self.new }
     {
         if is_some_at_queue(events) {
-            *self = Ranking::of(plan, board);
+            self.fill(plan, board);
         } else {
             self.note(plan, board, who);
         }

@@ -5,7 +5,7 @@ use Rattle.vm_state.proofs.Waking.{thread_at}
 use Rattle.vm_state.specs.Board.{state_of}
 use Rattle.vm_turn.proofs.Turning.{process_is, read_at}
 use Rattle.vm_runner.proofs.Foremost.{one_first}
-use Rattle.vm_runner.proofs.ranking.Ranking.of.Goals as goal
+use Rattle.vm_runner.proofs.ranking.Ranking.fill.Goals as goal
 
 pub index-requires : goal.index-requires
 index-requires g c =
@@ -24,5 +24,5 @@ loop-k-preserved g c =
     let is = process_is g.image.processes c.args.plan.now.processes.items k whole.0 c.index.result.now c.requires.0.processes whole.1 known in
     record {
       count = omega (arith, c.push.ensures.len, c.loop-k.invariant.count);
-      entries = one_first g.image (state_of c.args.board.now).threads c.loop-k.entries.items c.push.new.self.items k c.entry_of.result whole.0 _ c.loop-k.invariant.entries c.loop-k.invariant.count c.push.ensures.items whole.1 thread (c.entry_of.ensures g.image whole.0 c.requires.0 is);
+      entries = one_first g.image (state_of c.args.board.now).threads c.loop-k.self.entries.items c.push.new.self.items k c.entry_of.result whole.0 _ c.loop-k.invariant.entries c.loop-k.invariant.count c.push.ensures.items whole.1 thread (c.entry_of.ensures g.image whole.0 c.requires.0 is);
     }
