@@ -53,3 +53,9 @@ module _ (image : Image) (script : Script) where
       ap (λ (k : ℕ). events_from image script k t (state_at image script t)) all
       ∙ (cut n m t
       ∙ ap (λ (w : ℕ). events_from image script n t (state_at image script t) ++ events_from image script m w (state_at image script w)) there)
+
+  -- no event falls in no tick
+  pub none_between : (t : ℕ) → events_between image script t t ≡ []
+  none_between t =
+      let none : t - t ≡ 0 = omega arith in
+      ap (λ (k : ℕ). events_from image script k t (state_at image script t)) none ∙ no_events t (state_at image script t)

@@ -7,3 +7,4 @@ pub mod Ending
 pub mod Telling
 pub mod Cut
 pub mod Calm
+pub mod Foremost

@@ -21,7 +21,7 @@ use Rattle.vm_turn.specs.Settled.{CanPass}
 use Rattle.vm_turn.proofs.Safely.{Found, picked, turn_can_pass}
 use Rattle.vm_runner.specs.Turn.{AreEarly, HasPassed, Run}
 use Rattle.vm_runner.specs.Waits.{WaitsFrom, is_some_at_queue}
-use Rattle.vm_runner.proofs.Waiting.{settle_from, settle_same}
+use Rattle.vm_runner.proofs.Waiting.{settle_alone, settle_from, settle_same}
 
 -- the turn of n ticks from tick t on in the run, after the start events of t
 abbrev pub turn_of : Run → ℕ → ℕ → Ticked
@@ -81,12 +81,13 @@ settled run t n k can is =
     ∙ ap (λ (x : Option Process). pass_thread run.image t n k s x (slice_get s.threads k)) can.process
     ∙ ap (λ (x : Option Thread). pass_thread run.image t n k s (Some can.p) x) can.ready
 
--- what the turn leaves of the waits
-pub record KeepsWaits (run : Run) (t n : ℕ) : Type 0 where
+-- what the turn of process k leaves of the waits, and of the others
+pub record KeepsWaits (run : Run) (t n k : ℕ) : Type 0 where
   pub later : WaitsFrom (t + n) (begun run.image run.script t).threads (turn_of run t n).state.threads
   pub same : is_some_at_queue (turn_of run t n).events ≡ false → (j : ℕ) → time_out_of (slice_get (turn_of run t n).state.threads j) ≡ time_out_of (slice_get (begun run.image run.script t).threads j)
+  pub alone : is_some_at_queue (turn_of run t n).events ≡ false → (j : ℕ) → (k ≡ j → ⊥) → slice_get (turn_of run t n).state.threads j ≡ slice_get (begun run.image run.script t).threads j
 
-pub keeps_waits : (run : Run) (t n k : ℕ) → IsSafeRun run.image run.script → IsTurn run t n → place_of (pick run.image (begun run.image run.script t).threads) ≡ Some k → KeepsWaits run t n
+pub keeps_waits : (run : Run) (t n k : ℕ) → IsSafeRun run.image run.script → IsTurn run t n → place_of (pick run.image (begun run.image run.script t).threads) ≡ Some k → KeepsWaits run t n k
 keeps_waits run t n k safe it is =
     let s : State = begun run.image run.script t in
     let can : CanPass run.image n k s = turn_can_pass run.image run.script t n k safe it is in
@@ -98,6 +99,9 @@ keeps_waits run t n k safe it is =
       same = λ quiet j.
           ap (λ (x : Ticked). time_out_of (slice_get x.state.threads j)) all
           ∙ settle_same run.image (t + (n - 1)) k can.p can.job s out j (sym (ap (λ (x : Ticked). is_some_at_queue x.events) all) ∙ quiet) can.ready;
+      alone = λ quiet j apart.
+          ap (λ (x : Ticked). slice_get x.state.threads j) all
+          ∙ settle_alone run.image (t + (n - 1)) k can.p can.job s out j (sym (ap (λ (x : Ticked). is_some_at_queue x.events) all) ∙ quiet) apart;
     }
 
 pub picked_at : (run : Run) (t : ℕ) (who : Option ℕ) (s : State) → s ≡ begun run.image run.script t → place_of (pick run.image s.threads) ≡ who → place_of (pick run.image (begun run.image run.script t).threads) ≡ who
@@ -141,7 +145,7 @@ turn_alone image script t n safe it =
 pub picked_passes : (run : Run) (t n k : ℕ) (s s' : State) (es es' : List Event) → IsSafeRun run.image run.script → IsTurn run t n → s ≡ begun run.image run.script t → place_of (pick run.image s.threads) ≡ Some k → s' ≡ (turn_of run t n).state → es' ≡ es ++ (turn_of run t n).events
     → HasPassed run t n s' es es'
 picked_passes run t n k s s' es es' safe it is at is' told =
-    let kept : KeepsWaits run t n = keeps_waits run t n k safe it (picked_at run t (Some k) s is at) in
+    let kept : KeepsWaits run t n k = keeps_waits run t n k safe it (picked_at run t (Some k) s is at) in
     record {
       some = it.some;
       state = is' ∙ sym (turn_stays_in_run run.image run.script safe.unstuck t n it).1;
@@ -150,6 +154,9 @@ picked_passes run t n k s s' es es' safe it is at is' told =
       events = turn_alone run.image run.script t n safe it;
       waits = subst (λ (x : State). WaitsFrom (t + n) (begun run.image run.script t).threads x.threads) (sym is') kept.later;
       same = λ quiet j. ap (λ (x : State). time_out_of (slice_get x.threads j)) is' ∙ kept.same quiet j;
+      alone = λ quiet j apart.
+          ap (λ (x : State). slice_get x.threads j) is'
+          ∙ kept.alone quiet j (λ same. apart (picked_at run t (Some k) s is at ∙ ap (λ (m : ℕ). Some m) same));
     }
 
 -- a turn in which nobody runs
@@ -165,4 +172,5 @@ idle_passes run t n s es safe is none some quiet =
       events = turn_alone run.image run.script t n safe it ∙ ap (λ (x : Ticked). (starts run.image run.script t (state_at run.image run.script t)).events ++ x.events) all;
       waits = λ j c d e job at. inl (ap (λ (x : State). slice_get x.threads j) (sym is) ∙ at);
       same = λ quiet j. ap (λ (x : State). time_out_of (slice_get x.threads j)) is;
+      alone = λ quiet j apart. ap (λ (x : State). slice_get x.threads j) is;
     }

@@ -38,7 +38,7 @@ use Rattle.machine_semantics.specs.Queues.{AreQueued, waits_on}
 use Rattle.vm_runner.specs.Turn.{BurnsNothing, HasPassed, Run, unspent}
 use Rattle.vm_runner.specs.Waits.{WaitsFrom, is_some_at_queue}
 use Rattle.vm_runner.proofs.Passing.{turn_alone}
-use Rattle.vm_runner.proofs.Waiting.{from_then, ready_from, set_same, settle_from, settle_same}
+use Rattle.vm_runner.proofs.Waiting.{from_then, ready_from, set_same, settle_alone, settle_from, settle_same}
 
 -- ---- the last instruction of a row
 
@@ -455,4 +455,9 @@ row_passes run t most k passed h s' s'' es es' row has ends =
           ap (λ (x : State). time_out_of (slice_get x.threads j)) now
           ∙ settle_same image u k r.p has.new.job w out j (ap (λ (x : Ticked). is_some_at_queue x.events) (sym r.settled) ∙ quiet) r.ready
           ∙ set_same s.threads k j (Ready has.new.job) (Ready row.job) row.is.ready refl refl;
+      alone = λ quiet j apart.
+          let differ : k ≡ j → ⊥ = λ same. apart (row.is.picked ∙ ap (λ (m : ℕ). Some m) same) in
+          ap (λ (x : State). slice_get x.threads j) now
+          ∙ settle_alone image u k r.p has.new.job w out j (ap (λ (x : Ticked). is_some_at_queue x.events) (sym r.settled) ∙ quiet) differ
+          ∙ get_other s.threads k j (Ready has.new.job) differ;
     }

@@ -81,6 +81,17 @@ settle_same image u k p job s (Raises e) j quiet at = set_same s.threads k j (Re
 settle_same image u k p job s Ends j quiet at = set_same s.threads k j Idle (Ready job) at refl refl
 settle_same image u k p job s Stuck j quiet at = refl
 
+-- and every other process stands as before
+pub settle_alone : (image : Image) (u k : ℕ) (p : Process) (job : Job) (s : State) (out : Outcome) (j : ℕ) → is_some_at_queue (settle image u k p job s out).events ≡ false → (k ≡ j → ⊥) → slice_get (settle image u k p job s out).state.threads j ≡ slice_get s.threads j
+settle_alone image u k p job s (Goes o) j quiet apart = get_other s.threads k j (Ready o.job) apart
+settle_alone image u k p job s (Does a o) j quiet apart = get_other s.threads k j (Ready o.job) apart
+settle_alone image u k p job s (Signals c o) j quiet apart = absurd (let no : true ≡ false = quiet in cc)
+settle_alone image u k p job s (Broadcasts c o) j quiet apart = absurd (let no : true ≡ false = quiet in cc)
+settle_alone image u k p job s (Waits c limit e o) j quiet apart = absurd (let no : true ≡ false = quiet in cc)
+settle_alone image u k p job s (Raises e) j quiet apart = get_other s.threads k j (Ready (raised p e job)) apart
+settle_alone image u k p job s Ends j quiet apart = get_other s.threads k j Idle apart
+settle_alone image u k p job s Stuck j quiet apart = refl
+
 -- what stands after the first n is what came to those
 pub come_after : (old fell all : List Event) (n : ℕ) → n ≡ length old → all ≡ old ++ fell → take (length all - n) (drop n all) ≡ fell
 come_after old fell all n many is =

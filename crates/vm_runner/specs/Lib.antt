@@ -5,3 +5,4 @@ pub mod Standing
 pub mod Ends
 pub mod Completing
 pub mod Alike
+pub mod Ranking

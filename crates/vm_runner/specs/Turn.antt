@@ -1,5 +1,5 @@
 -- A turn of a run.
-use Rattle.std.specs.Prelude.{◌≡◌, ◌≤◌, ◌+◌, ◌++◌, ℕ, false, List, Some, slice_get}
+use Rattle.std.specs.Prelude.{◌≡◌, ◌≢◌, ◌≤◌, ◌+◌, ◌++◌, ℕ, false, List, Some, slice_get}
 use Rattle.base.specs.declared.event.Event.{Event}
 use Rattle.machine_semantics.specs.Image.{Image, Script}
 use Rattle.machine_semantics.specs.Starts.{starts}
@@ -7,6 +7,8 @@ use Rattle.machine_semantics.specs.State.{Job, Ready, State}
 use Rattle.machine_semantics.specs.Run.{events_from, state_at}
 use Rattle.vm_instructions.specs.declared.burst.Halt.{Halt}
 use Rattle.vm_instructions.specs.declared.burst.Halt.TheVariants as halt
+use Rattle.machine_semantics.specs.Tick.{pick}
+use Rattle.vm_stretch.specs.Stretch.{place_of}
 use Rattle.vm_stretch.specs.StretchDue.{time_out_of}
 use Rattle.vm_stretch.specs.RowLaws.{begun}
 use Rattle.vm_turn.specs.Own.{IsEarly}
@@ -29,6 +31,8 @@ pub record HasPassed (run : Run) (t n : ℕ) (s : State) (before after : List Ev
   -- nothing fell at a queue all are old
   pub waits : WaitsFrom (t + n) (begun run.image run.script t).threads s.threads
   pub same : is_some_at_queue fell ≡ false → (j : ℕ) → time_out_of (slice_get s.threads j) ≡ time_out_of (slice_get (begun run.image run.script t).threads j)
+  -- and all but the process that was picked stand as they did
+  pub alone : is_some_at_queue fell ≡ false → (j : ℕ) → place_of (pick run.image (begun run.image run.script t).threads) ≢ Some j → slice_get s.threads j ≡ slice_get (begun run.image run.script t).threads j
 
 -- each process that is ready has ticks left of its instruction
 abbrev pub AreEarly : Image → State → Type 0

@@ -14,6 +14,7 @@
 
 mod completing;
 mod machine;
+mod ranking;
 mod span;
 mod turn;
 mod waits;

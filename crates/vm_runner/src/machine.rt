@@ -5,18 +5,21 @@ ghost use Rattle.arrayvec.specs.ArrayVec.{array_vec_len};
 ghost use Rattle.vm_stretch.specs.Due.{least};
 ghost use Rattle.machine_semantics.specs.Image.{Image};
 ghost use Rattle.vm_releases.specs.Begin.{script_of};
+ghost use Rattle.vm_state.specs.Board.{state_of};
 ghost use Rattle.vm_state.specs.Plan.{IsOf};
 ghost use Rattle.vm_stretch.specs.Completed.{last_completed};
 ghost use Rattle.vm_runner.specs.Alike.{StayAlike};
 ghost use Rattle.vm_runner.specs.Completing.{NoneBetween};
 ghost use Rattle.vm_runner.specs.Ends.{IsTurnEnd};
+ghost use Rattle.vm_runner.specs.Ranking.{IsRanking};
 ghost use Rattle.vm_runner.specs.Runnable.{IsRunnable};
 ghost use Rattle.vm_runner.specs.Standing.{HasBegun, StandsIn, events_between};
 ghost use Rattle.vm_runner.specs.Turn.{Run};
 
 use crate::completing::completing;
+use crate::ranking::Ranking;
 use crate::span::span;
-use crate::turn::{Reach, take_turn};
+use crate::turn::{Reach, take_row, take_turn};
 use base::Event;
 use script::Script;
 use std::alloc::{AllocError, Global};
@@ -42,6 +45,8 @@ pub struct Machine {
     board: MachineState,
     agenda: Timers,
     fired: EventBuffer,
+    /// Who is picked, while rows follow one another.
+    ranking: Ranking,
 }
 
 impl Machine {
@@ -59,6 +64,7 @@ impl Machine {
             board: MachineState::new(alloc, plan)?,
             agenda: Timers::new(alloc, plan, script)?,
             fired: EventBuffer::new(),
+            ranking: Ranking::new(),
         })
     }
 
@@ -185,7 +191,7 @@ impl Machine {
     }
 
     /// One row more, from a tick at which nothing is due, up to the limit at most: what falls in it
-    /// stands after the events before.
+    /// stands after the events before. The ranking is that of the processes, and stays so.
     #[inline(always)]
     fn row_on(&mut self, plan: &DecodedImage, limit: u64)
         ghost run: { Run }
@@ -196,23 +202,50 @@ impl Machine {
         requires before { self.old.tick < limit }
         requires calm { least self.old.agenda.slots ≢ Some self.old.tick }
         requires room { array_vec_len self.old.fired < 65 }
+        requires ranking { IsRanking run.image (state_of self.old.board).threads self.old.ranking }
         ensures within { self.new.tick ≤ limit }
         ensures passed { self.old.tick < self.new.tick }
         ensures stands { StandsIn run.image run.script self.new }
         ensures events { self.new.fired.items ≡ self.old.fired.items ++
             events_between run.image run.script self.old.tick self.new.tick }
+        ensures ranking { IsRanking run.image (state_of self.new.board).threads self.new.ranking }
     {
         let most = span(&self.agenda, self.tick, limit);
-        let ticks = take_turn(
+        let ticks = take_row(
             plan,
             &mut self.board,
             &mut self.agenda,
             &mut self.fired,
             self.tick,
             most,
-            Reach::Row,
+            &mut self.ranking,
         );
         self.tick += ticks;
+    }
+
+    /// Rows, up to the limit at most, while nothing is due and there is room for one more event:
+    /// what falls in them stands after the events before.
+    #[inline(always)]
+    fn rows_on(&mut self, plan: &DecodedImage, limit: u64)
+        ghost run: { Run }
+        requires plan { IsOf run.image plan.now }
+        requires runnable { IsRunnable run.image run.script }
+        requires stands { StandsIn run.image run.script self.old }
+        requires limit { limit ≤ run.script.end_tick }
+        requires within { self.old.tick ≤ limit }
+        ensures within { self.new.tick ≤ limit }
+        ensures passed { self.old.tick ≤ self.new.tick }
+        ensures stands { StandsIn run.image run.script self.new }
+        ensures events { self.new.fired.items ≡ self.old.fired.items ++
+            events_between run.image run.script self.old.tick self.new.tick }
+    {
+        if !self.goes_on(limit) {
+            return;
+        }
+        self.ranking.fill(plan, &self.board);
+        while self.goes_on(limit) {
+            self.row_on(plan, limit);
+        }
     }
 
     /// The start events of the tick and a row, and then rows, up to the limit at most, while
@@ -233,9 +266,7 @@ impl Machine {
             events_between run.image run.script self.old.tick self.new.tick }
     {
         let _ = self.step(plan, script, limit, Reach::Row);
-        while self.goes_on(limit) {
-            self.row_on(plan, limit);
-        }
+        self.rows_on(plan, limit);
     }
 
     /// What a call came to in which ticks passed.

@@ -11,9 +11,11 @@ ghost use Rattle.vm_stretch.specs.Quiet.{AreQuiet};
 ghost use Rattle.vm_stretch.specs.RowLaws.{begun};
 ghost use Rattle.vm_stretch.specs.Stretch.{FitsIn, place_of};
 ghost use Rattle.vm_runner.specs.Ends.{lasts, lasts_thread};
+ghost use Rattle.vm_runner.specs.Ranking.{IsRanking, RowOf};
 ghost use Rattle.vm_runner.specs.Runnable.{IsRunnable};
 ghost use Rattle.vm_runner.specs.Turn.{AreEarly, BurnsNothing, HasPassed, Run, unspent};
 
+use crate::ranking::Ranking;
 use crate::waits::note_waits;
 use vm_instructions::Halt;
 use vm_releases::Timers;
@@ -232,5 +234,51 @@ pub(crate) fn take_turn(
     let before = fired.len();
     let ticks = pass_ticks(plan, board, who, tick, most, fired, reach);
     note_waits(plan, board, agenda, &fired.as_slice()[before..]);
+    ticks
+}
+
+/// A row of so many ticks at most, of the process that the ranking tells: how many it took.
+#[inline(always)]
+pub(crate) fn take_row(
+    plan: &DecodedImage,
+    board: &mut MachineState,
+    agenda: &mut Timers,
+    fired: &mut EventBuffer,
+    tick: u64,
+    most: u64,
+    ranking: &mut Ranking,
+) -> u64
+    ghost it: { RowOf }
+    requires plan { IsOf it.run.image plan.now }
+    requires runnable { IsRunnable it.run.image it.run.script }
+    requires board { IsBoardOf it.run.image board.old }
+    requires begun { state_of board.old ≡ begun it.run.image it.run.script tick }
+    requires slots { HasSlots it.run.image it.run.script tick agenda.old.done
+        (state_of board.old) agenda.old.slots }
+    requires clear { NoneBefore (tick + most) agenda.old.slots }
+    requires some { 1 ≤ most }
+    requires end { tick + most < 2 ^ 63 }
+    requires fired { array_vec_len fired.old < 65 }
+    requires threads { it.threads ≡ (state_of board.old).threads }
+    requires ranking { IsRanking it.run.image it.threads ranking.old }
+    ensures passed { HasPassed it.run tick result
+        (state_of board.new) fired.old.items fired.new.items }
+    ensures most { result ≤ most }
+    ensures board { IsBoardOf it.run.image board.new }
+    ensures slots { HasSlots it.run.image it.run.script tick agenda.new.done
+        (state_of board.new) agenda.new.slots }
+    ensures clear { NoneBefore (tick + result) agenda.new.slots }
+    ensures done { agenda.new.done ≡ agenda.old.done }
+    ensures order { agenda.new.order ≡ agenda.old.order }
+    ensures ranking { IsRanking it.run.image (state_of board.new).threads ranking.new }
+{
+    let Some(who) = ranking.first() else {
+        return most;
+    };
+    let before = fired.len();
+    let ticks = pass_picked(plan, board, who, tick, most, fired);
+    let fell = &fired.as_slice()[before..];
+    note_waits(plan, board, agenda, fell);
+    ranking.follow(plan, board, who, fell);
     ticks
 }

@@ -53,7 +53,7 @@ fn is_at_queue(event: &Event) -> bool
 
 /// Whether one of the events is such.
 #[inline(always)]
-fn is_some_at_queue(events: &[Event]) -> bool
+pub(crate) fn is_some_at_queue(events: &[Event]) -> bool
     ensures { result ≡ is_some_at_queue events.now }
 {
     for event in events {

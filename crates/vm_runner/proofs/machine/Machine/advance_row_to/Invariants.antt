@@ -1,20 +1,7 @@
-use Rattle.std.proofs.Common.{◌≡◌, ◌≤◌, ◌<◌, ◌-◌}
-use Rattle.vm_runner.specs.Standing.{StandsIn, events_between}
 use Rattle.vm_runner.proofs.machine.Machine.advance_row_to.Given as goal
 
 abbrev pub ghost-step : goal.ghost-step
 ghost-step g a = g.run
 
-abbrev pub ghost-row_on : goal.ghost-row_on
-ghost-row_on g a = g.run
-
-abbrev pub invariant-loop-self : goal.invariant-loop-self
-invariant-loop-self g l = record {
-  stands : StandsIn g.run.image g.run.script l.self;
-  passed : l.fn.self.tick < l.self.tick;
-  within : l.self.tick ≤ l.limit;
-  events : l.self.fired.items ≡ events_between g.run.image g.run.script l.fn.self.tick l.self.tick;
-}
-
-abbrev pub decreases-loop-self : goal.decreases-loop-self
-decreases-loop-self g l = l.limit - l.self.tick
+abbrev pub ghost-rows_on : goal.ghost-rows_on
+ghost-rows_on g a = g.run
