@@ -144,8 +144,8 @@ mutual
       let mean : Sees (outer ++ (i ∷ behind)) (inside (rule.loop_name name q ∷ []) here).means =
       sees-within limit outer (i ∷ []) behind (rule.loop_name name q ∷ []) here.means (under-left limit outer behind at_limit) (under-right limit outer behind at_limit) (only i limit refl) (refl, refl, tt) means in (
         taken-as ms i name q _ refl refl (within i (inl refl)) (_, refl)
-        (ap is_some (counted ms outer [] [] behind limit q name (seen q (inl refl) ∙ ap (λ v. outer ++ (v ++ behind)) (variable-view name q low high a p rises))
-        (under-left limit outer behind at_limit) (under-right limit outer behind at_limit) (λ m is. absurd is) (λ m is. absurd is) (λ m is. absurd is)) ∙ some-seen (outer ++ behind) here.means means name),
+            (ap is_some (counted ms outer [] [] behind limit q name (seen q (inl refl) ∙ ap (λ v. outer ++ (v ++ behind)) (variable-view name q low high a p rises))
+            (under-left limit outer behind at_limit) (under-right limit outer behind at_limit) (λ m is. absurd is) (λ m is. absurd is) (λ m is. absurd is)) ∙ some-seen (outer ++ behind) here.means means name),
         of-bounds ms (outer ++ behind) here means low high (λ m is. (
           within m (inr (mem-left m bounds body is)),
           seen m.place (inr (subst (Mem m.place) (map-append bounds body) (mem-left m.place (places bounds) (places body) (mem-place m bounds is)))) ∙ ap (λ v. outer ++ (v ++ behind)) (bounds-view name q low high a p rises m.place (mem-place m bounds is)),

@@ -1,5 +1,5 @@
 -- Which declarations count as declared already where a name is declared.
-use Rattle.std.proofs.Common.{◌≡◌, Bool, true, false, cond, not, List, [], ◌∷◌, ◌++◌, Option, Some, None, is_some, ◌⊎◌, inl, inr, refl, ap, sym, ◌∙◌, subst, append_assoc, append-nil}
+use Rattle.std.proofs.Common.{◌≡◌, Bool, true, false, cond, not, List, [], ◌∷◌, ◌++◌, Option, Some, None, is_some, inl, inr, refl, ap, sym, ◌∙◌, subst, append_assoc, append-nil}
 use Rattle.std.specs.Prelude.{◌&&◌, ◌||◌, filter}
 use Rattle.std.specs.Option.{option_map_or}
 use Rattle.std.proofs.lemmas.Bool.{or_left, or_right, or_from, not_from_true, not_from_false}
@@ -13,15 +13,14 @@ use Rattle.static_names.specs.Occurrences as rule
 use Rattle.message_names.specs.declared.role.Reach.{Reach}
 use Rattle.message_names.specs.declared.role.Role.TheVariants as role_is
 use Rattle.message_names.specs.declared.sight.Sight.TheVariants as sight_is
-use Rattle.message_names.specs.Mentions.{Mention, before_all, mention}
+use Rattle.message_names.specs.Mentions.{Mention, before_all}
 use Rattle.message_names.specs.Reach.{before, declared, innermost, reaches, sees}
-use Rattle.message_names.proofs.Closing.{Each}
 use Rattle.message_names.proofs.Order.{Ahead, Mem, Rising, ahead-apart, not-ahead, not-itself}
 use Rattle.message_names.proofs.Parts.{mem-left, mem-right, mem-place}
 use Rattle.message_names.proofs.Spots.{places, map-append}
 use Rattle.message_names.proofs.Standing.{itself}
-use Rattle.message_names.proofs.Uses.{IsTaken, Meant, Keeps}
-use Rattle.message_names.proofs.Views.{mem-split, rises-right, rises-apart, view, begins, pick, picked, Under, Begin, placed, stood, Sees, Ties, ties-append, sees-within}
+use Rattle.message_names.proofs.Uses.{IsTaken, Keeps}
+use Rattle.message_names.proofs.Views.{rises-right, rises-apart, view, begins, pick, picked, Under, Begin, placed, stood, Sees, Ties, ties-append, sees-within}
 
 -- where a name stands of the scope that begins at b, of this scope only what stands before counts
 abbrev pub counts : (b p : Place) → Mention → Bool
@@ -130,8 +129,9 @@ module _ (ms outer own behind : List Mention) (b : Place) (outside : site.Reach)
       counted ms outer done (m ∷ todo) behind b m.place m.name (here.2 ∙ ap (λ l. outer ++ (l ++ behind)) is) low high begin_todo
       (λ x in_done. rises-apart (places done) (places (m ∷ todo)) ordered x.place m.place (mem-place x done in_done) (inl refl))
       (λ x in_todo. first-not m.place (places todo) (rises-right (places done) (places (m ∷ todo)) ordered) x.place (mem-place x (m ∷ todo) in_todo)) in
-      let seen : Sees (outer ++ (done ++ behind)) (within (first earlier) outside) = sees-within b outer done behind earlier outside low high begin_done did means in
-      (taken-as ms m d.0 d.1.place _ will.0 will.1 here.0 here.1
-      (ap (λ q. is_some (innermost (sight_is.Others q) m.name m.place ms)) (begin m among) ∙ ap is_some found ∙ some-seen (outer ++ (done ++ behind)) (within (first earlier) outside) seen m.name
-      ∙ ap (λ n. is_some (or_else (first earlier n) (outside n))) will.0 ∙ some-else (first earlier d.0) (outside d.0)),
-      of-declarations (done ++ m ∷ []) todo (earlier ++ d ∷ []) ds (is ∙ sym (append_assoc done (m ∷ []) todo)) (ties-append done (m ∷ []) earlier (d ∷ []) did (will.0, will.1, tt)) will.2 more rest)
+      let seen : Sees (outer ++ (done ++ behind)) (within (first earlier) outside) = sees-within b outer done behind earlier outside low high begin_done did means in (
+        taken-as ms m d.0 d.1.place _ will.0 will.1 here.0 here.1
+            (ap (λ q. is_some (innermost (sight_is.Others q) m.name m.place ms)) (begin m among) ∙ ap is_some found ∙ some-seen (outer ++ (done ++ behind)) (within (first earlier) outside) seen m.name
+            ∙ ap (λ n. is_some (or_else (first earlier n) (outside n))) will.0 ∙ some-else (first earlier d.0) (outside d.0)),
+        of-declarations (done ++ m ∷ []) todo (earlier ++ d ∷ []) ds (is ∙ sym (append_assoc done (m ∷ []) todo)) (ties-append done (m ∷ []) earlier (d ∷ []) did (will.0, will.1, tt)) will.2 more rest,
+      )

@@ -283,11 +283,13 @@ module _ (p : Process Place) (ms outer behind : List Mention) (here : Site) (mea
       by (inl on) = let y = at-vars x (mem-vars (own_process p) x p.vars on) in (y.0, declaring-map (var_declares (own_process p)) (λ v. (_, refl)) p.vars x on, y.1)
       by (inr on) =
           let among : Mem x (the_routines p) = mem-heads false (own_process p) x p.routines on in
-          let at : Mem x.place (places (the_routines p)) = mem-place x (the_routines p) among in
-          (within x (in-routines x among), declaring-map (routine_declares false (own_process p)) (λ r. (_, refl)) p.routines x on,
-          routines-seen x.place at ∙ ap (λ v. (outer ++ own_vars p) ++ (v ++ behind))
-          (view-heads false (own_process p) p.routines (rises-left rs (bs ++ ends_with p) three) x on (in-process p rises x.place (places-within (the_routines p) (process_inner p) in-routines x.place at)))
-          ∙ sym two-joined)
+          let at : Mem x.place (places (the_routines p)) = mem-place x (the_routines p) among in (
+            within x (in-routines x among),
+            declaring-map (routine_declares false (own_process p)) (λ r. (_, refl)) p.routines x on,
+            routines-seen x.place at ∙ ap (λ v. (outer ++ own_vars p) ++ (v ++ behind))
+                (view-heads false (own_process p) p.routines (rises-left rs (bs ++ ends_with p) three) x on (in-process p rises x.place (places-within (the_routines p) (process_inner p) in-routines x.place at)))
+                ∙ sym two-joined,
+          )
 
   pub of-process : Keeps ms (rule.process_names here p)
   of-process more rest =

@@ -6,8 +6,7 @@ use Rattle.std.proofs.lemmas.Bool.{and_from, not_from_false}
 use Rattle.syntax_tree.specs.Plain.{Name}
 use Rattle.syntax_tree.specs.Placed.{Scalar, Expr, Var, Param, Routine}
 use Rattle.syntax_tree.specs.declared.place.Place.{Place}
-use Rattle.static_names.specs.Reach as site
-use Rattle.static_names.specs.Reach.{Names, Site, inside}
+use Rattle.static_names.specs.Reach.{Site, inside}
 use Rattle.static_names.specs.Occurrences as rule
 use Rattle.static_names.specs.Occurrences.{Occurrence}
 use Rattle.message_names.specs.declared.role.Reach.{Reach}

@@ -291,10 +291,12 @@ module _ (m : Monitor Place) (ms outer behind : List Mention) (here : Site) (mea
       by (inl on) = let y = at-members x (mem-members (own_monitor m) x m.members on) in (y.0, declaring-map (member_declares (own_monitor m)) (member-declaring (own_monitor m)) m.members x on, y.1)
       by (inr on) =
           let among : Mem x (the_entries m) = mem-heads true (own_monitor m) x m.entries on in
-          let at : Mem x.place (places (the_entries m)) = mem-place x (the_entries m) among in
-          (within x (in-entries x among), declaring-map (routine_declares true (own_monitor m)) (λ r. (_, refl)) m.entries x on,
-          entries-seen x.place at ∙ ap (λ v. (outer ++ own_members m) ++ (v ++ behind)) (view-heads true (own_monitor m) m.entries entries-rise x on (in-monitor m rises x.place (places-within (the_entries m) (monitor_inner m) in-entries x.place at)))
-          ∙ sym two-joined)
+          let at : Mem x.place (places (the_entries m)) = mem-place x (the_entries m) among in (
+            within x (in-entries x among),
+            declaring-map (routine_declares true (own_monitor m)) (λ r. (_, refl)) m.entries x on,
+            entries-seen x.place at ∙ ap (λ v. (outer ++ own_members m) ++ (v ++ behind)) (view-heads true (own_monitor m) m.entries entries-rise x on (in-monitor m rises x.place (places-within (the_entries m) (monitor_inner m) in-entries x.place at)))
+                ∙ sym two-joined,
+          )
 
   pub of-monitor : Keeps ms (rule.monitor_names here m)
   of-monitor more rest =

@@ -8,9 +8,10 @@
 //! `specs/Told.antt` says it in words. `name_sentence` and `name_notes` make exactly those; the
 //! only error is want of memory.
 //!
-//! Three laws (`laws`) tie this to the rules of `static_names`: there is a sentence wherever one of
-//! the rules fails; of a closing name it tells the name that has to be repeated; and what a name
-//! means that is used, with no full stop before it, is what the rules say.
+//! Four laws (`laws`) tie this to the rules of `static_names`: there is a sentence wherever one of
+//! the rules fails; of a closing name it tells the name that has to be repeated; what a name means
+//! that is used, with no full stop before it, is what the rules say; and of a name that is declared
+//! another declaration is found exactly where the rules say that it is taken.
 #![tactic(auto)]
 
 mod declarations;
@@ -27,5 +28,7 @@ mod statements;
 mod told;
 mod words;
 
-pub use laws::{closing_names_are_told, declarations_are_told, told_where_rules_fail, uses_are_told};
+pub use laws::{
+    closing_names_are_told, declarations_are_told, told_where_rules_fail, uses_are_told,
+};
 pub use told::{name_notes, name_sentence};
