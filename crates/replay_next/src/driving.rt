@@ -184,6 +184,31 @@ fn drive<'a>(
     }
 }
 
+/// What a procedure that is called comes to, with all that it calls, and what remains after it.
+fn run_calls<'a>(
+    scope: &EvalContext<'a>,
+    home: CallOwner,
+    depth: usize,
+    memory: &mut Memory<'_, 'a>,
+    pending: PendingCall<'a>,
+) -> Result<ItemResult<'a>, AllocError>
+    ensures { IfOk result (λ came. came_of came (memory_of memory.new) ≡
+        pending_run (site_of scope.now home depth) pending.entry (memory_of memory.old)) }
+{
+    let mut callers = Vec::new(scope.alloc);
+    let mut at = Place {
+        home,
+        depth,
+        progress: ItemProgress::Calls(pending),
+    };
+    'calls: loop {
+        match drive(scope, memory, &mut callers, at)? {
+            Driven::Over(came) => return Ok(came),
+            Driven::At(place) => at = place,
+        }
+    }
+}
+
 /// What items come to, in turn, with all procedures that they call.
 pub fn run_whole<'a>(
     scope: &EvalContext<'a>,
@@ -195,17 +220,8 @@ pub fn run_whole<'a>(
     ensures { IfOk result (λ came. came_of came (memory_of memory.new) ≡ next_of_source.run_items
         (site_of scope.now home depth) (memory_of memory.old) (map item_of items.now)) }
 {
-    let mut callers = Vec::new(scope.alloc);
-    let progress = run_items(scope, home, depth, memory, items)?;
-    let mut at = Place {
-        home,
-        depth,
-        progress,
-    };
-    'calls: loop {
-        match drive(scope, memory, &mut callers, at)? {
-            Driven::Over(came) => return Ok(came),
-            Driven::At(place) => at = place,
-        }
+    match run_items(scope, home, depth, memory, items)? {
+        ItemProgress::Came(came) => Ok(came),
+        ItemProgress::Calls(pending) => run_calls(scope, home, depth, memory, pending),
     }
 }

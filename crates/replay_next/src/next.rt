@@ -8,7 +8,8 @@ ghost use Rattle.source_semantics.specs.Next as next_of_source;
 ghost use Rattle.source_semantics.specs.Run as run_of;
 ghost use Rattle.source_semantics.specs.Source.{job_next};
 ghost use Rattle.replay_state.specs.View.{action_of, call_of, calls_of, config_of, holds_of, home_of, item_of, job_of, next_of, vars_of};
-ghost use Rattle.replay_calls.specs.Reach.{area_of};
+ghost use Rattle.replay_calls.specs.Reach.{area_of, memory_of, site_of};
+ghost use Rattle.replay_next.specs.Came.{came_of};
 
 use crate::driving::run_whole;
 use crate::items::ItemResult;
@@ -141,6 +142,27 @@ fn given_items<'a>(
     Ok(all)
 }
 
+/// What the items of a call come to, of which the first receives the value that is given, if there
+/// is one: only then are they copied.
+fn run_given<'a>(
+    scope: &EvalContext<'a>,
+    home: CallOwner,
+    depth: usize,
+    memory: &mut Memory<'_, 'a>,
+    items: &[Item<'a>],
+    given: Option<i64>,
+) -> Result<ItemResult<'a>, AllocError>
+    ensures { IfOk result (λ came. came_of came (memory_of memory.new) ≡ next_of_source.run_items
+        (site_of scope.now home depth) (memory_of memory.old)
+        (next_of_source.given_item given (map item_of items.now))) }
+{
+    if given.is_none() {
+        return run_whole(scope, home, depth, memory, items);
+    }
+    let items = given_items(scope.alloc, items, given)?;
+    run_whole(scope, home, depth, memory, items.as_slice())
+}
+
 /// The next action from calls in progress, the innermost first, over these variables of the process
 /// and of the monitor that it is inside. Calls are nested at most as deep as there are routines.
 pub fn next_from<'a>(
@@ -165,8 +187,8 @@ pub fn next_from<'a>(
     for at in 0..calls.len() {
         let call = &calls[at];
         memory.own = slots_copied(scope.alloc, call.own.as_slice())?;
-        let items = given_items(scope.alloc, call.rest.as_slice(), given)?;
-        match run_whole(scope, call.home, depth, &mut memory, items.as_slice())? {
+        let items = call.rest.as_slice();
+        match run_given(scope, call.home, depth, &mut memory, items, given)? {
             ItemResult::Gives(value) => given = Some(value),
             ItemResult::Ran(ran) => match ran {
                 RunResult::Goes | RunResult::Exits => given = None,

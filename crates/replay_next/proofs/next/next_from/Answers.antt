@@ -38,18 +38,17 @@ loop-at-preserved c =
     let l = c.loop-at in
     let xs = c.args.calls.now in
     let x = c.index-calls-at.result in
-    let m = memory_of c.run_whole.new.memory in
+    let m = memory_of c.run_given.new.memory in
     let h = home_of x.home in
     let rest = calls_of (drop (l.at + 1) xs) in
     let then = λ (r : ItemResult). among h rest (λ w k. next_from g p rest w k.process k.monitor) (came_of r m) in
     let whole = next_from g p (calls_of xs) None (vars_of c.args.process.now) (vars_of c.args.monitor.now) in
-    let given = ap (λ (ys : List Item). map item_of ys) c.as_slice-in-loop-at-2.ensures.value
-    ∙ (c.in_ok-items.ensures ∙ ap (λ (ys : List Item). given_item l.given (map item_of ys)) c.as_slice-in-loop-at.ensures.value) in
+    let given = ap (λ (ys : List Item). given_item l.given (map item_of ys)) c.as_slice-items.ensures.value in
     let told = call_turned g p c.args.depth xs l.at x l.given (vars_of c.in_ok-memory.field-0.items) (area_of l.memory.process) (area_of l.memory.monitor)
-    (map item_of c.as_slice-in-loop-at-2.result.now) (came_of c.in_ok-value.field-0 m) whole
+    (given_item l.given (map item_of c.as_slice-items.result.now)) (came_of c.in_ok-value.field-0 m) whole
     c.requires c.loop-at-test.true c.index-calls-at.is (c.in_ok-memory.ensures ∙ ap vars_of c.as_slice.ensures.value) given c.in_ok-value.ensures l.invariant in
     let on = λ (o : Option ℤ). next_from g p rest o m.process m.monitor in
-    elim c.match-branch-4.branch [
+    elim c.match-branch-3.branch [
       | in-Gives w ↦
           let same : to_z w64 (of_z w64 w.in-Gives.value) ≡ w.in-Gives.value = to_z-of_z w64 w.in-Gives.value (search rules) in
           ap on (w.given-is ∙ ap (λ (v : ℤ). Some v) same) ∙ (sym (ap then w.in-Gives.is) ∙ told)
@@ -63,15 +62,14 @@ returns-in-Fails c =
     let l = c.loop-at in
     let xs = c.args.calls.now in
     let x = c.index-calls-at.result in
-    let m = memory_of c.run_whole.new.memory in
+    let m = memory_of c.run_given.new.memory in
     let h = home_of x.home in
     let rest = calls_of (drop (l.at + 1) xs) in
     let then = λ (r : ItemResult). among h rest (λ w k. next_from g p rest w k.process k.monitor) (came_of r m) in
     let whole = next_from g p (calls_of xs) None (vars_of c.args.process.now) (vars_of c.args.monitor.now) in
-    let given = ap (λ (ys : List Item). map item_of ys) c.as_slice-in-loop-at-2.ensures.value
-    ∙ (c.in_ok-items.ensures ∙ ap (λ (ys : List Item). given_item l.given (map item_of ys)) c.as_slice-in-loop-at.ensures.value) in
+    let given = ap (λ (ys : List Item). given_item l.given (map item_of ys)) c.as_slice-items.ensures.value in
     let told = call_turned g p c.args.depth xs l.at x l.given (vars_of c.in_ok-memory.field-0.items) (area_of l.memory.process) (area_of l.memory.monitor)
-    (map item_of c.as_slice-in-loop-at-2.result.now) (came_of c.in_ok-value.field-0 m) whole
+    (given_item l.given (map item_of c.as_slice-items.result.now)) (came_of c.in_ok-value.field-0 m) whole
     c.requires c.loop-at-test.true c.index-calls-at.is (c.in_ok-memory.ensures ∙ ap vars_of c.as_slice.ensures.value) given c.in_ok-value.ensures l.invariant in
     let ends = λ (cs : List Call). next_as (run.raises c.in-Fails.number) (calls_of cs) m.process m.monitor in
     ok_told c.acted.result next_of _ _ (ap ends c.new-none.ensures.items ∙ (sym (ap then (c.in-Ran.is ∙ ap came_is.Ran c.in-Fails.is)) ∙ told)) c.acted.ensures
@@ -83,15 +81,14 @@ returns-in-Stops c =
     let l = c.loop-at in
     let xs = c.args.calls.now in
     let x = c.index-calls-at.result in
-    let m = memory_of c.run_whole.new.memory in
+    let m = memory_of c.run_given.new.memory in
     let h = home_of x.home in
     let rest = calls_of (drop (l.at + 1) xs) in
     let then = λ (r : ItemResult). among h rest (λ w k. next_from g p rest w k.process k.monitor) (came_of r m) in
     let whole = next_from g p (calls_of xs) None (vars_of c.args.process.now) (vars_of c.args.monitor.now) in
-    let given = ap (λ (ys : List Item). map item_of ys) c.as_slice-in-loop-at-2.ensures.value
-    ∙ (c.in_ok-items.ensures ∙ ap (λ (ys : List Item). given_item l.given (map item_of ys)) c.as_slice-in-loop-at.ensures.value) in
+    let given = ap (λ (ys : List Item). given_item l.given (map item_of ys)) c.as_slice-items.ensures.value in
     let told = call_turned g p c.args.depth xs l.at x l.given (vars_of c.in_ok-memory.field-0.items) (area_of l.memory.process) (area_of l.memory.monitor)
-    (map item_of c.as_slice-in-loop-at-2.result.now) (came_of c.in_ok-value.field-0 m) whole
+    (given_item l.given (map item_of c.as_slice-items.result.now)) (came_of c.in_ok-value.field-0 m) whole
     c.requires c.loop-at-test.true c.index-calls-at.is (c.in_ok-memory.ensures ∙ ap vars_of c.as_slice.ensures.value) given c.in_ok-value.ensures l.invariant in
     let st = c.in-Stops.stop in
     let around = λ (cs : List Call). next_as (action_of st.action) (calls_of st.inside.items ++ call_as h m.own (map item_of st.rest.items) ∷ calls_of cs) m.process m.monitor in
