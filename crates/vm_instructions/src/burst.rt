@@ -10,7 +10,7 @@ ghost use Rattle.machine_semantics.specs.Image.{Image};
 use crate::StepResult;
 use crate::activation::Activation;
 use crate::calls::RoutineHeader;
-use crate::step::step;
+use crate::step::step_in_row;
 use machine_isa::{Instr, ticks};
 
 /// Why a row of instructions ended.
@@ -71,7 +71,7 @@ pub fn run(
         left -= need;
         job.done = 0;
         job.place += 1;
-        match step(code, routines, job, owned, shared, instr) {
+        match step_in_row(code, routines, job, owned, shared, instr) {
             StepResult::Done => {}
             StepResult::Raises(number) => return Halt::Raises { left, number },
             StepResult::Seen => return Halt::Sees { left },

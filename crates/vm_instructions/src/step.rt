@@ -19,9 +19,10 @@ fn routine_at(routines: &[RoutineHeader], number: i32) -> RoutineHeader
     routines[number as usize]
 }
 
-/// Does an instruction that nobody sees; its process stands at the next already.
+/// Does an instruction that nobody sees; its process stands at the next already. Each of the two
+/// calls below has a copy of its own, so that the one of a row is compiled into the row's loop.
 #[inline(always)]
-pub fn step(
+fn step_by<const IN_ROW: bool>(
     code: &[Instr],
     routines: &[RoutineHeader],
     job: &mut Activation,
@@ -127,4 +128,48 @@ pub fn step(
         | Instr::Raise { .. }
         | Instr::End => StepResult::Seen,
     }
+}
+
+/// Does an instruction that nobody sees; its process stands at the next already.
+#[inline(always)]
+pub fn step(
+    code: &[Instr],
+    routines: &[RoutineHeader],
+    job: &mut Activation,
+    owned: &mut [i32],
+    shared: &mut [i32],
+    instr: Instr,
+) -> StepResult
+    ghost image: { Image }
+    requires image { IsOf image code.now routines.now }
+    requires safe { IsSafe image instr (own_of job.old owned.old shared.old) job.old.frames.room }
+    ensures done { HasDone image instr (own_of job.old owned.old shared.old) result
+        (own_of job.new owned.new shared.new) }
+    ensures room { job.new.frames.room ≡ job.old.frames.room }
+    ensures inside { job.new.inside ≡ job.old.inside }
+    ensures dispatch_ticks { job.new.dispatch_ticks ≡ job.old.dispatch_ticks }
+{
+    step_by::<false>(code, routines, job, owned, shared, instr)
+}
+
+/// Does an instruction of a row that nobody sees; its process stands at the next already.
+#[inline(always)]
+pub(crate) fn step_in_row(
+    code: &[Instr],
+    routines: &[RoutineHeader],
+    job: &mut Activation,
+    owned: &mut [i32],
+    shared: &mut [i32],
+    instr: Instr,
+) -> StepResult
+    ghost image: { Image }
+    requires image { IsOf image code.now routines.now }
+    requires safe { IsSafe image instr (own_of job.old owned.old shared.old) job.old.frames.room }
+    ensures done { HasDone image instr (own_of job.old owned.old shared.old) result
+        (own_of job.new owned.new shared.new) }
+    ensures room { job.new.frames.room ≡ job.old.frames.room }
+    ensures inside { job.new.inside ≡ job.old.inside }
+    ensures dispatch_ticks { job.new.dispatch_ticks ≡ job.old.dispatch_ticks }
+{
+    step_by::<true>(code, routines, job, owned, shared, instr)
 }

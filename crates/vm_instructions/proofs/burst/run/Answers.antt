@@ -18,8 +18,8 @@ fetch-instr-requires g c = subst (λ (xs : List Instr). c.loop-left.job.place < 
 pub left_of-need-requires : goal.left_of-need-requires
 left_of-need-requires g c = (fetched g.image c.args.job.now.frames.room c.args.budget (c.args.budget - c.loop-left.left) (own_of c.loop-left.job c.loop-left.owned c.loop-left.shared) c.fetch-instr.result (c.requires.1 _ _ c.loop-left.invariant.leads (omega (arith, c.loop-left-test.true, c.loop-left.invariant.within))) (ap (λ (xs : List Instr). slice_get xs c.loop-left.job.place) c.requires.0.code_is ∙ c.fetch-instr.ensures)).at.early
 
-pub step-requires : goal.step-requires
-step-requires g c =
+pub step_in_row-requires : goal.step_in_row-requires
+step_in_row-requires g c =
     let o : Own = own_of c.loop-left.job c.loop-left.owned c.loop-left.shared in
     let f = fetched g.image c.args.job.now.frames.room c.args.budget (c.args.budget - c.loop-left.left) (own_of c.loop-left.job c.loop-left.owned c.loop-left.shared) c.fetch-instr.result (c.requires.1 _ _ c.loop-left.invariant.leads (omega (arith, c.loop-left-test.true, c.loop-left.invariant.within))) (ap (λ (xs : List Instr). slice_get xs c.loop-left.job.place) c.requires.0.code_is ∙ c.fetch-instr.ensures) in
     let within : c.args.budget - c.loop-left.left + (ticks c.fetch-instr.result - c.loop-left.job.done) ≤ c.args.budget = omega (arith, c.loop-left.invariant.within, f.at.early, c.left_of-need.ensures, c.if-need-left.false) in
@@ -29,7 +29,7 @@ pub loop-left-preserved : goal.loop-left-preserved
 loop-left-preserved g c =
     let o : Own = own_of c.loop-left.job c.loop-left.owned c.loop-left.shared in
     let first : Own = own_of c.args.job.now c.args.owned.now c.args.shared.now in
-    let next : Own = own_of c.step.new.job c.step.new.owned c.step.new.shared in
+    let next : Own = own_of c.step_in_row.new.job c.step_in_row.new.owned c.step_in_row.new.shared in
     let f = fetched g.image c.args.job.now.frames.room c.args.budget (c.args.budget - c.loop-left.left) (own_of c.loop-left.job c.loop-left.owned c.loop-left.shared) c.fetch-instr.result (c.requires.1 _ _ c.loop-left.invariant.leads (omega (arith, c.loop-left-test.true, c.loop-left.invariant.within))) (ap (λ (xs : List Instr). slice_get xs c.loop-left.job.place) c.requires.0.code_is ∙ c.fetch-instr.ensures) in
     record {
       within = omega (arith, c.loop-left.invariant.within);

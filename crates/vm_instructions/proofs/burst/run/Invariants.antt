@@ -13,5 +13,5 @@ invariant-loop-left g l = record {
 abbrev pub decreases-loop-left : goal.decreases-loop-left
 decreases-loop-left g l = l.left
 
-abbrev pub ghost-step : goal.ghost-step
-ghost-step g a = g.image
+abbrev pub ghost-step_in_row : goal.ghost-step_in_row
+ghost-step_in_row g a = g.image

@@ -6,7 +6,7 @@ use Rattle.machine_isa.specs.declared.instr.Instr.TheVariants as i
 use Rattle.vm_instructions.specs.Silent.{own_of}
 use Rattle.vm_instructions.proofs.Arms.{frames_done, owned_done, owned_read, placed_done, shared_done, shared_read}
 use Rattle.vm_instructions.proofs.Safe as safe
-use Rattle.vm_instructions.proofs.step.step.Goals as goal
+use Rattle.vm_instructions.proofs.step.step_by.Goals as goal
 
 pub returns-in-Push-clause-done : goal.returns-in-Push-clause-done
 returns-in-Push-clause-done g c =
@@ -42,13 +42,13 @@ pub returns-in-LoadMon-clause-done : goal.returns-in-LoadMon-clause-done
 returns-in-LoadMon-clause-done g c =
     let f0 : FitsSigned w32 c.in-LoadMon.word = search rules in
     let does = simp to_z-of_z at c.load_mon.ensures.does in
-    shared_read g.image c.args.instr (i.LoadMon c.in-LoadMon.word) c.args.job.now c.args.owned.now c.args.shared.now c.load_mon.new.frames c.load_mon.result c.in-LoadMon.is (λ s. does g.image s (own_of c.args.job.now c.args.owned.now c.args.shared.now) (safe.load_mon_reached g.image c.args.instr c.args.job.now c.args.owned.now c.args.shared.now c.in-LoadMon.word c.in-LoadMon.is c.requires.1)) c.load_mon.ensures.keeps
+    shared_read g.image c.args.instr (i.LoadMon c.in-LoadMon.word) c.args.job.now c.args.owned.now c.args.shared.now c.load_mon.new.frames c.load_mon.result c.in-LoadMon.is (λ s. does g.image s (own_of c.args.job.now c.args.owned.now c.args.shared.now) (safe.load_mon_reached g.image c.args.instr c.args.job.now c.args.owned.now c.args.shared.now c.in-LoadMon.word c.in-LoadMon.is c.requires.1.1)) c.load_mon.ensures.keeps
 
 pub returns-in-StoreMon-clause-done : goal.returns-in-StoreMon-clause-done
 returns-in-StoreMon-clause-done g c =
     let f0 : FitsSigned w32 c.in-StoreMon.word = search rules in
     let does = simp to_z-of_z at c.store_mon.ensures.does in
-    shared_done g.image c.args.instr (i.StoreMon c.in-StoreMon.word) c.args.job.now c.args.owned.now c.args.shared.now c.store_mon.new.shared c.store_mon.new.frames c.store_mon.result c.in-StoreMon.is (λ s. does g.image s (own_of c.args.job.now c.args.owned.now c.args.shared.now) (safe.store_mon_reached g.image c.args.instr c.args.job.now c.args.owned.now c.args.shared.now c.in-StoreMon.word c.in-StoreMon.is c.requires.1)) c.store_mon.ensures.keeps c.store_mon.ensures.words
+    shared_done g.image c.args.instr (i.StoreMon c.in-StoreMon.word) c.args.job.now c.args.owned.now c.args.shared.now c.store_mon.new.shared c.store_mon.new.frames c.store_mon.result c.in-StoreMon.is (λ s. does g.image s (own_of c.args.job.now c.args.owned.now c.args.shared.now) (safe.store_mon_reached g.image c.args.instr c.args.job.now c.args.owned.now c.args.shared.now c.in-StoreMon.word c.in-StoreMon.is c.requires.1.1)) c.store_mon.ensures.keeps c.store_mon.ensures.words
 
 pub returns-in-LoadLocalAt-clause-done : goal.returns-in-LoadLocalAt-clause-done
 returns-in-LoadLocalAt-clause-done g c =
@@ -88,7 +88,7 @@ returns-in-LoadMonAt-clause-done g c =
     let f1 : FitsSigned w32 c.in-LoadMonAt.low = search rules in
     let f2 : FitsSigned w32 c.in-LoadMonAt.len = search rules in
     let does = simp to_z-of_z at c.load_mon_at.ensures.does in
-    shared_read g.image c.args.instr (i.LoadMonAt c.in-LoadMonAt.word c.in-LoadMonAt.low c.in-LoadMonAt.len) c.args.job.now c.args.owned.now c.args.shared.now c.load_mon_at.new.frames c.load_mon_at.result c.in-LoadMonAt.is (λ s. does g.image s (own_of c.args.job.now c.args.owned.now c.args.shared.now) (safe.load_mon_at g.image c.args.instr c.args.job.now c.args.owned.now c.args.shared.now c.in-LoadMonAt.word c.in-LoadMonAt.low c.in-LoadMonAt.len c.in-LoadMonAt.is c.requires.1).1) c.load_mon_at.ensures.keeps
+    shared_read g.image c.args.instr (i.LoadMonAt c.in-LoadMonAt.word c.in-LoadMonAt.low c.in-LoadMonAt.len) c.args.job.now c.args.owned.now c.args.shared.now c.load_mon_at.new.frames c.load_mon_at.result c.in-LoadMonAt.is (λ s. does g.image s (own_of c.args.job.now c.args.owned.now c.args.shared.now) (safe.load_mon_at g.image c.args.instr c.args.job.now c.args.owned.now c.args.shared.now c.in-LoadMonAt.word c.in-LoadMonAt.low c.in-LoadMonAt.len c.in-LoadMonAt.is c.requires.1.1).1) c.load_mon_at.ensures.keeps
 
 pub returns-in-StoreMonAt-clause-done : goal.returns-in-StoreMonAt-clause-done
 returns-in-StoreMonAt-clause-done g c =
@@ -96,7 +96,7 @@ returns-in-StoreMonAt-clause-done g c =
     let f1 : FitsSigned w32 c.in-StoreMonAt.low = search rules in
     let f2 : FitsSigned w32 c.in-StoreMonAt.len = search rules in
     let does = simp to_z-of_z at c.store_mon_at.ensures.does in
-    shared_done g.image c.args.instr (i.StoreMonAt c.in-StoreMonAt.word c.in-StoreMonAt.low c.in-StoreMonAt.len) c.args.job.now c.args.owned.now c.args.shared.now c.store_mon_at.new.shared c.store_mon_at.new.frames c.store_mon_at.result c.in-StoreMonAt.is (λ s. does g.image s (own_of c.args.job.now c.args.owned.now c.args.shared.now) (safe.store_mon_at g.image c.args.instr c.args.job.now c.args.owned.now c.args.shared.now c.in-StoreMonAt.word c.in-StoreMonAt.low c.in-StoreMonAt.len c.in-StoreMonAt.is c.requires.1).1) c.store_mon_at.ensures.keeps c.store_mon_at.ensures.words
+    shared_done g.image c.args.instr (i.StoreMonAt c.in-StoreMonAt.word c.in-StoreMonAt.low c.in-StoreMonAt.len) c.args.job.now c.args.owned.now c.args.shared.now c.store_mon_at.new.shared c.store_mon_at.new.frames c.store_mon_at.result c.in-StoreMonAt.is (λ s. does g.image s (own_of c.args.job.now c.args.owned.now c.args.shared.now) (safe.store_mon_at g.image c.args.instr c.args.job.now c.args.owned.now c.args.shared.now c.in-StoreMonAt.word c.in-StoreMonAt.low c.in-StoreMonAt.len c.in-StoreMonAt.is c.requires.1.1).1) c.store_mon_at.ensures.keeps c.store_mon_at.ensures.words
 
 pub returns-in-Neg-clause-done : goal.returns-in-Neg-clause-done
 returns-in-Neg-clause-done g c =
@@ -200,7 +200,7 @@ returns-in-Call-clause-done g c =
     let f0 : FitsSigned w32 c.in-Call.routine = search rules in
     let does = simp to_z-of_z at c.call.ensures.does in
     let at = simp to_z-of_z at c.routine_at.ensures in
-    let found = safe.found g.image c.args.routines.now c.in-Call.routine c.args.job.now c.routine_at.result (safe.calls_of g.image c.args.code.now c.args.routines.now c.args.instr c.in-Call.routine c.args.job.now c.args.owned.now c.args.shared.now c.requires.0 c.in-Call.is c.requires.1) at in
+    let found = safe.found g.image c.args.routines.now c.in-Call.routine c.args.job.now c.routine_at.result (safe.calls_of g.image c.args.code.now c.args.routines.now c.args.instr c.in-Call.routine c.args.job.now c.args.owned.now c.args.shared.now c.requires.1.0 c.in-Call.is c.requires.1.1) at in
     placed_done g.image c.args.instr (i.Call c.in-Call.routine) c.args.job.now c.call.new.place c.args.owned.now c.args.shared.now c.call.new.frames c.call.result c.in-Call.is (λ s. does g.image s (own_of c.args.job.now c.args.owned.now c.args.shared.now) found.known) c.call.ensures.keeps
 
 pub returns-in-Return-clause-done : goal.returns-in-Return-clause-done
@@ -216,62 +216,62 @@ load_local_at-requires-clause-word g c =
     let f0 : FitsSigned w32 c.in-LoadLocalAt.word = search rules in
     let f1 : FitsSigned w32 c.in-LoadLocalAt.low = search rules in
     let f2 : FitsSigned w32 c.in-LoadLocalAt.len = search rules in
-    simp to_z-of_z (safe.load_local_at g.image c.args.instr c.args.job.now c.args.owned.now c.args.shared.now c.in-LoadLocalAt.word c.in-LoadLocalAt.low c.in-LoadLocalAt.len c.in-LoadLocalAt.is c.requires.1)
+    simp to_z-of_z (safe.load_local_at g.image c.args.instr c.args.job.now c.args.owned.now c.args.shared.now c.in-LoadLocalAt.word c.in-LoadLocalAt.low c.in-LoadLocalAt.len c.in-LoadLocalAt.is c.requires.1.1)
 
 pub store_local_at-requires-clause-word : goal.store_local_at-requires-clause-word
 store_local_at-requires-clause-word g c =
     let f0 : FitsSigned w32 c.in-StoreLocalAt.word = search rules in
     let f1 : FitsSigned w32 c.in-StoreLocalAt.low = search rules in
     let f2 : FitsSigned w32 c.in-StoreLocalAt.len = search rules in
-    simp to_z-of_z (safe.store_local_at g.image c.args.instr c.args.job.now c.args.owned.now c.args.shared.now c.in-StoreLocalAt.word c.in-StoreLocalAt.low c.in-StoreLocalAt.len c.in-StoreLocalAt.is c.requires.1)
+    simp to_z-of_z (safe.store_local_at g.image c.args.instr c.args.job.now c.args.owned.now c.args.shared.now c.in-StoreLocalAt.word c.in-StoreLocalAt.low c.in-StoreLocalAt.len c.in-StoreLocalAt.is c.requires.1.1)
 
 pub load_own_at-requires-clause-word : goal.load_own_at-requires-clause-word
 load_own_at-requires-clause-word g c =
     let f0 : FitsSigned w32 c.in-LoadOwnAt.word = search rules in
     let f1 : FitsSigned w32 c.in-LoadOwnAt.low = search rules in
     let f2 : FitsSigned w32 c.in-LoadOwnAt.len = search rules in
-    simp to_z-of_z (safe.load_own_at g.image c.args.instr c.args.job.now c.args.owned.now c.args.shared.now c.in-LoadOwnAt.word c.in-LoadOwnAt.low c.in-LoadOwnAt.len c.in-LoadOwnAt.is c.requires.1)
+    simp to_z-of_z (safe.load_own_at g.image c.args.instr c.args.job.now c.args.owned.now c.args.shared.now c.in-LoadOwnAt.word c.in-LoadOwnAt.low c.in-LoadOwnAt.len c.in-LoadOwnAt.is c.requires.1.1)
 
 pub store_own_at-requires-clause-word : goal.store_own_at-requires-clause-word
 store_own_at-requires-clause-word g c =
     let f0 : FitsSigned w32 c.in-StoreOwnAt.word = search rules in
     let f1 : FitsSigned w32 c.in-StoreOwnAt.low = search rules in
     let f2 : FitsSigned w32 c.in-StoreOwnAt.len = search rules in
-    simp to_z-of_z (safe.store_own_at g.image c.args.instr c.args.job.now c.args.owned.now c.args.shared.now c.in-StoreOwnAt.word c.in-StoreOwnAt.low c.in-StoreOwnAt.len c.in-StoreOwnAt.is c.requires.1)
+    simp to_z-of_z (safe.store_own_at g.image c.args.instr c.args.job.now c.args.owned.now c.args.shared.now c.in-StoreOwnAt.word c.in-StoreOwnAt.low c.in-StoreOwnAt.len c.in-StoreOwnAt.is c.requires.1.1)
 
 pub load_mon_at-requires-clause-word : goal.load_mon_at-requires-clause-word
 load_mon_at-requires-clause-word g c =
     let f0 : FitsSigned w32 c.in-LoadMonAt.word = search rules in
     let f1 : FitsSigned w32 c.in-LoadMonAt.low = search rules in
     let f2 : FitsSigned w32 c.in-LoadMonAt.len = search rules in
-    simp to_z-of_z ((safe.load_mon_at g.image c.args.instr c.args.job.now c.args.owned.now c.args.shared.now c.in-LoadMonAt.word c.in-LoadMonAt.low c.in-LoadMonAt.len c.in-LoadMonAt.is c.requires.1).0)
+    simp to_z-of_z ((safe.load_mon_at g.image c.args.instr c.args.job.now c.args.owned.now c.args.shared.now c.in-LoadMonAt.word c.in-LoadMonAt.low c.in-LoadMonAt.len c.in-LoadMonAt.is c.requires.1.1).0)
 
 pub store_mon_at-requires-clause-word : goal.store_mon_at-requires-clause-word
 store_mon_at-requires-clause-word g c =
     let f0 : FitsSigned w32 c.in-StoreMonAt.word = search rules in
     let f1 : FitsSigned w32 c.in-StoreMonAt.low = search rules in
     let f2 : FitsSigned w32 c.in-StoreMonAt.len = search rules in
-    simp to_z-of_z ((safe.store_mon_at g.image c.args.instr c.args.job.now c.args.owned.now c.args.shared.now c.in-StoreMonAt.word c.in-StoreMonAt.low c.in-StoreMonAt.len c.in-StoreMonAt.is c.requires.1).0)
+    simp to_z-of_z ((safe.store_mon_at g.image c.args.instr c.args.job.now c.args.owned.now c.args.shared.now c.in-StoreMonAt.word c.in-StoreMonAt.low c.in-StoreMonAt.len c.in-StoreMonAt.is c.requires.1.1).0)
 
 pub routine_at-requires : goal.routine_at-requires
 routine_at-requires g c =
     let f : FitsSigned w32 c.in-Call.routine = search rules in
-    simp to_z-of_z (safe.has_routine g.image c.args.routines.now c.in-Call.routine c.args.job.now (safe.calls_of g.image c.args.code.now c.args.routines.now c.args.instr c.in-Call.routine c.args.job.now c.args.owned.now c.args.shared.now c.requires.0 c.in-Call.is c.requires.1))
+    simp to_z-of_z (safe.has_routine g.image c.args.routines.now c.in-Call.routine c.args.job.now (safe.calls_of g.image c.args.code.now c.args.routines.now c.args.instr c.in-Call.routine c.args.job.now c.args.owned.now c.args.shared.now c.requires.1.0 c.in-Call.is c.requires.1.1))
 
 pub call-requires-clause-room : goal.call-requires-clause-room
 call-requires-clause-room g c =
     let f : FitsSigned w32 c.in-Call.routine = search rules in
     let at = simp to_z-of_z at c.routine_at.ensures in
-    (safe.found g.image c.args.routines.now c.in-Call.routine c.args.job.now c.routine_at.result (safe.calls_of g.image c.args.code.now c.args.routines.now c.args.instr c.in-Call.routine c.args.job.now c.args.owned.now c.args.shared.now c.requires.0 c.in-Call.is c.requires.1) at).room
+    (safe.found g.image c.args.routines.now c.in-Call.routine c.args.job.now c.routine_at.result (safe.calls_of g.image c.args.code.now c.args.routines.now c.args.instr c.in-Call.routine c.args.job.now c.args.owned.now c.args.shared.now c.requires.1.0 c.in-Call.is c.requires.1.1) at).room
 
 pub call-requires-clause-order : goal.call-requires-clause-order
 call-requires-clause-order g c =
     let f : FitsSigned w32 c.in-Call.routine = search rules in
     let at = simp to_z-of_z at c.routine_at.ensures in
-    (safe.found g.image c.args.routines.now c.in-Call.routine c.args.job.now c.routine_at.result (safe.calls_of g.image c.args.code.now c.args.routines.now c.args.instr c.in-Call.routine c.args.job.now c.args.owned.now c.args.shared.now c.requires.0 c.in-Call.is c.requires.1) at).order
+    (safe.found g.image c.args.routines.now c.in-Call.routine c.args.job.now c.routine_at.result (safe.calls_of g.image c.args.code.now c.args.routines.now c.args.instr c.in-Call.routine c.args.job.now c.args.owned.now c.args.shared.now c.requires.1.0 c.in-Call.is c.requires.1.1) at).order
 
 pub call-requires-clause-taken : goal.call-requires-clause-taken
 call-requires-clause-taken g c =
     let f : FitsSigned w32 c.in-Call.routine = search rules in
     let at = simp to_z-of_z at c.routine_at.ensures in
-    (safe.found g.image c.args.routines.now c.in-Call.routine c.args.job.now c.routine_at.result (safe.calls_of g.image c.args.code.now c.args.routines.now c.args.instr c.in-Call.routine c.args.job.now c.args.owned.now c.args.shared.now c.requires.0 c.in-Call.is c.requires.1) at).taken
+    (safe.found g.image c.args.routines.now c.in-Call.routine c.args.job.now c.routine_at.result (safe.calls_of g.image c.args.code.now c.args.routines.now c.args.instr c.in-Call.routine c.args.job.now c.args.owned.now c.args.shared.now c.requires.1.0 c.in-Call.is c.requires.1.1) at).taken
