@@ -1,8 +1,10 @@
-pub mod Begins
 pub mod Behind
 pub mod Cuts
 pub mod Examples
+mod ExprRuns
 pub mod Follows
 pub mod Numbered
 pub mod Picked
 pub mod Places
+mod Runs
+mod Stacks
