@@ -115,6 +115,10 @@ module _ (P : Type 0) where
   unfolding run
   missing d f stack must = missing-by (is_optional f) stack must
 
+pub where-refused : (b : Bool) (symbols : List Symbol) → is_refused (where_so b symbols) ≡ not b
+where-refused true symbols = refl
+where-refused false symbols = refl
+
 not-both : (b r : Bool) → r ≡ not b → b ≡ true → (o : Bool) → o && r ≡ false
 not-both true r is so true = is
 not-both true r is so false = refl
@@ -223,7 +227,27 @@ module _ {P : Type 0} where
   must d f p needs empty h (t ∷ ts) =
       via d _ _ (p (t ∷ ts)) (length ts) (length (t ∷ ts)) (omega arith) (λ stack. begun d f stack t ts (ap (λ b. b && is_refused (turn_at f t).head) needs)) (h t ts)
 
+  -- by what is read behind it, which may be nothing
+  pub must-all : {A : Type 0} (d : ℕ) (f : Symbol) (p : Parse P A) → is_optional f ≡ false → p [] ≡ Err (syntax 0)
+      → ((t : Tok P) (ts : List (Tok P)) → Same d (λ stack. go d ((turn_at f t).behind ++ stack) (turn_at f t).head t ts) (p (t ∷ ts)) (length (t ∷ ts))) → Reads d p (f ∷ [])
+  must-all d f p needs empty h [] =
+      of-result d _ (p []) (Err (syntax 0)) 0 empty (record { runs = λ stack. missing P d f stack needs; short = tt })
+  must-all d f p needs empty h (t ∷ ts) =
+      via d _ _ (p (t ∷ ts)) (length (t ∷ ts)) (length (t ∷ ts)) (omega arith) (λ stack. begun d f stack t ts (ap (λ b. b && is_refused (turn_at f t).head) needs)) (h t ts)
+
+  empty-by : {A : Type 0} (d : ℕ) (r : Result (A × List (Tok P)) Fault) → ◌≡◌ {A = Answer} (Err (syntax 0)) (r >>= onto d []) → Short r 0 → r ≡ Err (syntax 0)
+  empty-by d (Ok (x, [])) same short = let whole = ended P d [] in cc
+  empty-by d (Ok (x, t ∷ ts)) same short = absurd (omega (arith, short))
+  empty-by d (Err f) same short = let one : syntax 0 ≡ f = cc in ap Err (sym one)
+
+  -- nothing is read where there is nothing
+  pub empty : {A : Type 0} (d : ℕ) (f : Symbol) (symbols : List Symbol) (p : Parse P A) → is_optional f ≡ false → Reads d p (f ∷ symbols) → p [] ≡ Err (syntax 0)
+  empty d f symbols p needs h = empty-by d (p []) (sym (missing P d f (symbols ++ []) needs) ∙ (h []).runs []) (h []).short
+
   -- ---- tests
+
+  pub of-head : {A : Type 0} (d : ℕ) (go : Head → List Symbol → Answer) (x y : Head) (r : Result (A × List (Tok P)) Fault) (n : ℕ) → x ≡ y → Same d (go y) r n → Same d (go x) r n
+  of-head d go x y r n is h = subst (λ x. Same d (go x) r n) (sym is) h
 
   pub branch : {A : Type 0} (d : ℕ) (go : Head → List Symbol → Answer) (b c : Bool) (x y : Head) (r q : Result (A × List (Tok P)) Fault) (n : ℕ) → b ≡ c
       → (c ≡ true → Same d (go x) r n) → (c ≡ false → Same d (go y) q n) → Same d (go (cond b x y)) (cond c r q) n
@@ -409,3 +433,47 @@ module _ {P : Type 0} where
         by false is =
             of-result d _ _ (Ok (x, t ∷ ts)) (length (t ∷ ts)) (ap (λ b. cond b (p (t ∷ ts)) (Ok (x, t ∷ ts))) is)
             (record { runs = λ stack. passes-where d f c (t ∷ ts) m.may m.keeps m.refuses is stack; short = omega arith })
+
+  -- a list each of whose parts begins with a word of a test
+  pub many-where : {A : Type 0} (d : ℕ) (f : Symbol) (c : List (Tok P) → Bool) (p : Parse P A) (symbols : List Symbol) (b : Tok P → Bool) → is_optional f ≡ true → levels_behind f d ≡ d → c [] ≡ false
+      → ((t : Tok P) → turn_at f t ≡ a.alone (where_so (b t) (symbols ++ f ∷ []))) → ((t : Tok P) (ts : List (Tok P)) → b t ≡ c (t ∷ ts))
+      → ((t : Tok P) (ts : List (Tok P)) → c (t ∷ ts) ≡ true → Same d (λ stack. run d (symbols ++ stack) ts) (p (t ∷ ts)) (length ts)) → Reads d (many c p) (f ∷ [])
+  many-where d f c p symbols b may keeps ends turned tests does =
+      many-reads d f c p (record {
+        may = may;
+        keeps = keeps;
+        ends = ends;
+        refuses = λ t ts. ap (λ (u : Turn). is_refused u.head) (turned t) ∙ where-refused (b t) (symbols ++ f ∷ []) ∙ ap not (tests t ts);
+        runs = λ t ts is stack.
+            ap (λ (u : Turn). go d (u.behind ++ stack) u.head t ts) (turned t) ∙ ap (λ b. go d stack (where_so b (symbols ++ f ∷ [])) t ts) (tests t ts ∙ is)
+            ∙ ap (λ l. run d l ts) (append_assoc symbols (f ∷ []) stack) ∙ (does t ts is).runs (f ∷ stack);
+        short = λ t ts is. (does t ts is).short;
+      })
+
+  pub maybe-where : {A : Type 0} (d : ℕ) (f : Symbol) (c : List (Tok P) → Bool) (p : Parse P A) (x : A) (symbols : List Symbol) (b : Tok P → Bool) → is_optional f ≡ true → levels_behind f d ≡ d → c [] ≡ false
+      → ((t : Tok P) → turn_at f t ≡ a.alone (where_so (b t) symbols)) → ((t : Tok P) (ts : List (Tok P)) → b t ≡ c (t ∷ ts))
+      → ((t : Tok P) (ts : List (Tok P)) → c (t ∷ ts) ≡ true → Does d (along symbols) p t ts) → Reads d (λ ts. cond (c ts) (p ts) (Ok (x, ts))) (f ∷ [])
+  maybe-where d f c p x symbols b may keeps ends turned tests does =
+      maybe-reads d f c p x (record {
+        may = may;
+        keeps = keeps;
+        ends = ends;
+        refuses = λ t ts. ap (λ (u : Turn). is_refused u.head) (turned t) ∙ where-refused (b t) symbols ∙ ap not (tests t ts);
+        does = λ t ts is.
+            via d _ _ (p (t ∷ ts)) (length ts) (length ts) (omega arith)
+            (λ stack. ap (λ (u : Turn). go d (u.behind ++ stack) u.head t ts) (turned t) ∙ ap (λ b. go d stack (where_so b symbols) t ts) (tests t ts ∙ is)) (does t ts is);
+      })
+
+  -- a list whose symbol stands behind each of its parts
+  pub many-heads : {A : Type 0} (d : ℕ) (f : Symbol) (c : List (Tok P) → Bool) (p : Parse P A) (head : Tok P → Head) → is_optional f ≡ true → levels_behind f d ≡ d → c [] ≡ false
+      → ((t : Tok P) → turn_at f t ≡ record { head = head t; behind = f ∷ [] }) → ((t : Tok P) (ts : List (Tok P)) → is_refused (head t) ≡ not (c (t ∷ ts)))
+      → ((t : Tok P) (ts : List (Tok P)) → c (t ∷ ts) ≡ true → Does d (head t) p t ts) → Reads d (many c p) (f ∷ [])
+  many-heads d f c p head may keeps ends turned tests does =
+      many-reads d f c p (record {
+        may = may;
+        keeps = keeps;
+        ends = ends;
+        refuses = λ t ts. ap (λ (u : Turn). is_refused u.head) (turned t) ∙ tests t ts;
+        runs = λ t ts is stack. ap (λ (u : Turn). go d (u.behind ++ stack) u.head t ts) (turned t) ∙ (does t ts is).runs (f ∷ stack);
+        short = λ t ts is. (does t ts is).short;
+      })
