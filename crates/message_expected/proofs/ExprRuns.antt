@@ -74,10 +74,10 @@ level_same l zero_not (sign x) =
     (λ i. is_some (of_level l (sign_op (e1 i) (e2 i) (e3 i) (e4 i) (e5 i) (e6 i) (e7 i) (e8 i) (e9 i)))) ∙ zero_not
     ∙ sym (λ i. sign_level (e1 i) (e2 i) (e3 i) (e4 i) (e5 i) (e6 i) (e7 i) (e8 i) (e9 i) == l))))))))))
 
-abbrev operator_turn : ℕ → Bool → Turn
+abbrev pub operator_turn : ℕ → Bool → Turn
 operator_turn l b = cond b (record { head = along (s.Factor ∷ []); behind = operators_behind l }) (record { head = refused; behind = [] })
 
-operator-head : (l : ℕ) (b : Bool) → is_refused (operator_turn l b).head ≡ not b
+pub operator-head : (l : ℕ) (b : Bool) → is_refused (operator_turn l b).head ≡ not b
 operator-head l true = refl
 operator-head l false = refl
 
@@ -416,9 +416,9 @@ module _ {P : Type 0} where
   factor_reads zero ts = factor_in_reads 0 None tt ts
   factor_reads (suc d) ts = factor_in_reads (suc d) (Some (factor d)) (factor_reads d) ts
 
-  pub inner_is : (d : ℕ) → Inner d (inner {P = P} d)
-  inner_is zero = tt
-  inner_is (suc d) = factor_reads d
-
   pub expr_reads : (d : ℕ) → Reads d (expr {P = P} d) (s.Expression ∷ [])
   expr_reads d = level_reads d (factor d) (factor_reads d)
+
+pub inner_is : (P : Type 0) (d : ℕ) → Inner d (inner {P = P} d)
+inner_is P zero = tt
+inner_is P (suc d) = factor_reads d

@@ -8,3 +8,4 @@ pub mod Picked
 pub mod Places
 mod Runs
 mod Stacks
+mod StmtRuns

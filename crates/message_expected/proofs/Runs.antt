@@ -477,3 +477,26 @@ module _ {P : Type 0} where
         runs = λ t ts is stack. ap (λ (u : Turn). go d (u.behind ++ stack) u.head t ts) (turned t) ∙ (does t ts is).runs (f ∷ stack);
         short = λ t ts is. (does t ts is).short;
       })
+
+  -- where a symbol begins with this word alone
+  pub word_does : {B : Type 0} (d : ℕ) (v : Word) (b : Bool) (k : P × List (Tok P) → Result (B × List (Tok P)) Fault) (symbols : List Symbol) (t : Tok P) (ts : List (Tok P)) → b ≡ same_word t.word v
+      → ((q : P) → Reads d (λ w. k (q, w)) symbols) → Does d (where_so b symbols) (λ ts. expect v ts >>= k) t ts
+  unfolding expect
+  word_does d v b k symbols t ts same h = by (same_word t.word v) refl
+    where
+      by : (c : Bool) → same_word t.word v ≡ c → Same d (λ stack. go d stack (where_so b symbols) t ts) (cond (same_word t.word v) (Ok (t.place, ts)) (refuse (t ∷ ts)) >>= k) (length ts)
+      by true is = of-head d (λ x stack. go d stack x t ts) (where_so b symbols) (along symbols) (cond (same_word t.word v) (Ok (t.place, ts)) (refuse (t ∷ ts)) >>= k) (length ts) (ap (λ b. where_so b symbols) (same ∙ is)) (along-word d v k symbols t ts is h)
+      by false is =
+          of-head d (λ x stack. go d stack x t ts) (where_so b symbols) refused (cond (same_word t.word v) (Ok (t.place, ts)) (refuse (t ∷ ts)) >>= k) (length ts) (ap (λ b. where_so b symbols) (same ∙ is))
+          (of-result d (λ stack. go d stack refused t ts) (cond (same_word t.word v) (Ok (t.place, ts)) (refuse (t ∷ ts)) >>= k) (refuse (t ∷ ts)) (length ts) (ap (λ c. cond c (Ok (t.place, ts)) (refuse (t ∷ ts)) >>= k) is) (none-begun d t ts (length ts)))
+
+  -- where it begins with a name alone
+  pub name_does : {B : Type 0} (d : ℕ) (k : (Name × P) × List (Tok P) → Result (B × List (Tok P)) Fault) (symbols : List Symbol) (t : Tok P) (ts : List (Tok P))
+      → ((n : Name × P) → Reads d (λ w. k (n, w)) symbols) → Does d (where_so (is_name (kind_of_word t.word)) symbols) (λ ts. name ts >>= k) t ts
+  name_does d k symbols t ts h = by (is_named t.word) refl
+    where
+      by : (c : Bool) → is_named t.word ≡ c → Same d (λ stack. go d stack (where_so (is_name (kind_of_word t.word)) symbols) t ts) (name (t ∷ ts) >>= k) (length ts)
+      by true is = of-head d (λ x stack. go d stack x t ts) (where_so (is_name (kind_of_word t.word)) symbols) (along symbols) (name (t ∷ ts) >>= k) (length ts) (ap (λ b. where_so b symbols) (name_same t.word ∙ is)) (along-name d k symbols t ts is h)
+      by false is =
+          of-head d (λ x stack. go d stack x t ts) (where_so (is_name (kind_of_word t.word)) symbols) refused (name (t ∷ ts) >>= k) (length ts) (ap (λ b. where_so b symbols) (name_same t.word ∙ is))
+          (of-result d (λ stack. go d stack refused t ts) (name (t ∷ ts) >>= k) (refuse (t ∷ ts)) (length ts) (no-name k t ts is) (none-begun d t ts (length ts)))
