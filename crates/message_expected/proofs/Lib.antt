@@ -1,5 +1,7 @@
 pub mod Behind
+mod BodyRuns
 pub mod Cuts
+mod DeclRuns
 pub mod Examples
 mod ExprRuns
 pub mod Follows

@@ -59,7 +59,7 @@ key-refused false false false false false false false false true b10 = refl
 key-refused false false false false false false false false false true = refl
 key-refused false false false false false false false false false false = refl
 
-statement-refused : (v : Word) → is_refused (a.statement (kind_of_word v)) ≡ not (begins_by v)
+pub statement-refused : (v : Word) → is_refused (a.statement (kind_of_word v)) ≡ not (begins_by v)
 unfolding a.statement key_heads
 statement-refused (named n) = by (bytes_eq n (codes "deadline"))
   where
@@ -100,7 +100,7 @@ module _ {P : Type 0} (d : ℕ) where
   entry_rest_reads : Reads d entry-rest (s.Name ∷ s.Arguments ∷ [])
   entry_rest_reads = bind d name _ (s.Name ∷ []) (s.Arguments ∷ []) (a-name d) (λ n. last d (entry_args d) _ (s.Arguments ∷ []) entry_args_read (λ es. done d _))
 
-  entry_does : (t : Tok P) (ts : List (Tok P)) → same_word t.word w.DOT ≡ true → Does d (along (s.Name ∷ s.Arguments ∷ [])) (entry d) t ts
+  pub entry_does : (t : Tok P) (ts : List (Tok P)) → same_word t.word w.DOT ≡ true → Does d (along (s.Name ∷ s.Arguments ∷ [])) (entry d) t ts
   unfolding entry
   entry_does t ts e = along-word d w.DOT _ (s.Name ∷ s.Arguments ∷ []) t ts e (λ q. entry_rest_reads)
 
@@ -118,7 +118,7 @@ module _ {P : Type 0} (d : ℕ) where
             (done-last d (a.inside (s.Expression ∷ s.Sign m.RIGHT_BRACKET ∷ [])) (index (inner d)) _ t ts (index_does d (inner d) (inner_is P d) t ts e) (λ i. done d _));
       })
 
-  reference_reads : Reads d (reference {P = P} d) (s.Name ∷ s.Index ∷ [])
+  pub reference_reads : Reads d (reference {P = P} d) (s.Name ∷ s.Index ∷ [])
   unfolding reference
   reference_reads = bind d name _ (s.Name ∷ []) (s.Index ∷ []) (a-name d) (λ n. reference_from_reads n)
 

@@ -1,4 +1,5 @@
-use Rattle.message_expected.proofs.StmtRuns.{assigned_reads}
+use Rattle.message_expected.proofs.BodyRuns.{stmts_read}
+use Rattle.message_expected.proofs.DeclRuns.{numbers_read}
 use Rattle.std.proofs.Common.{◌≡◌, ◌-◌, [], ap, sym, ◌∙◌, get_or, reverse, take, subst, arith}
 use Rattle.message_expected.specs.Automaton.{find, is_refused}
 use Rattle.message_expected.specs.Stack.{turn_of}
