@@ -24,11 +24,11 @@ named-turn x y z v =
     (cond v (record { head = along (s.Assigned ∷ []); behind = [] }) (record { head = refused; behind = [] }))))
 
 -- what branches and loops begin with
-abbrev BranchHead : Head
-BranchHead = a.inside (s.Expression ∷ s.Keyword k.THEN ∷ s.Statements ∷ s.Else ∷ [])
+abbrev branch-symbols : List Symbol
+branch-symbols = s.Expression ∷ s.Keyword k.THEN ∷ s.Statements ∷ s.Else ∷ []
 
-abbrev LoopHead : Head
-LoopHead = a.inside (s.Name ∷ s.Sign m.COLON ∷ s.Constant ∷ s.Sign m.RANGE ∷ s.Constant ∷ s.Keyword k.DO ∷ s.Statements ∷ s.Keyword k.END ∷ s.Keyword k.FOR ∷ [])
+abbrev loop-symbols : List Symbol
+loop-symbols = s.Name ∷ s.Sign m.COLON ∷ s.Constant ∷ s.Sign m.RANGE ∷ s.Constant ∷ s.Keyword k.DO ∷ s.Statements ∷ s.Keyword k.END ∷ s.Keyword k.FOR ∷ []
 
 module _ {P : Type 0} (d : ℕ) where
   module _ (n : Name × P) where
@@ -125,7 +125,7 @@ module _ {P : Type 0} (d : ℕ) where
   except_does t ts =
       word_does d w.EXCEPT (is_key k.EXCEPT (kind_of_word t.word)) _ (s.Constant ∷ []) t ts (key_same k.EXCEPT t.word) (λ q. last d constant _ (s.Constant ∷ []) (constant_reads d) (λ c. done d _))
 
-  statement_by : (choose repeat : Parse P (Stmt P)) (t : Tok P) (ts : List (Tok P)) → (same_word t.word w.IF ≡ true → Does d BranchHead choose t ts) → (same_word t.word w.FOR ≡ true → Does d LoopHead repeat t ts)
+  statement_by : (choose repeat : Parse P (Stmt P)) (t : Tok P) (ts : List (Tok P)) → (same_word t.word w.IF ≡ true → Does d (a.inside branch-symbols) choose t ts) → (same_word t.word w.FOR ≡ true → Does d (a.inside loop-symbols) repeat t ts)
       → Does d (a.statement (kind_of_word t.word)) (stmt_by d choose repeat) t ts
   unfolding stmt_by simple_stmt plain_stmt a.statement
   statement_by choose repeat t ts hc hr =
@@ -186,11 +186,11 @@ module _ {P : Type 0} (d : ℕ) where
 module _ {P : Type 0} where
   stmt_does : (d : ℕ) (t : Tok P) (ts : List (Tok P)) → Does d (a.statement (kind_of_word t.word)) (stmt {P = P} d) t ts
   unfolding stmt
-  stmt_does zero t ts = statement_by 0 too_deep too_deep t ts (λ is. deep-same _ t ts (length ts)) (λ is. deep-same _ t ts (length ts))
+  stmt_does zero t ts = statement_by 0 too_deep too_deep t ts (λ is. deep-same branch-symbols t ts (length ts)) (λ is. deep-same loop-symbols t ts (length ts))
   stmt_does (suc e) t ts =
       statement_by (suc e) (choice e (stmt e)) (loop_stmt (stmt e)) t ts
-      (λ is. inner-same e _ t ts _ (length ts) (choice_inside e (stmt e) (statements_by e (stmt e) (stmt_does e)) t ts is))
-      (λ is. inner-same e _ t ts _ (length ts) (loop_inside e (stmt e) (statements_by e (stmt e) (stmt_does e)) t ts is))
+      (λ is. inner-same e branch-symbols t ts _ (length ts) (choice_inside e (stmt e) (statements_by e (stmt e) (stmt_does e)) t ts is))
+      (λ is. inner-same e loop-symbols t ts _ (length ts) (loop_inside e (stmt e) (statements_by e (stmt e) (stmt_does e)) t ts is))
 
   pub stmts_read : (d : ℕ) → Reads d (stmts {P = P} d) (s.Statements ∷ [])
   unfolding stmts

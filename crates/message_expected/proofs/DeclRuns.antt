@@ -22,6 +22,9 @@ member-refused true c x y = refl
 member-refused false true x y = refl
 member-refused false false x y = refl
 
+abbrev first-head : (b c : Bool) → Head
+first-head b c = cond b (along []) (where_so c (s.Sign m.COLON ∷ s.Scalar ∷ s.MoreParameters ∷ s.Sign m.RIGHT_PAREN ∷ []))
+
 module _ {P : Type 0} (d : ℕ) where
   -- the one of two tests that holds first
   either-of : {A : Type 0} (t : Tok P) (ts : List (Tok P)) (b1 b2 c1 c2 : Bool) (y : Head) (p q z : Result (A × List (Tok P)) Fault) → b1 ≡ c1 → b2 ≡ c2
@@ -33,12 +36,15 @@ module _ {P : Type 0} (d : ℕ) where
 
   -- ---- types
 
-  range_rest : {low : Constant P} → Reads d (λ v. expect w.RANGE v >>= λ c. constant c.1 >>= λ high. Ok ((low, high.0), high.1)) (s.Sign m.RANGE ∷ s.Constant ∷ [])
-  range_rest = bind d (expect w.RANGE) _ (s.Sign m.RANGE ∷ []) (s.Constant ∷ []) (mark d m.RANGE) (λ c. last d constant _ (s.Constant ∷ []) (constant_reads d) (λ high. done d _))
+  abbrev range-rest : Constant P × List (Tok P) → Result ((Constant P × Constant P) × List (Tok P)) Fault
+  range-rest low = expect w.RANGE low.1 >>= λ c. constant c.1 >>= λ high. Ok ((low.0, high.0), high.1)
+
+  range_rest : (low : Constant P) → Reads d (λ v. range-rest (low, v)) (s.Sign m.RANGE ∷ s.Constant ∷ [])
+  range_rest low = bind d (expect w.RANGE) _ (s.Sign m.RANGE ∷ []) (s.Constant ∷ []) (mark d m.RANGE) (λ c. last d constant _ (s.Constant ∷ []) (constant_reads d) (λ high. done d _))
 
   range_reads : Reads d (range {P = P}) (s.Constant ∷ s.Sign m.RANGE ∷ s.Constant ∷ [])
   unfolding range
-  range_reads = bind d constant _ (s.Constant ∷ []) (s.Sign m.RANGE ∷ s.Constant ∷ []) (constant_reads d) (λ low. range_rest)
+  range_reads = bind d constant _ (s.Constant ∷ []) (s.Sign m.RANGE ∷ s.Constant ∷ []) (constant_reads d) (λ low. range_rest low)
 
   grown : (b c : Bool) (t : Tok P) (ts : List (Tok P)) (stack : List Symbol)
       → go d stack (cond b (along (s.Unsigned ∷ s.Sign m.RANGE ∷ s.Constant ∷ [])) (where_so c (s.Sign m.RANGE ∷ s.Constant ∷ []))) t ts
@@ -52,7 +58,7 @@ module _ {P : Type 0} (d : ℕ) where
   unfolding range a.constant a.unsigned
   range_does t ts =
       via d _ _ (range (t ∷ ts)) (length ts) (length ts) (omega arith) (λ stack. grown (is_sign m.MINUS (kind_of_word t.word)) (a.is_name (kind_of_word t.word) || a.is_number (kind_of_word t.word)) t ts stack)
-      (done-then d (a.constant (kind_of_word t.word)) (s.Sign m.RANGE ∷ s.Constant ∷ []) constant _ t ts (constant_does d t ts) (λ low. range_rest))
+      (done-then d (a.constant (kind_of_word t.word)) (s.Sign m.RANGE ∷ s.Constant ∷ []) constant _ t ts (constant_does d t ts) (λ low. range_rest low))
 
   scalar_does : (t : Tok P) (ts : List (Tok P)) → Does d (a.scalar (kind_of_word t.word)) scalar_type t ts
   unfolding scalar_type a.scalar
@@ -78,9 +84,6 @@ module _ {P : Type 0} (d : ℕ) where
       (λ e. done-last d (a.scalar (kind_of_word t.word)) scalar_type _ t ts (scalar_does t ts) (λ x. done d _)))
 
   -- ---- variables and members
-
-  abbrev Variable : List Symbol
-  Variable = s.Name ∷ s.Sign m.COLON ∷ s.VariableType ∷ []
 
   var_behind : (t : Tok P) (ts : List (Tok P)) → same_word t.word w.VAR ≡ true → Same d (λ stack. run d ((s.Name ∷ s.Sign m.COLON ∷ s.VariableType ∷ []) ++ stack) ts) (var (t ∷ ts)) (length ts)
   unfolding var
@@ -133,9 +136,6 @@ module _ {P : Type 0} (d : ℕ) where
       bind d (listed param) to-paren (s.Name ∷ s.Sign m.COLON ∷ s.Scalar ∷ s.MoreParameters ∷ []) (s.Sign m.RIGHT_PAREN ∷ [])
       (bind d param _ (s.Name ∷ s.Sign m.COLON ∷ s.Scalar ∷ []) (s.MoreParameters ∷ []) param_reads (λ x. last d (many (is_at w.COMMA) (behind_comma param)) _ (s.MoreParameters ∷ []) more_parameters (λ xs. done d _)))
       (λ xs. close_reads xs)
-
-  abbrev first-head : (b c : Bool) → Head
-  first-head b c = cond b (along []) (where_so c (s.Sign m.COLON ∷ s.Scalar ∷ s.MoreParameters ∷ s.Sign m.RIGHT_PAREN ∷ []))
 
   name-head : (c : Bool) (t : Tok P) (ts : List (Tok P)) (stack : List Symbol)
       → go d stack (first-head false c) t ts ≡ go d (s.Sign m.COLON ∷ s.Scalar ∷ s.MoreParameters ∷ s.Sign m.RIGHT_PAREN ∷ stack) (where_so c []) t ts

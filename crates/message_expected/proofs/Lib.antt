@@ -8,6 +8,7 @@ pub mod Follows
 pub mod Numbered
 pub mod Picked
 pub mod Places
+mod ProgRuns
 mod Runs
 mod Stacks
 mod StmtRuns

@@ -1,5 +1,4 @@
-use Rattle.message_expected.proofs.BodyRuns.{stmts_read}
-use Rattle.message_expected.proofs.DeclRuns.{numbers_read}
+use Rattle.message_expected.proofs.ProgRuns.{whole_runs}
 use Rattle.std.proofs.Common.{◌≡◌, ◌-◌, [], ap, sym, ◌∙◌, get_or, reverse, take, subst, arith}
 use Rattle.message_expected.specs.Automaton.{find, is_refused}
 use Rattle.message_expected.specs.Stack.{turn_of}
