@@ -1,5 +1,7 @@
+mod Begins
 pub mod Behind
 mod BodyRuns
+mod CutBack
 pub mod Cuts
 mod DeclRuns
 pub mod Examples
@@ -7,7 +9,9 @@ mod ExprRuns
 pub mod Follows
 pub mod Numbered
 pub mod Picked
-pub mod Places
+mod HasWords
+mod Leading
+mod May
 mod ProgRuns
 mod Runs
 mod Stacks

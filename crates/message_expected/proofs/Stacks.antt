@@ -1,8 +1,13 @@
 -- What is found on a stack, its symbols looked at one by one, and where words lead one by one.
-use Rattle.std.proofs.Common.{◌≡◌, ℕ, zero, suc, ◌+◌, ◌-◌, ◌<◌, ◌≤◌, List, [], ◌∷◌, ◌++◌, length, take, drop, reverse, get_or, Bool, true, false, cond, Option, None, Some, refl, ap, sym, ◌∙◌, subst, arith}
-use Rattle.std.proofs.lemmas.List.{reverse-append}
+use Rattle.std.proofs.Common.{◌≡◌, ℕ, zero, suc, ◌+◌, ◌-◌, ◌<◌, ◌≤◌, List, [], ◌∷◌, ◌++◌, length, take, drop, reverse, get_or, Bool, true, false, cond, Option, None, Some, ◌&&◌, map, refl, ap, sym, ◌∙◌, subst, arith}
+use Rattle.std.proofs.lemmas.List.{drop_all, drop_more, reverse-append}
+use Rattle.std.proofs.lemmas.List.Folds.{list_all-append}
+use Rattle.std.proofs.Math.Bool.{and_comm}
 use Rattle.std.proofs.Math.Seq.{take-suc}
-use Rattle.message_expected.specs.Automaton.{Found, Reached, Turn, find, is_optional, is_refused, levels_behind, turn}
+use Rattle.std.specs.List.{list_all}
+use Rattle.syntax.specs.declared.token.Token.{Token}
+use Rattle.message_expected.specs.Automaton as a
+use Rattle.message_expected.specs.Automaton.{Found, Reached, Turn, feed, find, is_optional, is_refused, kind_in, kinds_in, levels_behind, on, reach, stopped, turn}
 use Rattle.message_expected.specs.declared.kinds.Kind.{Kind}
 use Rattle.message_expected.specs.declared.symbols.Symbol.{Symbol}
 
@@ -38,3 +43,33 @@ module _ (levels : ℕ) (symbol : Symbol) (stack : List Symbol) (kind : Kind) (d
 pub empty : (levels : ℕ) (kind : Kind) → find levels [] kind ≡ None
 unfolding find
 empty levels kind = refl
+
+-- ---- one word after another
+
+pub step_to : (text : List ℕ) (all : List Token) (index : ℕ) (d : Token) (levels : ℕ) (stack : List Symbol) (r : Reached) → index < length all → r ≡ feed levels stack (kind_in text (get_or all index d))
+    → reach (on levels stack) (kinds_in text (drop index all)) ≡ reach r (kinds_in text (drop (index + 1) all))
+unfolding reach
+step_to text all index d levels stack r more is =
+    ap (λ l. reach (on levels stack) (kinds_in text l)) (drop_more all index d more) ∙ ap (λ r. reach r (kinds_in text (drop (index + 1) all))) (sym is)
+
+pub stays_stopped : (kinds : List Kind) → reach stopped kinds ≡ stopped
+unfolding reach
+stays_stopped kinds = refl
+
+pub stays_deep : (kinds : List Kind) → reach a.too_deep kinds ≡ a.too_deep
+unfolding reach
+stays_deep kinds = refl
+
+pub stays_on : (text : List ℕ) (all : List Token) (index levels : ℕ) (stack : List Symbol) → length all ≤ index → reach (on levels stack) (kinds_in text (drop index all)) ≡ on levels stack
+unfolding reach
+stays_on text all index levels stack end = ap (λ l. reach (on levels stack) (kinds_in text l)) (drop_all index all end)
+
+and_true : (b : Bool) → b && true ≡ b
+and_true true = refl
+and_true false = refl
+
+pub all_reversed : {X : Type 0} (p : X → Bool) (xs : List X) → list_all p (reverse xs) ≡ list_all p xs
+all_reversed p [] = refl
+all_reversed p (x ∷ xs) =
+    ap (list_all p) (reverse-append (x ∷ []) xs) ∙ list_all-append p (reverse xs) (x ∷ []) ∙ ap (λ b. list_all p (reverse xs) && b) (and_true (p x)) ∙ and_comm (list_all p (reverse xs)) (p x)
+    ∙ ap (λ b. p x && b) (all_reversed p xs)

@@ -1,6 +1,7 @@
 //! The automaton: what may still come stands on a stack, and each word does a turn.
 
-ghost use Rattle.std.specs.Prelude.{◌≡◌, ◌++◌, IfOk, List, OnOk, reverse};
+ghost use Rattle.std.specs.Prelude.{◌≡◌, ◌≢◌, ◌++◌, IfOk, List, OnOk, reverse};
+ghost use Rattle.std.specs.List.{list_all};
 ghost use Rattle.std.specs.Prelude.{take as first};
 ghost use Rattle.message_expected.specs.Automaton as automaton;
 ghost use Rattle.message_expected.specs.Leads.{Leads};
@@ -189,14 +190,23 @@ fn lead(alloc: Global, text: &[u8], all: &[Token]) -> Result<Reached, AllocError
     Ok(Reached::On { levels, stack })
 }
 
+/// That a text of this fault leads nowhere.
+fn lead_nowhere(fault: LexFault) -> Result<Reached, AllocError>
+    ensures { IfOk result (λ it. (reached_of it ≡ automaton.stopped) × (fault ≢ LexFault.Memory)) }
+{
+    match fault {
+        LexFault::Memory => Err(AllocError),
+        _ => Ok(Reached::Stopped),
+    }
+}
+
 /// Where the words of the text lead; a text without tokens leads nowhere.
 pub(crate) fn read(alloc: Global, text: &[u8]) -> Result<Reached, AllocError>
     ensures { IfOk result (λ it. Leads text.now (reached_of it)) }
 {
     match lex(alloc, text) {
         Ok(tokens) => lead(alloc, text, tokens.as_slice()),
-        Err(LexFault::Memory) => Err(AllocError),
-        Err(_) => Ok(Reached::Stopped),
+        Err(fault) => lead_nowhere(fault),
     }
 }
 
@@ -211,12 +221,19 @@ pub(crate) fn goes_on(reached: &Reached, kind: Kind) -> bool
     }
 }
 
+/// Whether nothing at all may stand for each of these.
+fn are_optional(stack: &[Symbol]) -> bool
+    ensures { result ≡ list_all automaton.is_optional stack.now }
+{
+    stack.iter().all(|symbol| is_optional(*symbol))
+}
+
 /// Whether what is left of a program is nothing, or may be.
 pub(crate) fn is_whole(reached: &Reached) -> bool
     ensures { result ≡ automaton.is_whole (reached_of reached.now) }
 {
     match reached {
         Reached::Stopped | Reached::TooDeep => false,
-        Reached::On { stack, .. } => stack.iter().all(|symbol| is_optional(*symbol)),
+        Reached::On { stack, .. } => are_optional(stack.as_slice()),
     }
 }

@@ -24,7 +24,10 @@ fn may_follow(text: &[u8], reached: &Reached, kind: Kind) -> bool
     requires word { HasWord kind }
     ensures { IsTrue result ↔ MayFollow text.now (spelling_of kind) }
 {
-    spelling(kind).len() < LONGEST_TEXT.saturating_sub(text.len()) && goes_on(reached, kind)
+    if spelling(kind).len() >= LONGEST_TEXT.saturating_sub(text.len()) {
+        return false;
+    }
+    goes_on(reached, kind)
 }
 
 /// Whether `deadline` is expected behind the text, which leads there.
@@ -32,7 +35,10 @@ fn is_deadline_expected(text: &[u8], reached: &Reached) -> bool
     requires { Leads text.now (reached_of reached.now) }
     ensures { IsTrue result ↔ IsExpected text.now kind.Deadline }
 {
-    !may_follow(text, reached, Kind::Name) && may_follow(text, reached, Kind::Deadline)
+    if may_follow(text, reached, Kind::Name) {
+        return false;
+    }
+    may_follow(text, reached, Kind::Deadline)
 }
 
 /// Whether the kind is expected behind the text, which leads there.

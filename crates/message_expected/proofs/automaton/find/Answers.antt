@@ -1,4 +1,4 @@
-use Rattle.message_expected.proofs.ProgRuns.{whole_runs}
+use Rattle.message_expected.proofs.May.{program_whole}
 use Rattle.std.proofs.Common.{◌≡◌, ◌-◌, [], ap, sym, ◌∙◌, get_or, reverse, take, subst, arith}
 use Rattle.message_expected.specs.Automaton.{find, is_refused}
 use Rattle.message_expected.specs.Stack.{turn_of}
