@@ -3,8 +3,8 @@ use Rattle.message_expected.proofs.Follows.{of_deadline, of_end, of_other, word_
 use Rattle.message_expected.proofs.May.{ends}
 use Rattle.message_expected.proofs.finding.is_expected.Goals as goal
 
-pub may_follow-requires-in_default-clause-word : goal.may_follow-requires-in_default-clause-word
-may_follow-requires-in_default-clause-word c = word_of_other c.args.kind c.requires.word c.in_default.not-End
+pub may_follow-requires : goal.may_follow-requires
+may_follow-requires c = record { leads = c.requires.leads; word = word_of_other c.args.kind c.requires.word c.in_default.not-End }
 
 pub returns-in-End : goal.returns-in-End
 returns-in-End c = of_end c.args.text.now c.args.kind c.is_whole.result c.in-End.is (ends c.args.text.now (reached_of c.args.reached.now) c.is_whole.result c.requires.leads c.is_whole.ensures)
