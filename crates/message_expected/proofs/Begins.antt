@@ -1,96 +1,63 @@
--- What the parser's answer says of the tokens of a text.
-use Rattle.std.proofs.Common.{◌≡◌, ℕ, ◌⊎◌, inl, inr, Bool, true, false, IsTrue, ◌↔◌, Result, Err, IfOk, List, [], ◌∷◌, ◌++◌, append-nil, refl, ap, sym, ◌∙◌, subst, get_or, length, ◌<◌, arith}
-use Rattle.std.proofs.lemmas.Grind.{common_steps}
-use Rattle.std.proofs.lemmas.List.{get_or_at}
-use Rattle.std.proofs.lemmas.Result.{IfOk-weaker}
-use Rattle.std.specs.declared.alloc.AllocError.{AllocError}
-use Rattle.syntax.proofs.LawLemmas.{one_list, only_memory, stand_in_order}
-use Rattle.syntax.specs.Faults.{Faulty}
-use Rattle.syntax.specs.Grammar.{IsProg, tree}
-use Rattle.syntax.specs.Lex.{HasSpan}
-use Rattle.syntax.specs.Tokens.{IsEnd, StandsIn, tokens}
-use Rattle.syntax.specs.Words.{toks_of}
-use Rattle.syntax.specs.declared.fault.LexFault.{LexFault}
-use Rattle.syntax.specs.declared.fault.LexFault.TheVariants as lex
+-- Tokens begin a program unless they stop at one of them, and are one where nothing is at fault.
+use Rattle.std.proofs.Common.{◌≡◌, ℕ, zero, suc, ◌<◌, ◌⊎◌, inl, inr, ◌↔◌, Result, Ok, Err, List, [], ◌∷◌, ◌++◌, append-nil, length, refl, ap, sym, ◌∙◌, subst, arith}
+use Rattle.syntax.specs.Grammar.{IsProg, MOST_LEVELS, tree}
+use Rattle.syntax.specs.Words.{Tok, toks_of}
 use Rattle.syntax.specs.declared.token.Token.{Token}
-use Rattle.syntax.specs.declared.token.Tokens.{Tokens}
-use Rattle.syntax_parser.specs.Faults.{OpensAt, StopsAt}
-use Rattle.syntax_parser.specs.declared.fault.SyntaxFault.{SyntaxFault}
-use Rattle.syntax_parser.specs.declared.fault.SyntaxFault.TheVariants.{Memory, Nesting, Syntax}
-use Rattle.syntax_reading.proofs.Stops.{no-end}
+use Rattle.syntax_parser.specs.Faults.{OpensAt, place}
+use Rattle.syntax_parser.proofs.Refusals.{opening, stopped}
 use Rattle.syntax_reading.specs.Beginning.{BeginsProg}
+use Rattle.syntax_reading.specs.ExprReading.{Fault, nesting, syntax}
+use Rattle.syntax_reading.specs.Reading.{whole}
+use Rattle.syntax_reading.proofs.Again.{whole_again}
+use Rattle.syntax_reading.proofs.Sound.{whole_sound}
+use Rattle.syntax_reading.proofs.Stops.{fault-stops, no-end}
 use Rattle.syntax_tree.specs.Placed.{Prog}
-use Rattle.syntax_tree.specs.declared.decl.Program.{Program}
 use Rattle.syntax_tree.specs.declared.place.Place.{Place}
+use Rattle.message_expected.specs.Automaton.{program}
 use Rattle.message_expected.specs.Expected.{Begin, HaveTree}
-use Rattle.message_expected.proofs.Places.{not_at_end}
+use Rattle.message_expected.proofs.ProgRuns.{outcome, whole_runs}
+use Rattle.message_expected.proofs.Runs.{Answer, run}
 
 -- the tokens of a program begin one
-pub tree_begins : (text : List ℕ) (toks : List Token) (g : Prog Place) → tree text toks g → BeginsProg (toks_of text toks)
+tree_begins : (text : List ℕ) (toks : List Token) (g : Prog Place) → tree text toks g → BeginsProg (toks_of text toks)
 tree_begins text toks g took = (0, ([], g, subst (λ l. IsProg g l []) (sym (append-nil (toks_of text toks))) took))
 
--- the token where they stop stands before the end
-stop_stands : (text : List ℕ) (toks : List Token) → tokens text toks → (before after : List Token) (token : Token) → toks ≡ before ++ token ∷ after
-    → StandsIn text token × HasSpan text token
-stop_stands text toks listed before after token all =
-    let order = stand_in_order text toks listed in
-    let below : length before < length toks = subst (λ l. length before < length l) (sym all) (grind (arith, common_steps)) in
-    let here : get_or toks (length before) token ≡ token =
-    ap (λ l. get_or l (length before) token) all ∙ get_or_at before token after token (length before) refl in
-    (subst (StandsIn text) here (order.stand (length before) token below), subst (HasSpan text) here (order.spans (length before) token below))
+fault_of : {A : Type 0} (r : Result A Fault) (f : Fault) → outcome r ≡ Err f → r ≡ Err f
+fault_of (Ok x) f is = cc
+fault_of (Err g) f is = let same : g ≡ f = cc in ap Err same
 
--- tokens at whose end the fault stands begin a program
-pub end_begins : (text : List ℕ) (toks : Tokens) (p : Place) → tokens text toks.list → IsEnd text toks.end → StopsAt text toks p → p ≡ toks.end → BeginsProg (toks_of text toks.list)
-end_begins text toks p listed end (inl (s, there)) at =
-    let stands = stop_stands text toks.list listed s.before s.after s.token s.all in
-    absurd (not_at_end text s.token toks.end stands.0 stands.1 end (sym there ∙ at))
-end_begins text toks p listed end (inr (begins, there)) at = begins
+tree_of : {A : Type 0} (r : Result A Fault) → outcome r ≡ Ok tt → (x : A) × (r ≡ Ok x)
+tree_of (Ok x) is = (x, refl)
+tree_of (Err g) is = cc
 
--- the fault of tokens that begin a program stands at their end
-pub begins_end : (text : List ℕ) (toks : Tokens) (p : Place) → StopsAt text toks p → BeginsProg (toks_of text toks.list) → p ≡ toks.end
-begins_end text toks p (inl (s, there)) begins = absurd (no-end text toks.list s begins)
-begins_end text toks p (inr (also, there)) begins = there
+module _ (text : List ℕ) (toks : List Token) where
+  abbrev ts : List (Tok Place)
+  ts = toks_of text toks
 
--- the answer where the fault stands at a place
-pub at_place : (text : List ℕ) (toks : Tokens) (r : Result Program SyntaxFault) (p : Place) (is : Bool) → tokens text toks.list → IsEnd text toks.end
-    → r ≡ Err (Syntax p) → ((q : Place) → r ≡ Err (Syntax q) → StopsAt text toks q)
-    → ((q : Place) → OpensAt text toks.list q → (r ≡ Err (Nesting q)) ⊎ (r ≡ Err Memory)) → IsTrue is ↔ (p ≡ toks.end) → IsTrue is ↔ Begin text toks.list
-unfolding Begin
-at_place text toks r p is listed end at stops deep both = (
-  λ yes. inl (end_begins text toks p listed end (stops p at) (both.0 yes)),
-  λ begins. both.1 (elim begins [
-    | inl begin ↦ begins_end text toks p (stops p at) begin
-    | inr (q, opens) ↦ elim (deep q opens) [
-      | inl other ↦ let none = sym at ∙ other in cc
-      | inr other ↦ let none = sym at ∙ other in cc
-    ]
-  ]),
-)
+  by-reading : (r : Result (Prog Place) Fault) → whole MOST_LEVELS (toks_of text toks) ≡ r → ((n : ℕ) → 0 < n → whole MOST_LEVELS (toks_of text toks) ≡ Err (syntax n) → ⊥)
+      → BeginsProg (toks_of text toks) ⊎ ((p : Place) × OpensAt text toks p)
+  by-reading (Ok g) is not = inl (tree_begins text toks g (whole_sound (toks_of text toks) g is))
+  by-reading (Err (syntax n)) is not = elim (fault-stops text toks n is) [ inl (s, left) ↦ absurd (not n (omega (arith, left)) is) | inr (begins, left) ↦ inl begins ]
+  by-reading (Err (nesting n)) is not =
+      let o = opening text toks n is in inr (place o.token, record { before = o.before; token = o.token; after = o.after; all = o.all; opens = o.opens; stands = refl })
 
--- ---- the two answers of a test
+  pub begins_unless : ((n : ℕ) → 0 < n → run MOST_LEVELS program (toks_of text toks) ≡ Err (syntax n) → ⊥) → Begin text toks
+  unfolding Begin
+  begins_unless not = by-reading (whole MOST_LEVELS (toks_of text toks)) refl (λ n some is. not n some (whole_runs MOST_LEVELS (toks_of text toks) ∙ ap outcome is))
 
-pub is_so : {A : Type 0} → A → IsTrue true ↔ A
-is_so it = (λ yes. it, λ it. refl)
+  pub never_begins : (n : ℕ) → 0 < n → run MOST_LEVELS program (toks_of text toks) ≡ Err (syntax n) → Begin text toks → ⊥
+  unfolding Begin
+  never_begins n some is begins =
+      let fault = fault_of (whole MOST_LEVELS (toks_of text toks)) (syntax n) (sym (whole_runs MOST_LEVELS (toks_of text toks)) ∙ is) in
+      elim begins [
+        | inl begin ↦ elim (fault-stops text toks n fault) [ inl (s, left) ↦ no-end text toks s begin | inr (also, left) ↦ omega (arith, some, left) ]
+        | inr (p, o) ↦ let both : ◌≡◌ {A = Result (Prog Place) Fault} (Err (syntax n)) (Err (nesting (length (o.token ∷ o.after)))) = sym fault ∙ stopped text toks p o in cc
+      ]
 
-pub is_not : {A : Type 0} → (A → ⊥) → IsTrue false ↔ A
-is_not none = (λ yes. cc, λ it. absurd (none it))
+  pub is_tree : run MOST_LEVELS program (toks_of text toks) ≡ Ok tt → HaveTree text toks
+  unfolding HaveTree
+  is_tree is = let (g, read) = tree_of (whole MOST_LEVELS (toks_of text toks)) (sym (whole_runs MOST_LEVELS (toks_of text toks)) ∙ is) in (g, whole_sound (toks_of text toks) g read)
 
--- what is tested of the tokens of a text is tested of the text
-pub of_text : (Holds : List Token → Type 0) (text : List ℕ) (toks : List Token) (r : Result Bool AllocError) → tokens text toks → IfOk r (λ is. IsTrue is ↔ Holds toks)
-    → IfOk r (λ is. IsTrue is ↔ ((toks : List Token) × tokens text toks × Holds toks))
-of_text Holds text toks r listed both =
-    IfOk-weaker r (λ is. IsTrue is ↔ Holds toks) (λ is. IsTrue is ↔ ((toks : List Token) × tokens text toks × Holds toks))
-    (λ is both. (λ yes. (toks, listed, both.0 yes), λ (others, also, holds). both.1 (subst Holds (one_list text others toks also listed) holds))) both
-
--- a text with a fault has no tokens
-pub of_fault : (Holds : List Token → Type 0) (text : List ℕ) (fault : LexFault) (r : Result Bool AllocError) → (fault ≡ lex.Memory) ⊎ Faulty text fault
-    → IfOk r (λ is. (is ≡ false) × (fault ≡ lex.Memory → ⊥)) → IfOk r (λ is. IsTrue is ↔ ((toks : List Token) × tokens text toks × Holds toks))
-of_fault Holds text fault r cause said =
-    IfOk-weaker r (λ is. (is ≡ false) × (fault ≡ lex.Memory → ⊥)) (λ is. IsTrue is ↔ ((toks : List Token) × tokens text toks × Holds toks))
-    (λ is (none, some). subst (λ is. IsTrue is ↔ ((toks : List Token) × tokens text toks × Holds toks)) (sym none)
-    (is_not (λ (toks, listed, holds). some (only_memory text toks fault cause listed)))) said
-
--- a fault other than want of memory is that of tokens that have no tree
-pub no_tree : (text : List ℕ) (toks : List Token) (fault : SyntaxFault) → (fault ≡ Memory → ⊥) → ((g : Prog Place) → tree text toks g → fault ≡ Memory) → IsTrue false ↔ HaveTree text toks
-unfolding HaveTree
-no_tree text toks fault other only = is_not (λ (g, took). other (only g took))
+  pub tree_is : HaveTree text toks → run MOST_LEVELS program (toks_of text toks) ≡ Ok tt
+  unfolding HaveTree
+  tree_is (g, took) = whole_runs MOST_LEVELS (toks_of text toks) ∙ ap outcome (whole_again MOST_LEVELS (toks_of text toks) g took)

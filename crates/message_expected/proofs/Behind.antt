@@ -72,7 +72,7 @@ spells_of word (Literal value) has = inr (inl has.0)
 spells_of word (Sign at) has = inr (inr (Contains-from signs at word has))
 
 -- a token of the word, behind some bytes and a line feed
-abbrev token_behind : (X : List ℕ) (kind : TokenKind) (word : List ℕ) → Token
+abbrev pub token_behind : (X : List ℕ) (kind : TokenKind) (word : List ℕ) → Token
 token_behind X kind word = record {
   kind = kind;
   start = length X + 1;
@@ -107,12 +107,12 @@ stands_behind X word kind has = record {
 -- ---- all tokens of the longer text
 
 -- with these bytes as the front
-record Along (text : List ℕ) (before : List Token) (kind : TokenKind) (word F : List ℕ) : Type 0 where
-  listed : tokens (F ++ 10 ∷ word) (before ++ token_behind F kind word ∷ [])
-  words : toks_of (F ++ 10 ∷ word) (before ++ token_behind F kind word ∷ [])
+pub record Along (text : List ℕ) (before : List Token) (kind : TokenKind) (word F : List ℕ) : Type 0 where
+  pub listed : tokens (F ++ 10 ∷ word) (before ++ token_behind F kind word ∷ [])
+  pub words : toks_of (F ++ 10 ∷ word) (before ++ token_behind F kind word ∷ [])
       ≡ toks_of text before ++ record { word = word_of kind word; place = record { line = line_after (F ++ 10 ∷ []); col = col_after (F ++ 10 ∷ []) } } ∷ []
 
-along : (X rest : List ℕ) (before : List Token) (kind : TokenKind) (word : List ℕ) (ps : List Piece) → HasKind word kind → length (X ++ 10 ∷ word) ≤ longest_text
+pub along : (X rest : List ℕ) (before : List Token) (kind : TokenKind) (word : List ℕ) (ps : List Piece) → HasKind word kind → length (X ++ 10 ∷ word) ≤ longest_text
     → IsCut (X ++ rest) 0 (length X) ps → tokens_among ps ≡ before → Along (X ++ rest) before kind word X
 along X rest before kind word ps has fits cut is = record {
   listed = record {

@@ -36,7 +36,7 @@ percent_kept [] (b ∷ rest) tail short begins =
     let low : 1 + line_len rest ≤ 0 = subst (λ t. cond t (1 + line_len rest) 0 ≤ 0) (percent_in_line b begins) short in absurd (omega arith)
 percent_kept (b ∷ seg) rest tail short begins = begins
 
-no_feed : (seg tail : List ℕ) (m : ℕ) → length seg < m → list_all is_in_line (take m (seg ++ 10 ∷ tail)) ≡ true → ⊥
+pub no_feed : (seg tail : List ℕ) (m : ℕ) → length seg < m → list_all is_in_line (take m (seg ++ 10 ∷ tail)) ≡ true → ⊥
 no_feed [] tail zero long all = omega arith
 no_feed [] tail (suc m) long all = cc all
 no_feed (b ∷ seg) tail zero long all = omega arith

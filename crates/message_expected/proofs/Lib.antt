@@ -1,8 +1,18 @@
-pub mod Begins
+mod Begins
 pub mod Behind
+mod BodyRuns
+mod CutBack
 pub mod Cuts
+mod DeclRuns
 pub mod Examples
+mod ExprRuns
 pub mod Follows
 pub mod Numbered
 pub mod Picked
-pub mod Places
+mod HasWords
+mod Leading
+mod May
+mod ProgRuns
+mod Runs
+mod Stacks
+mod StmtRuns

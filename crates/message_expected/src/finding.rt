@@ -3,85 +3,98 @@
 ghost use Rattle.std.specs.Prelude.{◌++◌, ◌∷◌, [], ◌↔◌, IfOk, IsTrue, List, OnOk};
 ghost use Rattle.message_expected.specs.Expected.{front, IsExpected, IsExpectedSet};
 ghost use Rattle.message_expected.specs.Expected.{MayFollow, Picks};
-ghost use Rattle.message_expected.specs.Kinds.{numbered};
+ghost use Rattle.message_expected.specs.Kinds.{numbered, spelling as spelling_of};
+ghost use Rattle.message_expected.specs.Leads.{HasWord, IsWord, Leads};
+ghost use Rattle.message_expected.specs.Stack.{reached_of};
 ghost use Rattle.message_expected.specs.declared.kinds.Kind.{Kind as SpecKind};
 ghost use Rattle.message_expected.specs.declared.kinds.Kind.TheVariants as kind;
 
-use crate::begin::{begins_program, is_program};
+use crate::automaton::{Reached, goes_on, is_whole, read};
 use crate::kinds::{KEYWORDS, Kind, SIGNS, spelling};
 use crate::tokens::front;
 use std::alloc::{AllocError, Global};
 use syntax::Token;
-use syntax_tree::Text;
 
-/// Whether the word may stand behind the text.
-fn may_follow(alloc: Global, text: &[u8], word: &[u8]) -> Result<bool, AllocError>
-    ensures { IfOk result (λ may. IsTrue may ↔ MayFollow text.now word.now) }
-{
-    let mut longer = Text::from_bytes(alloc, text)?;
-    longer.extend(b"\n")?;
-    longer.extend(word)?;
-    begins_program(alloc, longer.as_bytes())
-}
+/// A text has at most this many bytes.
+const LONGEST_TEXT: usize = 1_048_576;
 
-/// Whether `deadline` is expected behind the text.
-fn is_deadline_expected(alloc: Global, text: &[u8]) -> Result<bool, AllocError>
-    ensures { IfOk result (λ is. IsTrue is ↔ IsExpected text.now kind.Deadline) }
+/// Whether a word of the kind may stand behind the text, which leads there.
+fn may_follow(text: &[u8], reached: &Reached, kind: Kind) -> bool
+    requires leads { Leads text.now (reached_of reached.now) }
+    requires word { HasWord kind }
+    ensures { IsTrue result ↔ MayFollow text.now (spelling_of kind) }
 {
-    if may_follow(alloc, text, b"a")? {
-        return Ok(false);
+    if spelling(kind).len() >= LONGEST_TEXT.saturating_sub(text.len()) {
+        return false;
     }
-    may_follow(alloc, text, b"deadline")
+    goes_on(reached, kind)
 }
 
-/// Whether the kind is expected behind the text.
-fn is_expected(alloc: Global, text: &[u8], kind: Kind) -> Result<bool, AllocError>
-    ensures { IfOk result (λ is. IsTrue is ↔ IsExpected text.now kind) }
+/// Whether `deadline` is expected behind the text, which leads there.
+fn is_deadline_expected(text: &[u8], reached: &Reached) -> bool
+    requires { Leads text.now (reached_of reached.now) }
+    ensures { IsTrue result ↔ IsExpected text.now kind.Deadline }
+{
+    if may_follow(text, reached, Kind::Name) {
+        return false;
+    }
+    may_follow(text, reached, Kind::Deadline)
+}
+
+/// Whether the kind is expected behind the text, which leads there.
+fn is_expected(text: &[u8], reached: &Reached, kind: Kind) -> bool
+    requires leads { Leads text.now (reached_of reached.now) }
+    requires word { IsWord kind }
+    ensures { IsTrue result ↔ IsExpected text.now kind }
 {
     match kind {
-        Kind::End => is_program(alloc, text),
-        Kind::Deadline => is_deadline_expected(alloc, text),
-        _ => may_follow(alloc, text, spelling(kind)),
+        Kind::End => is_whole(reached),
+        Kind::Deadline => is_deadline_expected(text, reached),
+        _ => may_follow(text, reached, kind),
     }
 }
 
 /// Puts the kind to the others if it is expected behind the text.
 fn add_expected(
-    alloc: Global,
     text: &[u8],
+    reached: &Reached,
     kind: Kind,
     found: &mut Vec<Kind>,
 ) -> Result<(), AllocError>
+    requires leads { Leads text.now (reached_of reached.now) }
+    requires word { IsWord kind }
     ensures { OnOk result ((all : List SpecKind) →
         Picks (IsExpected text.now) all found.old.items →
         Picks (IsExpected text.now) (all ++ kind ∷ []) found.new.items) }
 {
-    if is_expected(alloc, text, kind)? {
+    if is_expected(text, reached, kind) {
         found.push(kind)?;
     }
     Ok(())
 }
 
 /// Puts the keywords to the others that are expected behind the text.
-fn add_keywords(alloc: Global, text: &[u8], found: &mut Vec<Kind>) -> Result<(), AllocError>
+fn add_keywords(text: &[u8], reached: &Reached, found: &mut Vec<Kind>) -> Result<(), AllocError>
+    requires { Leads text.now (reached_of reached.now) }
     ensures { OnOk result ((all : List SpecKind) →
         Picks (IsExpected text.now) all found.old.items →
         Picks (IsExpected text.now) (all ++ numbered kind.Keyword KEYWORDS) found.new.items) }
 {
     for at in 0..KEYWORDS {
-        add_expected(alloc, text, Kind::Keyword { at }, found)?;
+        add_expected(text, reached, Kind::Keyword { at }, found)?;
     }
     Ok(())
 }
 
 /// Puts the signs to the others that are expected behind the text.
-fn add_signs(alloc: Global, text: &[u8], found: &mut Vec<Kind>) -> Result<(), AllocError>
+fn add_signs(text: &[u8], reached: &Reached, found: &mut Vec<Kind>) -> Result<(), AllocError>
+    requires { Leads text.now (reached_of reached.now) }
     ensures { OnOk result ((all : List SpecKind) →
         Picks (IsExpected text.now) all found.old.items →
         Picks (IsExpected text.now) (all ++ numbered kind.Sign SIGNS) found.new.items) }
 {
     for at in 0..SIGNS {
-        add_expected(alloc, text, Kind::Sign { at }, found)?;
+        add_expected(text, reached, Kind::Sign { at }, found)?;
     }
     Ok(())
 }
@@ -95,12 +108,13 @@ pub fn expected(alloc: Global, text: &[u8], before: &[Token]) -> Result<Vec<Kind
     ensures { IfOk result (λ found. IsExpectedSet (front text.now before.now) found.items) }
 {
     let text = front(text, before);
+    let reached = read(alloc, text)?;
     let mut found = Vec::new(alloc);
-    add_expected(alloc, text, Kind::End, &mut found)?;
-    add_expected(alloc, text, Kind::Name, &mut found)?;
-    add_expected(alloc, text, Kind::Number, &mut found)?;
-    add_expected(alloc, text, Kind::Deadline, &mut found)?;
-    add_keywords(alloc, text, &mut found)?;
-    add_signs(alloc, text, &mut found)?;
+    add_expected(text, &reached, Kind::End, &mut found)?;
+    add_expected(text, &reached, Kind::Name, &mut found)?;
+    add_expected(text, &reached, Kind::Number, &mut found)?;
+    add_expected(text, &reached, Kind::Deadline, &mut found)?;
+    add_keywords(text, &reached, &mut found)?;
+    add_signs(text, &reached, &mut found)?;
     Ok(found)
 }

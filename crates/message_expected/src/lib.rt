@@ -13,13 +13,17 @@
 //! `specs/Behind.antt`: which words may follow a text, by its tokens.
 #![tactic(auto)]
 
-mod begin;
+mod automaton;
 mod finding;
 mod groups;
 mod kinds;
 mod laws;
 mod notes;
+mod phrases;
+mod statements;
+mod symbols;
 mod tokens;
+mod turns;
 
 pub use finding::expected;
 pub use groups::{Group, members};

@@ -1,9 +1,13 @@
-use Rattle.std.proofs.Common.{◌≡◌, arith, subst}
+use Rattle.std.proofs.Common.{◌≡◌, arith, inr, subst}
 use Rattle.message_expected.specs.Expected.{IsExpected}
 use Rattle.message_expected.specs.Kinds.{numbered}
 use Rattle.message_expected.specs.declared.kinds.Kind.TheVariants.{Keyword}
+use Rattle.message_expected.proofs.HasWords.{has_keyword}
 use Rattle.message_expected.proofs.Numbered.{GoesOn, none_yet, one_more}
 use Rattle.message_expected.proofs.finding.add_keywords.Goals as goal
+
+pub add_expected-requires-clause-word : goal.add_expected-requires-clause-word
+add_expected-requires-clause-word c = inr (has_keyword c.loop-at.at (omega (arith, c.loop-at-test.true)))
 
 pub loop-at-init : goal.loop-at-init
 loop-at-init c = none_yet (IsExpected c.args.text.now) Keyword c.args.found.now.items

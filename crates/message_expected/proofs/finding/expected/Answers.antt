@@ -1,7 +1,17 @@
-use Rattle.std.proofs.Common.{subst}
+use Rattle.std.proofs.Common.{inr, subst}
 use Rattle.message_expected.specs.Expected.{IsExpected, IsExpectedSet}
+use Rattle.message_expected.proofs.HasWords.{has_deadline, has_name, has_number}
 use Rattle.message_expected.proofs.Numbered.{all_kinds}
 use Rattle.message_expected.proofs.finding.expected.Goals as goal
+
+pub add_expected-requires-2-clause-word : goal.add_expected-requires-2-clause-word
+add_expected-requires-2-clause-word c = inr has_name
+
+pub add_expected-requires-3-clause-word : goal.add_expected-requires-3-clause-word
+add_expected-requires-3-clause-word c = inr has_number
+
+pub add_expected-requires-4-clause-word : goal.add_expected-requires-4-clause-word
+add_expected-requires-4-clause-word c = inr has_deadline
 
 pub returns : goal.returns
 returns c =
