@@ -42,12 +42,11 @@ module _ (text : List ℕ) (reached : Reached) (kind : Kind) (leads : Leads text
   unfolding BeginsProgram
   may_go_on fits goes = elim leads [
     | inl (toks, listed, same) ↦
-        let it = along-all text toks has.0 (spelling kind) listed has.1 fits in
-        (
+        let it = along-all text toks has.0 (spelling kind) listed has.1 fits in (
           _,
           it.listed,
           begins_unless (text ++ 10 ∷ spelling kind) _
-          (λ n some at. no-fault reached _ (answer _) n (came toks _ _ same it.words) (ap (goes_on reached) has.2 ∙ goes) some at),
+              (λ n some at. no-fault reached _ (answer _) n (came toks _ _ same it.words) (ap (goes_on reached) has.2 ∙ goes) some at),
         )
     | inr (no-tokens, same) ↦ let both = sym (ap (λ r. goes_on r kind) same) ∙ goes in cc
   ]

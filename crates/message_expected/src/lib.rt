@@ -7,10 +7,11 @@
 //! expected behind a text: those with which it begins a program. `specs/Groups.antt` tells some of
 //! them by one name, and `specs/Notes.antt` makes the note.
 //!
-//! `expected` finds exactly the kinds that are expected, by the lexer and the parser, which are
-//! asked once for each kind, and `add_expected_note` puts exactly the note; the other calls are
-//! exactly the definitions of these names. The only error is want of memory. Law, in
-//! `specs/Behind.antt`: which words may follow a text, by its tokens.
+//! `expected` finds exactly the kinds that are expected. It lexes the text once, and takes the tokens
+//! once through an automaton with a stack of what may still come (`specs/Automaton.antt`), which
+//! makes no tree; each kind is then tried from where they lead. `add_expected_note` puts exactly the
+//! note; the other calls are exactly the definitions of these names. The only error is want of
+//! memory. Law, in `specs/Behind.antt`: which words may follow a text, by its tokens.
 #![tactic(auto)]
 
 mod automaton;
