@@ -15,6 +15,7 @@ mod lines;
 mod numbers;
 mod one_log_law;
 mod read;
+mod text;
 mod verb;
 mod words;
 

@@ -8,18 +8,14 @@
 
 ghost use Rattle.std.specs.Prelude.{◌≡◌, ◌≤◌, ◌<◌, ◌+◌, ◌++◌, ◌∷◌, [], Some, length, codes, decimal};
 ghost use Rattle.std.specs.Fmt.{signed_decimal};
-ghost use Rattle.arrayvec.specs.ArrayVec.{array_vec_len};
 ghost use Rattle.event_log.specs.InRange.{ActIsIn, AreIn, AreSound, WokenIsIn};
 ghost use Rattle.event_log.specs.Line.{act_text, condition_name, device_name, line_of, monitor_name, process_name, qualified, truth_text, woken_name};
 
-use arrayvec::ArrayVec;
+use crate::text::Text;
 use base::{Act, Event};
 use image::{ConditionName, ImageNames};
 use itoa::Buffer;
 use std::marker::Model;
-
-/// The bytes of a line.
-type Text = ArrayVec<u8, 320>;
 
 /// Room for a line, and for the digits of its numbers. It is seen as the line.
 #[derive(Drop)]
@@ -33,7 +29,7 @@ impl Model for LineBuffer {
 
     ghost Value = { List ℕ };
 
-    ghost view = { λ line. line.text.items };
+    ghost view = { λ line. line.text };
 }
 
 /// The name of a process.
@@ -98,35 +94,15 @@ fn truth_of(answer: bool) -> &'static [u8]
     if answer { b"1" } else { b"0" }
 }
 
-/// Adds bytes that fit.
-#[inline(always)]
-fn add(text: &mut Text, bytes: &[u8])
-    requires { array_vec_len text.old + length bytes.now ≤ 320 }
-    ensures items { text.new.items ≡ text.old.items ++ bytes.now }
-    ensures len { array_vec_len text.new ≡ array_vec_len text.old + length bytes.now }
-{
-    text.try_extend_from_slice(bytes).unwrap();
-}
-
-/// Adds a byte that fits.
-#[inline(always)]
-fn add_byte(text: &mut Text, byte: u8)
-    requires { array_vec_len text.old < 320 }
-    ensures items { text.new.items ≡ text.old.items ++ byte ∷ [] }
-    ensures len { array_vec_len text.new ≡ array_vec_len text.old + 1 }
-{
-    text.push(byte);
-}
-
 /// Adds a tick, which has at most 9 digits.
 #[inline(always)]
 fn add_tick(text: &mut Text, digits: &mut Buffer, tick: u64)
     requires tick { tick < 1000000000 }
-    requires room { array_vec_len text.old ≤ 100 }
-    ensures items { text.new.items ≡ text.old.items ++ decimal tick }
-    ensures len { array_vec_len text.new ≤ array_vec_len text.old + 9 }
+    requires room { length text.old ≤ 100 }
+    ensures items { text.new ≡ text.old ++ decimal tick }
+    ensures len { length text.new ≤ length text.old + 9 }
 {
-    add(text, digits.format(tick).as_bytes());
+    text.add(digits.format(tick).as_bytes());
 }
 
 /// Adds what an act does, with the monitor and the name of a condition.
@@ -134,36 +110,36 @@ fn add_condition(text: &mut Text, names: &ImageNames, does: &[u8], number: u16)
     requires sound { AreSound names.now }
     requires condition { number < length names.now.conditions }
     requires does { length does.now ≤ 11 }
-    requires room { array_vec_len text.old ≤ 100 }
-    ensures items { text.new.items ≡ text.old.items ++
+    requires room { length text.old ≤ 100 }
+    ensures items { text.new ≡ text.old ++
         (does.now ++ condition_name names.now number) }
-    ensures len { array_vec_len text.new ≤ array_vec_len text.old + length does.now + 127 }
+    ensures len { length text.new ≤ length text.old + length does.now + 127 }
 {
     let condition = condition_of(names, number);
-    add(text, does);
-    add(text, monitor_of(names, condition.mon));
-    add_byte(text, b' ');
-    add(text, condition.name.as_bytes());
+    text.add(does);
+    text.add(monitor_of(names, condition.mon));
+    text.add_byte(b' ');
+    text.add(condition.name.as_bytes());
 }
 
 /// Adds the last word of a line.
 #[inline(always)]
 fn add_last(text: &mut Text, word: &[u8])
-    requires { array_vec_len text.old + length word.now ≤ 318 }
-    ensures items { text.new.items ≡ text.old.items ++ (codes " " ++ (word.now ++ codes "\n")) }
-    ensures len { array_vec_len text.new ≡ array_vec_len text.old + length word.now + 2 }
+    requires { length text.old + length word.now ≤ 318 }
+    ensures items { text.new ≡ text.old ++ (codes " " ++ (word.now ++ codes "\n")) }
+    ensures len { length text.new ≡ length text.old + length word.now + 2 }
 {
-    add_byte(text, b' ');
-    add(text, word);
-    add_byte(text, b'\n');
+    text.add_byte(b' ');
+    text.add(word);
+    text.add_byte(b'\n');
 }
 
 /// Adds the last word of a line, a number.
 fn add_number(text: &mut Text, digits: &mut Buffer, number: u16)
-    requires { array_vec_len text.old ≤ 313 }
-    ensures items { text.new.items ≡ text.old.items ++
+    requires { length text.old ≤ 313 }
+    ensures items { text.new ≡ text.old ++
         (codes " " ++ (decimal number ++ codes "\n")) }
-    ensures len { array_vec_len text.new ≤ array_vec_len text.old + 7 }
+    ensures len { length text.new ≤ length text.old + 7 }
 {
     add_last(text, digits.format(number).as_bytes());
 }
@@ -180,14 +156,14 @@ fn add_transfer(
     requires sound { AreSound names.now }
     requires device { dev < length names.now.devices }
     requires does { length does.now ≤ 11 }
-    requires room { array_vec_len text.old ≤ 100 }
-    ensures items { text.new.items ≡
-        text.old.items ++ (does.now ++ (device_name names.now dev ++
+    requires room { length text.old ≤ 100 }
+    ensures items { text.new ≡
+        text.old ++ (does.now ++ (device_name names.now dev ++
         (codes " " ++ (signed_decimal value ++ codes "\n")))) }
-    ensures len { array_vec_len text.new ≤ array_vec_len text.old + 100 }
+    ensures len { length text.new ≤ length text.old + 100 }
 {
-    add(text, does);
-    add(text, device_of(names, dev));
+    text.add(does);
+    text.add(device_of(names, dev));
     add_last(text, digits.format(value).as_bytes());
 }
 
@@ -196,26 +172,26 @@ fn add_passage(text: &mut Text, names: &ImageNames, does: &[u8], mon: u16)
     requires sound { AreSound names.now }
     requires monitor { mon < length names.now.monitors }
     requires does { length does.now ≤ 11 }
-    requires room { array_vec_len text.old ≤ 100 }
-    ensures items { text.new.items ≡ text.old.items ++
+    requires room { length text.old ≤ 100 }
+    ensures items { text.new ≡ text.old ++
         (does.now ++ (monitor_name names.now mon ++ codes "\n")) }
-    ensures len { array_vec_len text.new ≤ array_vec_len text.old + 100 }
+    ensures len { length text.new ≤ length text.old + 100 }
 {
-    add(text, does);
-    add(text, monitor_of(names, mon));
-    add_byte(text, b'\n');
+    text.add(does);
+    text.add(monitor_of(names, mon));
+    text.add_byte(b'\n');
 }
 
 /// Adds what a process does, and with what.
 fn add_act(text: &mut Text, digits: &mut Buffer, names: &ImageNames, act: Act)
     requires sound { AreSound names.now }
     requires act { ActIsIn names.now act }
-    requires room { array_vec_len text.old ≤ 100 }
-    ensures items { text.new.items ≡ text.old.items ++ act_text names.now act }
-    ensures len { array_vec_len text.new ≤ array_vec_len text.old + 200 }
+    requires room { length text.old ≤ 100 }
+    ensures items { text.new ≡ text.old ++ act_text names.now act }
+    ensures len { length text.new ≤ length text.old + 200 }
 {
     match act {
-        Act::Release => add(text, b" release\n"),
+        Act::Release => text.add(b" release\n"),
         Act::TimeOut { cond, number } => {
             add_condition(text, names, b" timeout ", cond);
             add_number(text, digits, number);
@@ -226,7 +202,7 @@ fn add_act(text: &mut Text, digits: &mut Buffer, names: &ImageNames, act: Act)
         Act::Leave { mon } => add_passage(text, names, b" leave ", mon),
         Act::Wait { cond } => {
             add_condition(text, names, b" wait ", cond);
-            add_byte(text, b'\n');
+            text.add_byte(b'\n');
         }
         Act::Signal { cond, woken } => {
             add_condition(text, names, b" signal ", cond);
@@ -241,23 +217,23 @@ fn add_act(text: &mut Text, digits: &mut Buffer, names: &ImageNames, act: Act)
             add_last(text, truth_of(answer));
         }
         Act::Raise { number } => {
-            add(text, b" raise");
+            text.add(b" raise");
             add_number(text, digits, number);
         }
-        Act::End => add(text, b" end\n"),
+        Act::End => text.add(b" end\n"),
     }
 }
 
 /// Makes the text the line of an event.
 fn write(text: &mut Text, digits: &mut Buffer, names: &ImageNames, event: &Event)
     requires { AreIn names.now event.now }
-    ensures text { text.new.items ≡ line_of names.now event.now }
-    ensures short { array_vec_len text.new ≤ 273 }
+    ensures text { text.new ≡ line_of names.now event.now }
+    ensures short { length text.new ≤ 273 }
 {
     text.clear();
     add_tick(text, digits, event.tick);
-    add_byte(text, b' ');
-    add(text, process_of(names, event.proc));
+    text.add_byte(b' ');
+    text.add(process_of(names, event.proc));
     add_act(text, digits, names, event.act);
 }
 
