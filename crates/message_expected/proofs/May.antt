@@ -1,15 +1,14 @@
 -- What may follow a text, by where its words lead.
-use Rattle.std.proofs.Common.{◌≡◌, ℕ, ◌+◌, ◌≤◌, Bool, true, false, IsTrue, ◌↔◌, ◌⊎◌, inl, inr, List, [], ◌∷◌, ◌++◌, append-nil, length, refl, ap, sym, ◌∙◌, subst, arith}
-use Rattle.std.specs.Prelude.{codes}
+use Rattle.std.proofs.Common.{◌≡◌, ℕ, ◌≤◌, Bool, true, false, IsTrue, ◌↔◌, inl, inr, List, [], ◌∷◌, ◌++◌, append-nil, length, refl, ap, sym, ◌∙◌, subst}
 use Rattle.syntax.proofs.LawLemmas.{one_list}
 use Rattle.syntax.specs.Grammar.{MOST_LEVELS}
 use Rattle.syntax.specs.Spellings.{HasKind}
 use Rattle.syntax.specs.Tokens.{IsCut, longest_text, tokens}
-use Rattle.syntax.specs.Words.{Tok, toks_of, word_of}
+use Rattle.syntax.specs.Words.{Tok, toks_of}
 use Rattle.syntax.specs.declared.token.Token.{Token}
 use Rattle.syntax.specs.declared.token.TokenKind.{TokenKind}
 use Rattle.syntax_tree.specs.declared.place.Place.{Place}
-use Rattle.message_expected.specs.Automaton.{Reached, goes_on, is_whole, kind_of_word, kinds_in, program, reach, start, stopped}
+use Rattle.message_expected.specs.Automaton.{Reached, goes_on, is_whole, kinds_in, program, reach, start}
 use Rattle.message_expected.specs.Expected.{Begin, BeginsProgram, IsProgram, MayFollow}
 use Rattle.message_expected.specs.Kinds.{spelling}
 use Rattle.message_expected.specs.Leads.{HasWord, Leads}
@@ -42,12 +41,11 @@ module _ (text : List ℕ) (reached : Reached) (kind : Kind) (leads : Leads text
   unfolding BeginsProgram
   may_go_on fits goes = elim leads [
     | inl (toks, listed, same) ↦
-        let it = along-all text toks has.0 (spelling kind) listed has.1 fits in
-        (
+        let it = along-all text toks has.0 (spelling kind) listed has.1 fits in (
           _,
           it.listed,
           begins_unless (text ++ 10 ∷ spelling kind) _
-          (λ n some at. no-fault reached _ (answer _) n (came toks _ _ same it.words) (ap (goes_on reached) has.2 ∙ goes) some at),
+              (λ n some at. no-fault reached _ (answer _) n (came toks _ _ same it.words) (ap (goes_on reached) has.2 ∙ goes) some at),
         )
     | inr (no-tokens, same) ↦ let both = sym (ap (λ r. goes_on r kind) same) ∙ goes in cc
   ]
