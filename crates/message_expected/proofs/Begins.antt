@@ -1,5 +1,5 @@
 -- Tokens begin a program unless they stop at one of them, and are one where nothing is at fault.
-use Rattle.std.proofs.Common.{◌≡◌, ℕ, zero, suc, ◌<◌, ◌⊎◌, inl, inr, ◌↔◌, Result, Ok, Err, List, [], ◌∷◌, ◌++◌, append-nil, length, refl, ap, sym, ◌∙◌, subst, arith}
+use Rattle.std.proofs.Common.{◌≡◌, ℕ, ◌<◌, ◌⊎◌, inl, inr, Result, Ok, Err, List, [], ◌∷◌, append-nil, length, refl, ap, sym, ◌∙◌, subst, arith}
 use Rattle.syntax.specs.Grammar.{IsProg, MOST_LEVELS, tree}
 use Rattle.syntax.specs.Words.{Tok, toks_of}
 use Rattle.syntax.specs.declared.token.Token.{Token}
@@ -16,7 +16,7 @@ use Rattle.syntax_tree.specs.declared.place.Place.{Place}
 use Rattle.message_expected.specs.Automaton.{program}
 use Rattle.message_expected.specs.Expected.{Begin, HaveTree}
 use Rattle.message_expected.proofs.ProgRuns.{outcome, whole_runs}
-use Rattle.message_expected.proofs.Runs.{Answer, run}
+use Rattle.message_expected.proofs.Runs.{run}
 
 -- the tokens of a program begin one
 tree_begins : (text : List ℕ) (toks : List Token) (g : Prog Place) → tree text toks g → BeginsProg (toks_of text toks)

@@ -1,18 +1,18 @@
 -- The automaton reads statements in their order.
-use Rattle.std.proofs.Common.{◌≡◌, ℕ, zero, suc, ◌≤◌, ◌||◌, not, ◌==◌, List, [], ◌∷◌, ◌++◌, length, Bool, true, false, cond, Result, Ok, Err, refl, ap, sym, ◌∙◌, subst, arith}
+use Rattle.std.proofs.Common.{◌≡◌, ℕ, zero, suc, List, [], ◌∷◌, ◌++◌, length, Bool, true, false, cond, Result, Ok, refl, ap, ◌∙◌, arith}
 use Rattle.syntax.specs.declared.token.keyword.TheConstants as k
 use Rattle.syntax.specs.declared.token.sign.TheConstants as m
 use Rattle.syntax.specs.Words as w
 use Rattle.syntax.specs.Words.{Word, Tok}
 use Rattle.syntax_tree.specs.Plain.{Name}
-use Rattle.syntax_tree.specs.Placed.{Expr, Ref, whole, part, Stmt, perform, perform_entry, exprs_of, when, when_else, stmts_of}
-use Rattle.syntax_reading.specs.ExprReading.{Fault, syntax, ◌>>=◌, Parse, refuse, too_deep, same_word, is_at, is_named, is_name, expect, name, many, constant, index, args, inner, expr}
-use Rattle.syntax_reading.specs.StmtReading.{reference_from, reference, entry_args, entry, assigned, named_stmt, exit_stmt, get_stmt, put_stmt, assert_stmt, wait_stmt, signal_stmt, broadcast_stmt, except_stmt, plain_stmt, simple_stmt, begins_by, begins, stmts_by, closing, else_by, choice, loop_stmt, stmt_by, stmt, stmts}
+use Rattle.syntax_tree.specs.Placed.{Expr, Ref, whole, part, Stmt, perform, perform_entry, exprs_of}
+use Rattle.syntax_reading.specs.ExprReading.{Fault, ◌>>=◌, Parse, refuse, too_deep, same_word, is_named, expect, name, constant, index, args, inner, expr}
+use Rattle.syntax_reading.specs.StmtReading.{reference_from, reference, entry, assigned, named_stmt, exit_stmt, get_stmt, put_stmt, assert_stmt, wait_stmt, signal_stmt, broadcast_stmt, except_stmt, plain_stmt, simple_stmt, begins, stmts_by, closing, else_by, choice, loop_stmt, stmt_by, stmt, stmts}
 use Rattle.message_expected.specs.Automaton as a
 use Rattle.message_expected.specs.Automaton.{Head, Turn, along, is_key, is_refused, is_sign, kind_of_word, refused, turn, where_so}
 use Rattle.message_expected.specs.declared.symbols.Symbol.{Symbol}
 use Rattle.message_expected.specs.declared.symbols.Symbol.TheVariants as s
-use Rattle.message_expected.proofs.Runs.{Answer, Does, Reads, Same, along-name, along-word, a-name, bind, branch, deep-same, done, done-last, done-then, go, inner-same, key, key_same, last, many-heads, mark, must, must-all, name_same, none-begun, of-head, of-result, past-word, run, sign_same, via, word_does}
+use Rattle.message_expected.proofs.Runs.{Does, Reads, Same, along-name, along-word, a-name, bind, branch, deep-same, done, done-last, done-then, go, inner-same, key, key_same, last, many-heads, mark, must, name_same, none-begun, of-result, past-word, run, sign_same, via, word_does}
 use Rattle.message_expected.proofs.ExprRuns.{args_do, constant_reads, expr_reads, index_does, inner_is}
 use Rattle.message_expected.proofs.StmtRuns.{assigned_reads, entry_does, reference_reads, statement-refused}
 

@@ -1,10 +1,10 @@
 -- A text that has tokens with a line feed and more behind it has tokens without.
-use Rattle.std.proofs.Common.{◌≡◌, ℕ, zero, suc, ◌+◌, ◌<◌, ◌≤◌, Bool, true, false, cond, ◌⊎◌, inl, inr, List, [], ◌∷◌, ◌++◌, length, take, drop, refl, ap, sym, ◌∙◌, subst, arith, length-append, length-drop}
+use Rattle.std.proofs.Common.{◌≡◌, ℕ, ◌+◌, ◌<◌, ◌≤◌, Bool, true, false, cond, ◌⊎◌, inl, inr, List, [], ◌∷◌, ◌++◌, length, take, drop, refl, ap, sym, ◌∙◌, subst, arith, length-append, length-drop}
 use Rattle.std.proofs.lemmas.Bool.{cases_lt}
 use Rattle.std.proofs.lemmas.List.{drop-append-le, take-append-le}
 use Rattle.syntax.proofs.ReadLemmas.{spelling_in_line}
 use Rattle.syntax.specs.Spellings.{HasKind, Spells}
-use Rattle.syntax.specs.Tokens.{Begins, IsCut, IsLongest, Piece, StandsIn, blank, bytes_of, col_after, comment, is_blank, is_in_line, is_percent, line_after, line_len, token, tokens, tokens_among}
+use Rattle.syntax.specs.Tokens.{Begins, IsCut, IsLongest, Piece, StandsIn, blank, col_after, comment, is_blank, is_in_line, is_percent, line_after, line_len, token, tokens, tokens_among}
 use Rattle.syntax.specs.declared.token.Token.{Token}
 use Rattle.message_expected.proofs.Cuts.{no_feed}
 

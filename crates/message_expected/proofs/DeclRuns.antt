@@ -1,12 +1,11 @@
 -- The automaton reads types, variables, parameters and what activates a process.
-use Rattle.std.proofs.Common.{◌≡◌, ℕ, zero, suc, ◌≤◌, ◌||◌, not, ◌==◌, List, [], ◌∷◌, ◌++◌, length, Bool, true, false, cond, Option, None, Some, Result, Ok, Err, refl, ap, sym, ◌∙◌, subst, arith}
+use Rattle.std.proofs.Common.{◌≡◌, ℕ, ◌||◌, not, List, [], ◌∷◌, ◌++◌, length, Bool, true, false, cond, None, Some, Result, Ok, Err, refl, ap, sym, ◌∙◌, arith}
 use Rattle.syntax.specs.declared.token.keyword.TheConstants as k
 use Rattle.syntax.specs.declared.token.sign.TheConstants as m
 use Rattle.syntax.specs.Words as w
 use Rattle.syntax.specs.Words.{Word, Tok}
-use Rattle.syntax_tree.specs.Plain.{Name}
-use Rattle.syntax_tree.specs.Placed.{Constant, Kind, Scalar, Var, Param, Member, Activation, int, boolean, subrange, scalar}
-use Rattle.syntax_reading.specs.ExprReading.{Fault, syntax, ◌>>=◌, Parse, refuse, same_word, is_at, is_named, expect, name, many, behind_comma, listed, some_listed, in_parens, constant}
+use Rattle.syntax_tree.specs.Placed.{Constant, subrange, scalar}
+use Rattle.syntax_reading.specs.ExprReading.{Fault, syntax, ◌>>=◌, same_word, is_at, expect, name, many, behind_comma, listed, some_listed, in_parens, constant}
 use Rattle.syntax_reading.specs.Reading.{range, scalar_type, kind, var, vars, param, params, begins_member, member, members, deadline, first, activation, numbers}
 use Rattle.message_expected.specs.Automaton as a
 use Rattle.message_expected.specs.Automaton.{Head, Turn, along, is_key, is_refused, is_sign, kind_of_word, refused, turn, where_so}
@@ -14,7 +13,7 @@ use Rattle.message_expected.specs.Kinds.{same}
 use Rattle.message_expected.specs.declared.kinds.Kind.TheVariants as of
 use Rattle.message_expected.specs.declared.symbols.Symbol.{Symbol}
 use Rattle.message_expected.specs.declared.symbols.Symbol.TheVariants as s
-use Rattle.message_expected.proofs.Runs.{Answer, Does, Reads, Same, along-word, a-name, begun, bind, branch, deadline_same, done, done-last, done-then, empty, go, key, key_same, last, many-heads, many-where, mark, maybe-where, must, must-all, name_does, name_same, number_same, of-head, of-result, past-word, run, sign_same, via, word_does}
+use Rattle.message_expected.proofs.Runs.{Does, Reads, Same, along-word, a-name, begun, bind, branch, deadline_same, done, done-last, done-then, empty, go, key, key_same, last, many-heads, many-where, mark, maybe-where, must, must-all, of-head, of-result, past-word, run, sign_same, via, word_does}
 use Rattle.message_expected.proofs.ExprRuns.{constant_does, constant_reads}
 
 member-refused : (b c : Bool) (x y : List Symbol) → is_refused (cond b (along x) (cond c (along y) refused)) ≡ not (b || c)

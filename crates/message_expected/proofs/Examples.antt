@@ -3,7 +3,6 @@ use Rattle.std.proofs.Common.{refl}
 use Rattle.std.specs.Prelude.{◌≡◌, ◌+◌, ℕ, List, [], ◌∷◌, codes}
 use Rattle.syntax.specs.declared.token.Token.{Token}
 use Rattle.syntax.specs.declared.token.TokenKind.{TokenKind}
-use Rattle.syntax.specs.declared.token.TokenKind.TheVariants as kind
 use Rattle.syntax.specs.declared.token.TokenKind.TheVariants.{Ident, Literal}
 use Rattle.syntax.specs.declared.token.keyword.TheConstants as k
 use Rattle.syntax.specs.declared.token.sign.TheConstants as s

@@ -4,18 +4,17 @@ use Rattle.std.proofs.lemmas.Bool.{eqb-true}
 use Rattle.std.specs.Prelude.{bytes_eq, codes}
 use Rattle.syntax.specs.declared.token.keyword.TheConstants as k
 use Rattle.syntax.specs.declared.token.sign.TheConstants as m
-use Rattle.syntax.specs.ExprGrammar.{height}
 use Rattle.syntax.specs.Words as w
 use Rattle.syntax.specs.Words.{Word, named, number, keyword, sign, Tok}
 use Rattle.syntax_tree.specs.Plain.{Name, Op, or, and, equal, unequal, less, less_equal, greater, greater_equal, add, sub, mul, div, remainder}
-use Rattle.syntax_tree.specs.Placed.{Constant, Expr, call, element, exprs_of, truth, variable}
-use Rattle.syntax_reading.specs.ExprReading.{Fault, syntax, ◌>>=◌, Parse, refuse, same_word, is_at, is_named, is_numeral, is_literal, is_name, expect, name, numeral, each, many, behind_comma, listed, some_listed, in_parens, signless, unsigned, constant, op_of, of_level, op_at, is_some, next, operand_by, operand_at, turns, operands_at, joined, row_at, level, inside, index, args, named_factor, minus_factor, negation_factor, paren_factor, simple_factor, factor_in, factor, inner, expr}
+use Rattle.syntax_tree.specs.Placed.{Expr, call, element, exprs_of, truth, variable}
+use Rattle.syntax_reading.specs.ExprReading.{Fault, syntax, ◌>>=◌, Parse, refuse, same_word, is_at, is_named, is_numeral, is_literal, expect, name, numeral, each, many, behind_comma, listed, some_listed, in_parens, signless, unsigned, constant, op_of, of_level, op_at, is_some, operand_by, operand_at, operands_at, row_at, level, inside, index, args, named_factor, minus_factor, negation_factor, paren_factor, simple_factor, factor_in, factor, inner, expr}
 use Rattle.message_expected.specs.Automaton as a
 use Rattle.message_expected.specs.Automaton.{Head, Turn, along, is_key, is_optional, is_refused, is_sign, kind_of_word, level_of, operators, operators_behind, refused, turn, where_so}
 use Rattle.message_expected.specs.declared.kinds.Kind.TheVariants as of
 use Rattle.message_expected.specs.declared.symbols.Symbol.{Symbol}
 use Rattle.message_expected.specs.declared.symbols.Symbol.TheVariants as s
-use Rattle.message_expected.proofs.Runs.{Answer, Does, Many, Reads, Same, Short, along-name, along-number, along-word, begins-where, begun, bind, branch, deadline_same, deep-same, done, done-last, done-then, each-runs, empty, go, inner-same, key, key_same, last, many-where, mark, maybe-reads, missing, must, must-all, name_same, no-name, none, none-begun, number_same, of-head, of-result, onto, passed, past-word, run, short-more, sign_same, turn_at, via}
+use Rattle.message_expected.proofs.Runs.{Answer, Does, Many, Reads, Same, Short, along-name, along-number, along-word, begun, bind, branch, deep-same, done, done-last, each-runs, empty, go, inner-same, key_same, last, many-where, mark, maybe-reads, missing, must, must-all, name_same, no-name, none, none-begun, number_same, of-head, of-result, onto, passed, past-word, run, sign_same, turn_at, via}
 
 -- ---- operators
 

@@ -1,17 +1,17 @@
 -- Where words lead, as what comes of them and of what follows.
-use Rattle.std.proofs.Common.{◌≡◌, ℕ, zero, suc, ◌<◌, ◌≤◌, Bool, true, false, cond, Option, None, Some, Result, Ok, Err, List, [], ◌∷◌, ◌++◌, length, refl, ap, sym, ◌∙◌, subst, arith}
+use Rattle.std.proofs.Common.{◌≡◌, ℕ, zero, suc, ◌<◌, ◌≤◌, Bool, true, false, cond, Option, None, Some, Ok, Err, List, [], ◌∷◌, ◌++◌, length, refl, ap, sym, ◌∙◌, subst, arith}
 use Rattle.std.specs.List.{list_all}
 use Rattle.std.specs.Prelude.{is_some}
 use Rattle.syntax.specs.Words.{Tok, tok, toks_of}
 use Rattle.syntax.specs.declared.token.Token.{Token}
-use Rattle.syntax_reading.specs.ExprReading.{Fault, nesting, syntax}
+use Rattle.syntax_reading.specs.ExprReading.{nesting, syntax}
 use Rattle.syntax_tree.specs.declared.place.Place.{Place}
 use Rattle.message_expected.specs.Automaton as a
 use Rattle.message_expected.specs.Automaton.{Found, Head, Reached, Turn, along, feed, find, found_then, goes_on, inside, is_optional, is_refused, is_whole, kind_in, kind_of_word, kinds_in, levels_behind, on, reach, refused, stopped, taken, turn}
 use Rattle.message_expected.specs.declared.kinds.Kind.{Kind}
 use Rattle.message_expected.specs.declared.symbols.Symbol.{Symbol}
 use Rattle.message_expected.specs.declared.symbols.Symbol.TheVariants as s
-use Rattle.message_expected.proofs.Runs.{Answer, after, at_end, ended, run}
+use Rattle.message_expected.proofs.Runs.{Answer, after, at_end, run}
 
 -- what comes of words that led there, and of these behind them
 abbrev pub Comes : Reached → List (Tok Place) → Answer → Type 0

@@ -10,6 +10,7 @@ pub mod Follows
 pub mod Numbered
 pub mod Picked
 mod HasWords
+mod KindsOf
 mod Leading
 mod May
 mod ProgRuns

@@ -1,15 +1,14 @@
 -- What may follow a text, by where its words lead.
-use Rattle.std.proofs.Common.{◌≡◌, ℕ, ◌+◌, ◌≤◌, Bool, true, false, IsTrue, ◌↔◌, ◌⊎◌, inl, inr, List, [], ◌∷◌, ◌++◌, append-nil, length, refl, ap, sym, ◌∙◌, subst, arith}
-use Rattle.std.specs.Prelude.{codes}
+use Rattle.std.proofs.Common.{◌≡◌, ℕ, ◌≤◌, Bool, true, false, IsTrue, ◌↔◌, inl, inr, List, [], ◌∷◌, ◌++◌, append-nil, length, refl, ap, sym, ◌∙◌, subst}
 use Rattle.syntax.proofs.LawLemmas.{one_list}
 use Rattle.syntax.specs.Grammar.{MOST_LEVELS}
 use Rattle.syntax.specs.Spellings.{HasKind}
 use Rattle.syntax.specs.Tokens.{IsCut, longest_text, tokens}
-use Rattle.syntax.specs.Words.{Tok, toks_of, word_of}
+use Rattle.syntax.specs.Words.{Tok, toks_of}
 use Rattle.syntax.specs.declared.token.Token.{Token}
 use Rattle.syntax.specs.declared.token.TokenKind.{TokenKind}
 use Rattle.syntax_tree.specs.declared.place.Place.{Place}
-use Rattle.message_expected.specs.Automaton.{Reached, goes_on, is_whole, kind_of_word, kinds_in, program, reach, start, stopped}
+use Rattle.message_expected.specs.Automaton.{Reached, goes_on, is_whole, kinds_in, program, reach, start}
 use Rattle.message_expected.specs.Expected.{Begin, BeginsProgram, IsProgram, MayFollow}
 use Rattle.message_expected.specs.Kinds.{spelling}
 use Rattle.message_expected.specs.Leads.{HasWord, Leads}

@@ -1,21 +1,18 @@
 -- The automaton reads declarations and programs.
-use Rattle.std.proofs.Common.{◌≡◌, ℕ, zero, suc, ◌≤◌, ◌||◌, not, ◌==◌, List, [], ◌∷◌, ◌++◌, length, Bool, true, false, cond, Option, None, Some, Result, Ok, Err, refl, ap, sym, ◌∙◌, subst, arith}
-use Rattle.syntax.specs.Grammar.{MOST_LEVELS}
+use Rattle.std.proofs.Common.{◌≡◌, ℕ, ◌||◌, not, List, [], ◌∷◌, length, Bool, true, false, cond, None, Some, Result, Ok, Err, refl, ap, ◌∙◌}
 use Rattle.syntax.specs.declared.token.keyword.TheConstants as k
 use Rattle.syntax.specs.declared.token.sign.TheConstants as m
 use Rattle.syntax.specs.Words as w
 use Rattle.syntax.specs.Words.{Word, Tok}
-use Rattle.syntax_tree.specs.Plain.{Name}
-use Rattle.syntax_tree.specs.Placed as tree
-use Rattle.syntax_tree.specs.Placed.{Expr, Scalar, Stmt, stmts_of, RoutineKind, procedure, function, Routine, Decl, Prog}
-use Rattle.syntax_reading.specs.ExprReading.{Fault, syntax, ◌>>=◌, Parse, refuse, same_word, is_at, is_named, expect, name, many, constant, expr}
+use Rattle.syntax_tree.specs.Placed.{stmts_of, RoutineKind, procedure, function, Routine, Prog}
+use Rattle.syntax_reading.specs.ExprReading.{Fault, ◌>>=◌, same_word, is_at, expect, name, constant, expr}
 use Rattle.syntax_reading.specs.StmtReading.{stmts}
 use Rattle.syntax_reading.specs.Reading.{scalar_type, vars, params, block, close, routine_kind, result, value, routine_decl, begins_routine, routines, members, entry_decl, entries, monitor_decl, activation, numbers, handler, process_decl, const_decl, way, device_decl, event_decl, decl, begins_decl, decls, prog, if_last, whole}
 use Rattle.message_expected.specs.Automaton as a
 use Rattle.message_expected.specs.Automaton.{Head, along, is_key, is_optional, is_refused, kind_of_word, program, refused, turn, where_so}
 use Rattle.message_expected.specs.declared.symbols.Symbol.{Symbol}
 use Rattle.message_expected.specs.declared.symbols.Symbol.TheVariants as s
-use Rattle.message_expected.proofs.Runs.{Answer, Does, Reads, Same, along-word, a-name, bind, branch, done, done-last, go, key, key_same, last, many-heads, many-where, mark, maybe-where, must, name_does, of-head, of-result, past-word, run, via, word_does}
+use Rattle.message_expected.proofs.Runs.{Answer, Does, Reads, along-word, a-name, bind, branch, done, done-last, go, key, key_same, last, many-heads, many-where, mark, maybe-where, must, name_does, of-head, of-result, past-word, run, word_does}
 use Rattle.message_expected.proofs.ExprRuns.{constant_reads, expr_reads}
 use Rattle.message_expected.proofs.BodyRuns.{stmts_read}
 use Rattle.message_expected.proofs.DeclRuns.{activation_reads, members_read, numbers_read, params_read, scalar_reads, vars_read}
@@ -44,6 +41,9 @@ way-either b1 b2 false c2 e g = λ i. where_so (e i || g i) []
 abbrev pub outcome : {A : Type 0} → Result A Fault → Answer
 outcome (Ok x) = Ok tt
 outcome (Err f) = Err f
+
+abbrev process-symbols : List Symbol
+process-symbols = s.Name ∷ s.Sign m.COLON ∷ s.Activation ∷ s.Variables ∷ s.Routines ∷ s.Keyword k.BEGIN ∷ s.Statements ∷ s.Handler ∷ s.Keyword k.END ∷ s.Name ∷ []
 
 module _ {P : Type 0} (d : ℕ) where
   block_reads : Reads d (block {P = P} d) (s.Keyword k.BEGIN ∷ s.Statements ∷ [])
@@ -167,14 +167,11 @@ module _ {P : Type 0} (d : ℕ) where
       (λ t ts is. along-word d w.HANDLER _ (s.Sign m.LEFT_PAREN ∷ s.Constant ∷ s.MoreNumbers ∷ s.Sign m.RIGHT_PAREN ∷ s.Statements ∷ []) t ts is (λ q.
       bind d numbers _ (s.Sign m.LEFT_PAREN ∷ s.Constant ∷ s.MoreNumbers ∷ s.Sign m.RIGHT_PAREN ∷ []) (s.Statements ∷ []) (numbers_read d) (λ ns. last d (stmts d) _ (s.Statements ∷ []) (stmts_read d) (λ ss. done d _))))
 
-  abbrev process-symbols : P → List Symbol
-  process-symbols q = s.Name ∷ s.Sign m.COLON ∷ s.Activation ∷ s.Variables ∷ s.Routines ∷ s.Keyword k.BEGIN ∷ s.Statements ∷ s.Handler ∷ s.Keyword k.END ∷ s.Name ∷ []
-
   process_does : (t : Tok P) (ts : List (Tok P)) → same_word t.word w.PROCESS ≡ true
-      → Does d (along (s.Name ∷ s.Sign m.COLON ∷ s.Activation ∷ s.Variables ∷ s.Routines ∷ s.Keyword k.BEGIN ∷ s.Statements ∷ s.Handler ∷ s.Keyword k.END ∷ s.Name ∷ [])) (process_decl d) t ts
+      → Does d (along process-symbols) (process_decl d) t ts
   unfolding process_decl
   process_does t ts e =
-      along-word d w.PROCESS _ (s.Name ∷ s.Sign m.COLON ∷ s.Activation ∷ s.Variables ∷ s.Routines ∷ s.Keyword k.BEGIN ∷ s.Statements ∷ s.Handler ∷ s.Keyword k.END ∷ s.Name ∷ []) t ts e (λ q.
+      along-word d w.PROCESS _ process-symbols t ts e (λ q.
       bind d name _ (s.Name ∷ []) (s.Sign m.COLON ∷ s.Activation ∷ s.Variables ∷ s.Routines ∷ s.Keyword k.BEGIN ∷ s.Statements ∷ s.Handler ∷ s.Keyword k.END ∷ s.Name ∷ []) (a-name d) (λ n.
       bind d (expect w.COLON) _ (s.Sign m.COLON ∷ []) (s.Activation ∷ s.Variables ∷ s.Routines ∷ s.Keyword k.BEGIN ∷ s.Statements ∷ s.Handler ∷ s.Keyword k.END ∷ s.Name ∷ []) (mark d m.COLON) (λ c.
       bind d activation _ (s.Activation ∷ []) (s.Variables ∷ s.Routines ∷ s.Keyword k.BEGIN ∷ s.Statements ∷ s.Handler ∷ s.Keyword k.END ∷ s.Name ∷ []) (activation_reads d) (λ x.
@@ -218,8 +215,8 @@ module _ {P : Type 0} (d : ℕ) where
       branch d (λ h stack. go d stack h t ts) _ (same_word t.word w.EVENT) _ _ _ _ (length ts) (key_same k.EVENT t.word) (λ e. event_does t ts e) (λ e.
       branch d (λ h stack. go d stack h t ts) _ (same_word t.word w.MONITOR) (along (s.Name ∷ s.Members ∷ s.Entries ∷ s.Keyword k.END ∷ s.Name ∷ [])) _ _ _ (length ts) (key_same k.MONITOR t.word)
       (λ e. done-last d (along (s.Name ∷ s.Members ∷ s.Entries ∷ s.Keyword k.END ∷ s.Name ∷ [])) (monitor_decl d) _ t ts (monitor_does t ts e) (λ m. done d _)) (λ e.
-      branch d (λ h stack. go d stack h t ts) _ (same_word t.word w.PROCESS) (along (process-symbols t.place)) _ _ _ (length ts) (key_same k.PROCESS t.word)
-      (λ e. done-last d (along (process-symbols t.place)) (process_decl d) _ t ts (process_does t ts e) (λ p. done d _))
+      branch d (λ h stack. go d stack h t ts) _ (same_word t.word w.PROCESS) (along (process-symbols)) _ _ _ (length ts) (key_same k.PROCESS t.word)
+      (λ e. done-last d (along (process-symbols)) (process_decl d) _ t ts (process_does t ts e) (λ p. done d _))
       (λ e. done-last d (a.routine (kind_of_word t.word)) (routine_decl d) _ t ts (routine_does t ts) (λ r. done d _))))))
 
   decls_read : Reads d (decls {P = P} d) (s.Declarations ∷ [])

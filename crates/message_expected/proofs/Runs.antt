@@ -1,71 +1,15 @@
 -- The automaton goes on where reading does, and stops where reading stops: steps, single words and lists.
-use Rattle.std.proofs.Common.{◌≡◌, ℕ, zero, suc, ◌<◌, ◌≤◌, ◌||◌, ◌&&◌, not, List, [], ◌∷◌, ◌++◌, append-nil, length, Bool, true, false, cond, Option, None, Some, Result, Ok, Err, refl, ap, sym, ◌∙◌, subst, append_assoc, arith}
+use Rattle.std.proofs.Common.{◌≡◌, ℕ, zero, suc, ◌≤◌, ◌&&◌, not, List, [], ◌∷◌, ◌++◌, append-nil, length, Bool, true, false, cond, Option, None, Some, Result, Ok, Err, refl, ap, sym, ◌∙◌, subst, append_assoc, arith}
 use Rattle.std.specs.List.{list_all}
-use Rattle.std.specs.Prelude.{bytes_eq, codes, if◌then◌else◌}
 use Rattle.syntax_tree.specs.Plain.{Name}
-use Rattle.syntax.specs.Words.{Word, named, number, keyword, sign, Tok, DEADLINE}
-use Rattle.syntax_reading.specs.ExprReading.{Fault, syntax, nesting, ◌>>=◌, Parse, refuse, too_deep, same_word, is_at, is_named, is_numeral, expect, name_by, name, numeral_by, numeral, each, many}
+use Rattle.syntax.specs.Words.{Word, named, number, keyword, sign, Tok}
+use Rattle.syntax_reading.specs.ExprReading.{Fault, syntax, nesting, ◌>>=◌, Parse, refuse, too_deep, same_word, is_named, is_numeral, expect, name_by, name, numeral_by, numeral, each, many}
 use Rattle.message_expected.specs.Automaton as a
 use Rattle.message_expected.specs.Automaton.{Found, Head, Reached, Turn, along, find, found_then, inside, is_key, is_name, is_number, is_optional, is_refused, is_sign, kind_of_word, levels_behind, on, refused, stopped, taken, turn, where_so}
 use Rattle.message_expected.specs.Kinds.{same}
-use Rattle.message_expected.specs.declared.kinds.Kind.{Kind}
-use Rattle.message_expected.specs.declared.kinds.Kind.TheVariants as of
 use Rattle.message_expected.specs.declared.symbols.Symbol.{Symbol}
 use Rattle.message_expected.specs.declared.symbols.Symbol.TheVariants as s
-
--- ---- words
-
-pub key_same : (n : ℕ) (v : Word) → is_key n (kind_of_word v) ≡ same_word v (keyword n)
-key_same n (named m) = by (bytes_eq m (codes "deadline"))
-  where
-    by : (b : Bool) → is_key n (cond b of.Deadline of.Name) ≡ false
-    by true = refl
-    by false = refl
-key_same n (number m) = refl
-key_same n (keyword m) = refl
-key_same n (sign m) = refl
-
-pub sign_same : (n : ℕ) (v : Word) → is_sign n (kind_of_word v) ≡ same_word v (sign n)
-sign_same n (named m) = by (bytes_eq m (codes "deadline"))
-  where
-    by : (b : Bool) → is_sign n (cond b of.Deadline of.Name) ≡ false
-    by true = refl
-    by false = refl
-sign_same n (number m) = refl
-sign_same n (keyword m) = refl
-sign_same n (sign m) = refl
-
-pub name_same : (v : Word) → is_name (kind_of_word v) ≡ is_named v
-name_same (named m) = by (bytes_eq m (codes "deadline"))
-  where
-    by : (b : Bool) → is_name (cond b of.Deadline of.Name) ≡ true
-    by true = refl
-    by false = refl
-name_same (number m) = refl
-name_same (keyword m) = refl
-name_same (sign m) = refl
-
-pub number_same : (v : Word) → is_number (kind_of_word v) ≡ is_numeral v
-number_same (named m) = by (bytes_eq m (codes "deadline"))
-  where
-    by : (b : Bool) → is_number (cond b of.Deadline of.Name) ≡ false
-    by true = refl
-    by false = refl
-number_same (number m) = refl
-number_same (keyword m) = refl
-number_same (sign m) = refl
-
-pub deadline_same : (v : Word) → same (kind_of_word v) of.Deadline ≡ same_word v DEADLINE
-deadline_same (named m) = by (bytes_eq m (codes "deadline"))
-  where
-    by : (b : Bool) → same (cond b of.Deadline of.Name) of.Deadline ≡ b
-    by true = refl
-    by false = refl
-deadline_same (number m) = refl
-deadline_same (keyword m) = refl
-deadline_same (sign m) = refl
-
--- ---- runs
+pub use Rattle.message_expected.proofs.KindsOf.{deadline_same, key_same, name_same, number_same, sign_same}
 
 -- what comes of words, no tree made
 abbrev pub Answer : Type 0

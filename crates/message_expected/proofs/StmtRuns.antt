@@ -1,22 +1,22 @@
 -- The automaton reads statements.
-use Rattle.std.proofs.Common.{◌≡◌, ℕ, zero, suc, ◌≤◌, ◌||◌, ◌&&◌, not, ◌==◌, ◌⊎◌, inl, inr, List, [], ◌∷◌, ◌++◌, length, Bool, true, false, cond, Option, None, Some, Result, Ok, Err, refl, ap, sym, ◌∙◌, subst, append_assoc, arith}
+use Rattle.std.proofs.Common.{◌≡◌, ℕ, ◌||◌, ◌&&◌, not, ◌==◌, ◌⊎◌, inl, inr, List, [], ◌∷◌, ◌++◌, length, Bool, true, false, cond, Result, Ok, refl, ap, sym, ◌∙◌, arith}
 use Rattle.std.specs.Prelude.{bytes_eq, codes}
 use Rattle.syntax.specs.declared.token.keyword.TheConstants as k
 use Rattle.syntax.specs.declared.token.sign.TheConstants as m
 use Rattle.syntax.specs.Words as w
 use Rattle.syntax.specs.Words.{Word, named, number, keyword, sign, Tok}
 use Rattle.syntax_tree.specs.Plain.{Name}
-use Rattle.syntax_tree.specs.Placed.{Expr, Ref, whole, part, Stmt, assign, assign_entry, assign_empty, perform, perform_entry, exprs_of}
-use Rattle.syntax_reading.specs.ExprReading.{Fault, syntax, ◌>>=◌, Parse, refuse, too_deep, same_word, is_at, is_named, is_name, is_entry, expect, name, name_by, many, constant, index, args, inner, expr}
-use Rattle.syntax_reading.specs.StmtReading.{reference_from, reference, entry_args, entry, assigned, named_stmt, exit_stmt, get_stmt, put_stmt, assert_stmt, wait_stmt, signal_stmt, broadcast_stmt, except_stmt, plain_stmt, simple_stmt, begins_by, begins, stmts_by, closing, else_by, choice, loop_stmt, stmt_by, stmt, stmts}
+use Rattle.syntax_tree.specs.Placed.{Expr, Ref, whole, part, Stmt, assign, assign_entry, assign_empty, exprs_of}
+use Rattle.syntax_reading.specs.ExprReading.{Fault, ◌>>=◌, refuse, same_word, is_at, is_named, expect, name, name_by, index, args, inner, expr}
+use Rattle.syntax_reading.specs.StmtReading.{reference_from, reference, entry_args, entry, assigned, begins_by}
 use Rattle.message_expected.specs.Automaton as a
 use Rattle.message_expected.specs.Automaton.{Head, Turn, along, is_key, is_optional, is_refused, is_sign, kind_of_word, level_of, operators, operators_behind, refused, turn, where_so}
 use Rattle.message_expected.specs.declared.kinds.Kind.{Kind}
 use Rattle.message_expected.specs.declared.kinds.Kind.TheVariants as of
 use Rattle.message_expected.specs.declared.symbols.Symbol.{Symbol}
 use Rattle.message_expected.specs.declared.symbols.Symbol.TheVariants as s
-use Rattle.message_expected.proofs.Runs.{Answer, Does, Reads, Same, Short, along-name, along-word, a-name, begun, bind, branch, deep-same, done, done-last, done-then, empty, go, inner-same, key, key_same, last, many-heads, mark, maybe-reads, must, must-all, name_same, no-name, none, none-begun, of-head, of-result, onto, passed, past-word, run, sign_same, turn_at, via, word_does}
-use Rattle.message_expected.proofs.ExprRuns.{args_do, constant_reads, expr_reads, index_does, inner_is, operator-head, operator_turn}
+use Rattle.message_expected.proofs.Runs.{Does, Reads, Same, along-word, a-name, begun, bind, branch, done, done-last, empty, go, key_same, last, maybe-reads, must, must-all, name_same, none, none-begun, of-head, of-result, passed, run, sign_same, turn_at, via}
+use Rattle.message_expected.proofs.ExprRuns.{args_do, expr_reads, index_does, inner_is, operator-head, operator_turn}
 
 -- ---- levels of operators
 

@@ -1,6 +1,6 @@
 -- A recogniser of programs. On a stack stands what may still come, and each word does a turn of the
 -- symbol on top that begins with it; no tree is made.
-use Rattle.std.specs.Prelude.{ℕ, zero, suc, Bool, true, false, ◌==◌, ◌&&◌, ◌||◌, ◌++◌, if◌then◌else◌, List, [], ◌∷◌, Option, None, Some, bytes_eq, codes, is_some, map}
+use Rattle.std.specs.Prelude.{ℕ, zero, suc, Bool, true, false, ◌==◌, ◌||◌, ◌++◌, if◌then◌else◌, List, [], ◌∷◌, Option, None, Some, bytes_eq, codes, is_some, map}
 use Rattle.std.specs.List.{list_all}
 use Rattle.syntax.specs.declared.token.keyword.TheConstants as k
 use Rattle.syntax.specs.declared.token.sign.TheConstants as s

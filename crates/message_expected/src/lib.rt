@@ -5,13 +5,15 @@
 //!
 //! `specs/Kinds.antt` has the kinds of words, and `specs/Expected.antt` says which of them are
 //! expected behind a text: those with which it begins a program. `specs/Groups.antt` tells some of
-//! them by one name, and `specs/Notes.antt` makes the note.
+//! them by one name, and `specs/Notes.antt` makes the note. `specs/Automaton.antt` is a recogniser
+//! with a stack of what is still to come, in which a word does a turn: `specs/Leads.antt` says where
+//! the words of a text lead it, and `specs/Stack.antt` how the code has it.
 //!
-//! `expected` finds exactly the kinds that are expected. It lexes the text once, and takes the tokens
-//! once through an automaton with a stack of what may still come (`specs/Automaton.antt`), which
-//! makes no tree; each kind is then tried from where they lead. `add_expected_note` puts exactly the
-//! note; the other calls are exactly the definitions of these names. The only error is want of
-//! memory. Law, in `specs/Behind.antt`: which words may follow a text, by its tokens.
+//! `expected` finds exactly the kinds that are expected: the text is lexed once, the automaton goes
+//! over its tokens once, without a tree and without recursion, and each kind is tried on the stack
+//! that is left. `add_expected_note` puts exactly the note; the other calls are exactly the
+//! definitions of these names. The only error is want of memory. Law, in `specs/Behind.antt`: which
+//! words may follow a text, by its tokens.
 #![tactic(auto)]
 
 mod automaton;

@@ -1,6 +1,5 @@
-use Rattle.message_expected.proofs.May.{program_whole}
-use Rattle.std.proofs.Common.{◌≡◌, ◌-◌, [], ap, sym, ◌∙◌, get_or, reverse, take, subst, arith}
-use Rattle.message_expected.specs.Automaton.{find, is_refused}
+use Rattle.std.proofs.Common.{◌≡◌, ◌-◌, ap, sym, ◌∙◌, get_or, reverse, take, arith}
+use Rattle.message_expected.specs.Automaton.{find}
 use Rattle.message_expected.specs.Stack.{turn_of}
 use Rattle.message_expected.specs.declared.symbols.Symbol.TheVariants.{Name}
 use Rattle.message_expected.proofs.Stacks.{empty, here, nowhere, past, top}

@@ -1,4 +1,4 @@
-use Rattle.std.proofs.Common.{◌≡◌, ◌≤◌, ℕ, length, reverse, take}
+use Rattle.std.proofs.Common.{◌≡◌, ◌≤◌, length, reverse, take}
 use Rattle.message_expected.specs.Automaton as automaton
 use Rattle.message_expected.proofs.automaton.find.Given as goal
 

@@ -1,4 +1,4 @@
-use Rattle.std.proofs.Common.{◌≡◌, ◌+◌, ◌<◌, ap, arith, drop, get_or, length, reverse, sym, ◌∙◌}
+use Rattle.std.proofs.Common.{◌+◌, ap, arith, drop, reverse, sym, ◌∙◌}
 use Rattle.message_expected.specs.Automaton as automaton
 use Rattle.message_expected.specs.Stack.{fed_to}
 use Rattle.message_expected.proofs.Stacks.{stays_deep, stays_on, stays_stopped, step_to}

@@ -1,4 +1,4 @@
-use Rattle.std.proofs.Common.{◌≡◌, ◌∷◌, ap, arith, length, length-append}
+use Rattle.std.proofs.Common.{◌∷◌, ap, arith, length, length-append}
 use Rattle.message_expected.specs.Kinds.{spelling}
 use Rattle.message_expected.specs.Stack.{reached_of}
 use Rattle.message_expected.proofs.May.{exactly, too_long}
