@@ -1,12 +1,12 @@
 #!/usr/bin/env bash
 # What a refusal with its message costs. Run by hand on a built program:   bench/faults.sh crates/rte/out/rte
 #
-# Texts of about 1 MiB with one fault at the end, of each kind of message: a byte (E1), the grammar (E10), a name (E20 to
-# E23), a type (E30), a call (E31), conduct (E34) and a number (E36); the same text without it, `none`; and one without it
-# whose last name is short (`plain`). Each is checked five times. The least seconds of the processor are put, those beyond
-# `none`, and the first line of the message. A refusal ends before there is code, so it may be faster than the text itself.
+# Texts of about 1 MiB with one fault at the end, one of each kind of message: a byte (E1), a number (E2), the grammar (E10),
+# a name (E20, E22, E23), a type (E30), crossed bounds (E32), what stands where it may not (E34); and the same text without
+# a fault, `none`. Each is checked five times. The least milliseconds of the processor are put, those beyond `none`, and
+# the first line of the message. A text that is refused has no code made, so it may take less than `none`.
 #
-# `bytes` is a text of long names, as `text` in whole.sh; `words` one of short words, which has ten times the tokens.
+# `bytes` is a text of long names, as `text` in whole.sh; `words` one of short names with comments, of three times the words.
 set -euo pipefail
 rte=$(realpath "${1:?the built program}")
 folder=$(mktemp -d)
@@ -33,7 +33,7 @@ text() {
 }
 
 TIMEFORMAT='%U %S'
-# seconds FILE: the least milliseconds of five checks
+# milliseconds FILE: the least of five checks
 milliseconds() {
     local turn
     for turn in 1 2 3 4 5; do
@@ -57,8 +57,7 @@ E20|put valve nowhere
 E22|put valve p
 E23|end q process q : periodic frame 10 begin
 E30|put valve true
-E34|wait v0 noLongerThan 10 : 11
-E38|get valve aaav0
+E34|exit when true
 E32|for i : 2 .. 1 do end for
 END
 done
