@@ -11,8 +11,9 @@ ghost use Rattle.command_perform.specs.Ready.{IsByDeadlines, IsByRanks, IsCourse
 use command_answers::{Dispatch, PreparedRun};
 use edf_machine::EdfMachine;
 use image::RawProcess;
-use outside::{Sink, SinkFailed};
+use outside::Sink;
 use std::alloc::{AllocError, Global};
+use vm_run::OutputCut;
 use vm_runner::Machine;
 use vm_state::DecodedImage;
 
@@ -73,7 +74,7 @@ fn put_by_ranks<O: Sink>(
     plan: &DecodedImage,
     run: &PreparedRun,
     out: &mut O,
-) -> Result<(), SinkFailed>
+) -> Result<(), OutputCut>
     ghost image: { Image }
     requires image { image ≡ image_of run.now.image }
     requires plan { IsOf image plan.now }
@@ -96,7 +97,7 @@ fn put_by_deadlines<O: Sink>(
     plan: &DecodedImage,
     run: &PreparedRun,
     out: &mut O,
-) -> Result<(), SinkFailed>
+) -> Result<(), OutputCut>
     ghost image: { Image }
     requires image { image ≡ image_of run.now.image }
     requires plan { IsOf image plan.now }
@@ -138,7 +139,7 @@ impl AnyMachine {
         plan: &DecodedImage,
         run: &PreparedRun,
         out: &mut O,
-    ) -> Result<(), SinkFailed>
+    ) -> Result<(), OutputCut>
         ghost image: { Image }
         requires image { image ≡ image_of run.now.image }
         requires plan { IsOf image plan.now }

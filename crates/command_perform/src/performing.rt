@@ -10,8 +10,9 @@ ghost use Rattle.command_perform.specs.Ready.{IsReady, run_of};
 
 use crate::ready::Ready;
 use command_answers::{PreparedCall, PreparedRun, Status, Store};
-use outside::{Files, Sink, SinkFailed, WriteFault};
+use outside::{Files, Sink, WriteFault};
 use std::alloc::{AllocError, Global};
+use vm_run::OutputCut;
 
 /// Makes the run ready, if there is one.
 fn make_ready(alloc: Global, run: &Option<PreparedRun>) -> Result<Option<Ready<'_>>, AllocError>
@@ -57,7 +58,7 @@ fn unwritten<'a>(image: &Option<Store<'a>>) -> Status<'a>
 }
 
 /// Puts a text, unless it is empty.
-fn put_text<O: Sink>(text: &[u8], out: &mut O) -> Result<(), SinkFailed>
+fn put_text<O: Sink>(text: &[u8], out: &mut O) -> Result<(), OutputCut>
     ensures whole { OnOk result (Appends (O.state out.old).taken (O.state out.new).taken text.now) }
     ensures front { OnErr result (AppendsFront (O.state out.old).taken
         (O.state out.new).taken text.now) }
@@ -68,12 +69,15 @@ fn put_text<O: Sink>(text: &[u8], out: &mut O) -> Result<(), SinkFailed>
     if text.is_empty() {
         return Ok(());
     }
-    out.put(text)
+    match out.put(text) {
+        Ok(()) => Ok(()),
+        Err(_) => Err(OutputCut),
+    }
 }
 
 /// Puts the text, and then the log of the run, one put a line. After a failed put nothing more is
 /// put.
-fn tell<O: Sink>(text: &[u8], run: Option<Ready<'_>>, out: &mut O) -> Result<(), SinkFailed>
+fn tell<O: Sink>(text: &[u8], run: Option<Ready<'_>>, out: &mut O) -> Result<(), OutputCut>
     requires { IfSome run IsReady }
     ensures whole { OnOk result (Appends (O.state out.old).taken (O.state out.new).taken
         (text.now ++ log_due (run_of run.entry))) }

@@ -9,9 +9,10 @@ ghost use Rattle.command_perform.specs.Ready.{IsReady};
 
 use crate::any_machine::AnyMachine;
 use command_answers::PreparedRun;
-use outside::{Sink, SinkFailed};
+use outside::Sink;
 use std::alloc::{AllocError, Global};
 use vm_plan::plan::plan_of;
+use vm_run::OutputCut;
 use vm_state::DecodedImage;
 
 /// A run whose machine, which is the one of its dispatch, stands before tick 0. It takes no more
@@ -39,7 +40,7 @@ impl<'a> Ready<'a> {
 
     /// Runs to the end of the script, and puts the log, one put a line. After a failed put nothing
     /// more is put.
-    pub fn put_log<O: Sink>(&mut self, out: &mut O) -> Result<(), SinkFailed>
+    pub fn put_log<O: Sink>(&mut self, out: &mut O) -> Result<(), OutputCut>
         ghost image: { Image }
         requires image { image ≡ image_of self.old.run.now.image }
         requires ready { IsReady self.old }

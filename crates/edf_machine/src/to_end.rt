@@ -13,9 +13,9 @@ ghost use Rattle.edf_machine.specs.Coming.{coming, log_to_come};
 use crate::EdfMachine;
 use event_log::LineBuffer;
 use image::ImageNames;
-use outside::{Sink, SinkFailed};
+use outside::Sink;
 use script::Script;
-use vm_run::put_all;
+use vm_run::{OutputCut, put_all};
 use vm_state::DecodedImage;
 
 /// Runs from the machine's tick to the end of the script, and puts the line of each event in the
@@ -27,7 +27,7 @@ pub fn run<O: Sink>(
     script: &Script,
     names: &ImageNames,
     out: &mut O,
-) -> Result<(), SinkFailed>
+) -> Result<(), OutputCut>
     ghost image: { Image }
     requires plan { IsOf image plan.now }
     requires runnable { IsRunnable image (script_of script.now) }

@@ -13,10 +13,11 @@ ghost use Rattle.image_loaded.specs.Ready.{CanBeRun, IsReady, run_log};
 use crate::{EdfImage, Shape};
 use edf_machine::EdfMachine;
 use edf_machine::runnable_law::{waitless_runs_are_runnable, waitless_runs_have_lines};
-use outside::{Sink, SinkFailed};
+use outside::Sink;
 use script::Script;
 use std::alloc::{AllocError, Global};
 use vm_plan::plan_bytes_plan::plan_of;
+use vm_run::OutputCut;
 use vm_state::DecodedImage;
 
 /// The deadline of each process in ticks; an error says that memory is short.
@@ -57,7 +58,7 @@ fn put_log<O: Sink>(
     image: &EdfImage,
     script: &Script,
     out: &mut O,
-) -> Result<(), SinkFailed>
+) -> Result<(), OutputCut>
     ghost whole: { Image }
     requires image { whole ≡ image.now.image }
     requires ready { IsReady image.now (script_of script.now) run.old }
@@ -107,7 +108,7 @@ impl AdmittedRun {
         image: &EdfImage,
         script: &Script,
         out: &mut O,
-    ) -> Result<(), SinkFailed>
+    ) -> Result<(), OutputCut>
         requires ready { IsReady image.now (script_of script.now) self.old }
         ensures whole { OnOk result (Appends (O.state out.old).taken (O.state out.new).taken
             (run_log image.now (script_of script.now))) }

@@ -9,5 +9,5 @@
 mod put_log;
 mod to_end;
 
-pub use put_log::put_all;
+pub use put_log::{OutputCut, put_all};
 pub use to_end::run;

@@ -8,7 +8,12 @@ ghost use Rattle.event_log.specs.Line.{line_of, log_of};
 use base::Event;
 use event_log::{LineBuffer, write_line};
 use image::ImageNames;
-use outside::{Sink, SinkFailed};
+use outside::Sink;
+
+/// The output was cut: a put failed, and nothing was put after it. What was taken is a front of what
+/// was to be put.
+#[derive(Clone, Copy)]
+pub struct OutputCut;
 
 /// Puts the line of an event, which is written over the text.
 #[inline(always)]
@@ -17,7 +22,7 @@ fn put_line<O: Sink>(
     names: &ImageNames,
     event: &Event,
     out: &mut O,
-) -> Result<(), SinkFailed>
+) -> Result<(), OutputCut>
     requires { AreIn names.now event.now }
     ensures whole { OnOk result
         (Appends (O.state out.old).taken (O.state out.new).taken (line_of names.now event.now)) }
@@ -29,7 +34,10 @@ fn put_line<O: Sink>(
     ensures quiet { OnOk result ((O.state out.new).faults ≡ (O.state out.old).faults) }
 {
     write_line(text, names, event);
-    out.put(text.as_slice())
+    match out.put(text.as_slice()) {
+        Ok(()) => Ok(()),
+        Err(_) => Err(OutputCut),
+    }
 }
 
 /// Puts the line of each event, one put a line, up to the first put that fails; the lines are
@@ -39,7 +47,7 @@ pub fn put_all<O: Sink>(
     names: &ImageNames,
     events: &[Event],
     out: &mut O,
-) -> Result<(), SinkFailed>
+) -> Result<(), OutputCut>
     requires { All (AreIn names.now) events.now }
     ensures whole { OnOk result
         (Appends (O.state out.old).taken (O.state out.new).taken (log_of names.now events.now)) }

@@ -10,10 +10,10 @@ ghost use Rattle.vm_releases.specs.Begin.{script_of};
 ghost use Rattle.vm_state.specs.Plan.{IsOf};
 ghost use Rattle.vm_run.specs.Coming.{coming, log_to_come};
 
-use crate::put_log::put_all;
+use crate::put_log::{OutputCut, put_all};
 use event_log::LineBuffer;
 use image::ImageNames;
-use outside::{Sink, SinkFailed};
+use outside::Sink;
 use script::Script;
 use vm_runner::Machine;
 use vm_state::DecodedImage;
@@ -27,7 +27,7 @@ pub fn run<O: Sink>(
     script: &Script,
     names: &ImageNames,
     out: &mut O,
-) -> Result<(), SinkFailed>
+) -> Result<(), OutputCut>
     ghost image: { Image }
     requires plan { IsOf image plan.now }
     requires runnable { IsRunnable image (script_of script.now) }
