@@ -1,6 +1,6 @@
 -- The process that is picked is the first of the candidates.
 use Rattle.std.proofs.Common.{◌≡◌, ◌≢◌, ◌≤◌, ◌<◌, ◌+◌, ◌++◌, ◌⊎◌, inl, inr, ℕ, take, zero, suc, Bool, true, false, List, [], ◌∷◌, Option, Some, None, eqb, length, drop, get_or, arith, refl, ap, sym, subst, ◌∙◌}
-use Rattle.std.specs.Prelude.{cond, if◌then◌else◌, nat_eq, nat_lt, slice_get, slice_set}
+use Rattle.std.specs.Prelude.{cond, slice_get, slice_set}
 use Rattle.std.proofs.lemmas.Bool.{cases_lt}
 use Rattle.std.proofs.lemmas.Bool.Decides.{nat_tests}
 use Rattle.std.specs.List.{refill}
@@ -9,7 +9,7 @@ use Rattle.std.proofs.lemmas.List.{append-nil, drop_all, length-set, take_all}
 use Rattle.std.proofs.lemmas.Option.{slice_get-get_or, slice_get_within}
 use Rattle.base.proofs.Lists.{append_back, append_front, get_other, get_set, one_some, some_at}
 use Rattle.machine_semantics.specs.Image.{Image, Process}
-use Rattle.machine_semantics.specs.State.{Job, Thread, Idle, Ready, Waiting}
+use Rattle.machine_semantics.specs.State.{Thread, Idle, Ready, Waiting}
 use Rattle.machine_semantics.specs.Tick.{Candidate as Chosen, active_rank, first_of_two, is_before, least, outside as outside_of, pick}
 use Rattle.vm_stretch.specs.Pick.{outside}
 use Rattle.vm_stretch.specs.Picks.{is_inside_one}

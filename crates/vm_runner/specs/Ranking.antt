@@ -1,7 +1,7 @@
 -- By what the process that is picked is chosen, in code: how each stands in the choice.
 use Rattle.std.specs.Prelude.{◌≡◌, ◌<◌, ◌≤◌, ◌⊎◌, ℕ, List, Option, Some, None, length, slice_get}
 use Rattle.machine_semantics.specs.Image.{Image, Process}
-use Rattle.machine_semantics.specs.State.{Job, Thread, Idle, Ready, Waiting}
+use Rattle.machine_semantics.specs.State.{Thread, Idle, Ready, Waiting}
 use Rattle.machine_semantics.specs.Tick.{active_rank, pick}
 use Rattle.vm_state.specs.declared.threads.ControlBlock.{ControlBlock}
 use Rattle.vm_state.specs.Threads.{thread_of}

@@ -1,4 +1,4 @@
-use Rattle.std.proofs.Common.{◌≡◌, ◌<◌, ◌∙◌, ℕ, Option, Some, None, length, inl, inr, get_or, subst, refl, sym}
+use Rattle.std.proofs.Common.{◌≡◌, ◌∙◌, ℕ, Some, None, inl, inr, get_or, subst, refl, sym}
 use Rattle.std.specs.Prelude.{slice_get}
 use Rattle.vm_stretch.proofs.Lists.{same_or_not}
 use Rattle.vm_runner.specs.Ranking.{IsBehind, StandsAsWell}

@@ -1,5 +1,4 @@
-use Rattle.std.proofs.Common.{rules, arith, ◌≡◌, ◌<◌, ◌∙◌, Option, Some, None, length, get_or, sym}
-use Rattle.std.specs.Prelude.{slice_get}
+use Rattle.std.proofs.Common.{rules, ◌≡◌, Some, None}
 use Rattle.vm_runner.proofs.Foremost.{nobody_leads, one_read, same_behind, still_behind, there_none, there_within}
 use Rattle.vm_runner.proofs.ranking.first_of_two.Goals as goal
 

@@ -1,4 +1,4 @@
-use Rattle.std.proofs.Common.{◌≡◌, ◌<◌, ◌∙◌, List, Option, length, arith, subst}
+use Rattle.std.proofs.Common.{◌<◌, ◌∙◌, List, Option, length, arith, subst}
 use Rattle.base.proofs.Lists.{some_at}
 use Rattle.vm_releases.proofs.Boards.{as_many, cells_count}
 use Rattle.vm_releases.proofs.Joining.{threads_count}
