@@ -1,5 +1,5 @@
 -- The process that is picked is the first of the candidates.
-use Rattle.std.proofs.Common.{◌≡◌, ◌≢◌, ◌≤◌, ◌<◌, ◌+◌, ◌++◌, ◌⊎◌, inl, inr, ℕ, take, zero, suc, Bool, true, false, List, [], ◌∷◌, Option, Some, None, eqb, length, drop, get_or, arith, refl, ap, sym, subst, ◌∙◌}
+use Rattle.std.proofs.Common.{◌≡◌, ◌≢◌, ◌≤◌, ◌<◌, ◌+◌, ◌++◌, ◌⊎◌, inl, inr, ℕ, take, zero, suc, Bool, true, false, List, [], ◌∷◌, Option, Some, None, eqb, not, length, drop, get_or, arith, refl, ap, sym, subst, ◌∙◌}
 use Rattle.std.specs.Prelude.{cond, slice_get, slice_set}
 use Rattle.std.proofs.lemmas.Bool.{cases_lt}
 use Rattle.std.proofs.lemmas.Bool.Decides.{nat_tests}
@@ -281,8 +281,8 @@ refilled xs ws same =
     ∙ take_all (length xs) ws (omega (arith, same))
 
 -- all are noted, and the first of them is known
-pub ranked : (image : Image) (threads : List Thread) (r : Ranking) → length image.processes ≤ 64 → length threads ≡ length image.processes → length r.candidates.items ≡ length image.processes → AreCandidates image image.processes threads r.candidates.items → IsFirst r.candidates.items r.first → IsRanking image threads r
-ranked image threads r few many count are is = record { few = few; all = many; count = count; candidates = are; first = first_picked image threads r.candidates.items r.first many count are is }
+pub ranked : (image : Image) (threads : List Thread) (r : Ranking) → length threads ≡ length image.processes → length r.candidates.items ≡ length image.processes → AreCandidates image image.processes threads r.candidates.items → IsFirst r.candidates.items r.first → IsRanking image threads r
+ranked image threads r many count are is = record { all = many; count = count; candidates = are; first = first_picked image threads r.candidates.items r.first many count are is }
 
 pub ranking_first : (image : Image) (threads : List Thread) (r : Ranking) → IsRanking image threads r → IsFirst r.candidates.items r.first
 ranking_first image threads r is = subst (λ (o : Option ℕ). IsFirst r.candidates.items o) (sym is.first) (picked_first image threads r.candidates.items is.all is.count is.candidates)
@@ -292,7 +292,7 @@ pub noted : (image : Image) (old threads : List Thread) (r new : Ranking) (k : �
     → ((j : ℕ) → j ≢ k → slice_get threads j ≡ slice_get old j) → new.candidates.items ≡ slice_set r.candidates.items k c → IsFirst new.candidates.items new.first → IsRanking image threads new
 noted image old threads r new k c p th is many at_p at_t here others same first =
     let below = slice_get_within image.processes k p at_p in
-    ranked image threads new is.few many (ap length same ∙ length-set r.candidates.items k c ∙ is.count)
+    ranked image threads new many (ap length same ∙ length-set r.candidates.items k c ∙ is.count)
     (subst (λ (cs : List (Option Candidate)). AreCandidates image image.processes threads cs) (sym same) (set_noted image old threads r.candidates.items k c p th is.candidates (omega (arith, below, is.count)) at_p at_t here others))
     first
 
@@ -329,11 +329,27 @@ pub set_behind : (cs : List (Option Candidate)) (first : Option ℕ) (k : ℕ) (
 set_behind cs first k before now is at well =
     others_behind (slice_set cs k before) cs first k before now is (get_set cs k before now at) at (λ j differ. sym (get_other cs k j before (λ is. differ (sym is)))) well
 
-pub not_other : (first : Option ℕ) (k : ℕ) → option_eq eqb first (Some k) ≡ false → first ≡ Some k → ⊥
-not_other first k test is =
+-- who is the first is not before itself
+pub self_behind : (cs : List (Option Candidate)) (first : Option ℕ) (k : ℕ) → IsThere cs first → first ≡ Some k → IsBehind cs first k
+self_behind cs None k there is b at = absurd cc
+self_behind cs (Some i) k there is b at =
+    let same : i ≡ k = cc in
+    let one : there.0 ≡ b = one_some refl (one_some there.1 (subst (λ (n : ℕ). slice_get cs n ≡ Some (Some b)) (sym same) at)) in
+    (there.0, there.1, subst (λ (n : ℕ). IsNoLater there.0 i b n) same (subst (λ (x : Candidate). IsNoLater there.0 i x i) one (no_later_self there.0 i)))
+
+-- the test in code
+pub is_other : (first : Option ℕ) (k : ℕ) → not (option_eq eqb first (Some k)) ≡ true → first ≡ Some k → ⊥
+is_other first k test is =
     let same : eqb k k ≡ true = grind (arith, nat_tests) in
-    let both : option_eq eqb first (Some k) ≡ eqb k k = ap (λ (o : Option ℕ). option_eq eqb o (Some k)) is in
-    absurd (let never : true ≡ false = sym same ∙ sym both ∙ test in cc)
+    let both : option_eq eqb first (Some k) ≡ true = ap (λ (o : Option ℕ). option_eq eqb o (Some k)) is ∙ same in
+    absurd (let never : false ≡ true = ap not (sym both) ∙ test in cc)
+
+pub is_same : (first : Option ℕ) (k : ℕ) → not (option_eq eqb first (Some k)) ≡ false → first ≡ Some k
+is_same None k test = absurd (let never : true ≡ false = test in cc)
+is_same (Some i) k test =
+    let both : not (eqb i k) ≡ false = test in
+    let same : i ≡ k = grind (arith, nat_tests) in
+    ap (λ (n : ℕ). Some n) same
 
 -- what was there is put back
 pub put_back : (cs : List (Option Candidate)) (k : ℕ) (now before : Option Candidate) → slice_get cs k ≡ Some before → slice_set (slice_set cs k now) k before ≡ cs

@@ -27,7 +27,6 @@ candidate_of image p (Waiting condition due number job) = None
 
 -- each process stands so, and the one that is picked is known
 pub record IsRanking (image : Image) (threads : List Thread) (r : Ranking) : Type 0 where
-  pub few : length image.processes ≤ 64
   pub all : length threads ≡ length image.processes
   pub count : length r.candidates.items ≡ length image.processes
   pub candidates : (k : ℕ) (p : Process) (th : Thread) (c : Option Candidate) → slice_get image.processes k ≡ Some p → slice_get threads k ≡ Some th → slice_get r.candidates.items k ≡ Some c → c ≡ candidate_of image p th

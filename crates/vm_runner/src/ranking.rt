@@ -1,6 +1,7 @@
 //! Which process is picked, kept from row to row.
 
-ghost use Rattle.std.specs.Prelude.{◌≡◌, ◌≢◌, ◌<◌, ℕ, false, length, slice_get, slice_set, true, vec_len};
+ghost use Rattle.std.specs.Prelude.{◌≡◌, ◌≢◌, ◌<◌, ℕ, false, true};
+ghost use Rattle.std.specs.Prelude.{length, slice_get, slice_set, vec_len};
 ghost use Rattle.machine_semantics.specs.Image.{Image};
 ghost use Rattle.machine_semantics.specs.Tick.{pick};
 ghost use Rattle.vm_stretch.specs.Stretch.{place_of};
@@ -154,10 +155,14 @@ fn first_after(
     requires first { IsFirst (slice_set candidates.now who before) first }
     ensures { IsFirst candidates.now result }
 {
-    if first == Some(who) && !stands_as_well(candidates[who], before, who) {
-        return first_of(candidates);
+    if first != Some(who) {
+        return first_of_two(candidates, first, who);
     }
-    first_of_two(candidates, first, who)
+    if stands_as_well(candidates[who], before, who) {
+        first
+    } else {
+        first_of(candidates)
+    }
 }
 
 impl Ranking {

@@ -35,5 +35,5 @@ returns g c =
     let cells = c.args.board.now.cells.items in
     let count = cells_count g.image cells c.requires.1.rooms in
     let all = threads_count cells in
-    ranked g.image (state_of c.args.board.now).threads _ c.requires.0.few (all ∙ count) (omega (arith, c.loop-k.invariant.count, c.loop-k-test.false, c.len-k-end.ensures, c.loop-k.auto.k-end, count, c.args.board.now.cells.ok.0)) c.loop-k.invariant.candidates
+    ranked g.image (state_of c.args.board.now).threads _ (all ∙ count) (omega (arith, c.loop-k.invariant.count, c.loop-k-test.false, c.len-k-end.ensures, c.loop-k.auto.k-end, count, c.args.board.now.cells.ok.0)) c.loop-k.invariant.candidates
     (subst (λ (cs : List (Option Candidate)). IsFirst cs c.first_of-self.result) c.as_slice.ensures.value c.first_of-self.ensures)
