@@ -1,13 +1,15 @@
 //! Which process is picked, kept from row to row.
 
-ghost use Rattle.std.specs.Prelude.{◌≡◌, ◌≢◌, ◌<◌, ◌≤◌, ◌+◌, ◌*◌, ℕ, false, length, slice_get, vec_len};
+ghost use Rattle.std.specs.Prelude.{◌≡◌, ◌≢◌, ◌<◌, ℕ, false, true};
+ghost use Rattle.std.specs.Prelude.{length, slice_get, slice_set, vec_len};
 ghost use Rattle.machine_semantics.specs.Image.{Image};
 ghost use Rattle.machine_semantics.specs.Tick.{pick};
 ghost use Rattle.vm_stretch.specs.Stretch.{place_of};
 ghost use Rattle.vm_state.specs.Board.{IsBoardOf, state_of};
 ghost use Rattle.vm_state.specs.Plan.{IsOf};
 ghost use Rattle.vm_turn.specs.Chosen.{IsCeiling};
-ghost use Rattle.vm_runner.specs.Ranking.{IsKeyOf, IsRanking, Standing, TellsEntry, least_of};
+ghost use Rattle.vm_runner.specs.Ranking.{IsBehind, IsCandidate, IsFirst, IsNoLater, IsRanking};
+ghost use Rattle.vm_runner.specs.Ranking.{IsReadyOne, IsThere, Standing, StandsAsWell};
 ghost use Rattle.vm_runner.specs.Waits.{is_some_at_queue};
 
 use crate::waits::is_some_at_queue;
@@ -15,14 +17,19 @@ use arrayvec::ArrayVec;
 use base::Event;
 use vm_state::{ControlBlock, DecodedImage, DecodedProcess, MachineState, SchedulingState};
 
-/// The number of a process that is not ready.
-const NOBODY: u32 = u32::MAX;
+/// How a process that is ready stands in the choice: the lower active rank comes first, and of two
+/// alike one inside a monitor.
+#[derive(Clone, Copy)]
+struct Candidate {
+    active_rank: u16,
+    is_inside: bool,
+}
 
-/// By process the number that it is chosen by, the least first, and the least of them.
+/// How each process stands, where it is ready, and which of them is picked.
 #[derive(Drop)]
 pub(crate) struct Ranking {
-    entries: ArrayVec<u32, 64>,
-    least: u32,
+    candidates: ArrayVec<Option<Candidate>, 64>,
+    first: Option<usize>,
 }
 
 /// The ceiling of a monitor; 0 where there is none.
@@ -37,64 +44,149 @@ fn ceiling_of(ceilings: &[u16], monitor: u16) -> u16
     0
 }
 
-/// By what a process that is ready is chosen before its place is: its active rank, and of two alike
-/// one inside a monitor before one outside.
+/// How a process that is ready stands, inside this monitor or outside of all.
 #[inline(always)]
-fn key_of(plan: &DecodedImage, process: &DecodedProcess, inside: Option<u16>) -> u32
-    ensures key { IsKeyOf plan.now process.now inside result }
-    ensures small { result < 131072 }
+fn ready_one(plan: &DecodedImage, process: &DecodedProcess, inside: Option<u16>) -> Candidate
+    ensures { IsReadyOne plan.now process.now inside result }
 {
     match inside {
-        Some(monitor) => 2 * u32::from(ceiling_of(&plan.ceilings, monitor)),
-        None => 2 * u32::from(process.rank) + 1,
+        Some(monitor) => Candidate {
+            active_rank: ceiling_of(&plan.ceilings, monitor),
+            is_inside: true,
+        },
+        None => Candidate {
+            active_rank: process.rank,
+            is_inside: false,
+        },
     }
 }
 
-/// The number by which the process at this place is chosen.
+/// How a process stands, where it is ready.
 #[inline(always)]
-fn entry_of(plan: &DecodedImage, process: &DecodedProcess, cell: &ControlBlock, place: usize) -> u32
-    requires { place < 64 }
-    ensures { TellsEntry plan.now process.now cell.now place result }
+fn candidate_of(
+    plan: &DecodedImage,
+    process: &DecodedProcess,
+    cell: &ControlBlock,
+) -> Option<Candidate>
+    ensures { IsCandidate plan.now process.now cell.now result }
 {
     match cell.stand {
-        SchedulingState::Ready => 64 * key_of(plan, process, cell.job.inside) + place as u32,
-        _ => NOBODY,
+        SchedulingState::Ready => Some(ready_one(plan, process, cell.job.inside)),
+        _ => None,
     }
 }
 
-/// The least of the numbers.
-fn least_of(entries: &[u32]) -> u32
-    ensures { result ≡ least_of entries.now }
+/// Whether one comes before the other; of two alike the one at the lower place does.
+#[inline(always)]
+fn comes_before(one: Candidate, its_place: usize, other: Candidate, other_place: usize) -> bool
+    ensures before { result ≡ true → IsNoLater one its_place other other_place }
+    ensures behind { result ≡ false → IsNoLater other other_place one its_place }
 {
-    let mut least = NOBODY;
-    for entry in entries {
-        least = least.min(*entry);
+    if one.active_rank != other.active_rank {
+        return one.active_rank < other.active_rank;
     }
-    least
+    if one.is_inside != other.is_inside {
+        return one.is_inside;
+    }
+    its_place < other_place
+}
+
+/// The first of the one at a place and the first so far, if there is one.
+#[inline(always)]
+fn first_of_two(
+    candidates: &[Option<Candidate>],
+    first: Option<usize>,
+    place: usize,
+) -> Option<usize>
+    requires there { IsThere candidates.now first }
+    requires place { place < length candidates.now }
+    ensures there { IsThere candidates.now result }
+    ensures place { IsBehind candidates.now result place }
+    ensures others { (j : ℕ) → IsBehind candidates.now first j → IsBehind candidates.now result j }
+{
+    let Some(candidate) = candidates[place] else {
+        return first;
+    };
+    let Some(best) = first else {
+        return Some(place);
+    };
+    let Some(ahead) = candidates[best] else {
+        return Some(place);
+    };
+    if comes_before(ahead, best, candidate, place) {
+        first
+    } else {
+        Some(place)
+    }
+}
+
+/// The first of all.
+fn first_of(candidates: &[Option<Candidate>]) -> Option<usize>
+    ensures { IsFirst candidates.now result }
+{
+    let mut first = None;
+    for place in 0..candidates.len() {
+        first = first_of_two(candidates, first, place);
+    }
+    first
+}
+
+/// Whether one stands as well as before, where it was ready.
+#[inline(always)]
+fn stands_as_well(now: Option<Candidate>, before: Option<Candidate>, place: usize) -> bool
+    ensures { result ≡ true → StandsAsWell now before place }
+{
+    match (now, before) {
+        (Some(now), Some(before)) => !comes_before(before, place, now, place),
+        _ => false,
+    }
+}
+
+/// The first of all, once one stands otherwise than before, when there was this first: all are
+/// looked at only where it was the first itself and does not stand as well.
+#[inline(always)]
+fn first_after(
+    candidates: &[Option<Candidate>],
+    first: Option<usize>,
+    who: usize,
+    before: Option<Candidate>,
+) -> Option<usize>
+    requires who { who < length candidates.now }
+    requires first { IsFirst (slice_set candidates.now who before) first }
+    ensures { IsFirst candidates.now result }
+{
+    if first != Some(who) {
+        return first_of_two(candidates, first, who);
+    }
+    if stands_as_well(candidates[who], before, who) {
+        first
+    } else {
+        first_of(candidates)
+    }
 }
 
 impl Ranking {
-    /// Room for the numbers; none is known.
+    /// Room for all processes; none is known.
     pub(crate) fn new() -> Ranking {
         Ranking {
-            entries: ArrayVec::new(),
-            least: NOBODY,
+            candidates: ArrayVec::new(),
+            first: None,
         }
     }
 
-    /// Notes the numbers of all processes.
+    /// Notes how all processes stand.
     pub(crate) fn fill(&mut self, plan: &DecodedImage, board: &MachineState)
         ghost image: { Image }
         requires plan { IsOf image plan.now }
         requires board { IsBoardOf image board.now }
         ensures { IsRanking image (state_of board.now).threads self.new }
     {
-        self.entries.clear();
+        self.candidates.clear();
         for k in 0..board.cells.len() {
-            self.entries
-                .push(entry_of(plan, &plan.processes[k], &board.cells[k], k));
+            self.candidates
+                .push(candidate_of(plan, &plan.processes[k], &board.cells[k]));
         }
-        self.least = least_of(self.entries.as_slice());
+        self.first = first_of(self.candidates.as_slice());
     }
 
     /// The process that is picked.
@@ -104,10 +196,7 @@ impl Ranking {
         requires { IsRanking at.image at.threads self.now }
         ensures { result ≡ place_of (pick at.image at.threads) }
     {
-        if self.least == NOBODY {
-            return None;
-        }
-        Some((self.least % 64) as usize)
+        self.first
     }
 
     /// Notes how a process stands, where all others stand as before.
@@ -122,13 +211,13 @@ impl Ranking {
             slice_get (state_of board.now).threads j ≡ slice_get at.threads j }
         ensures { IsRanking at.image (state_of board.now).threads self.new }
     {
-        let entry = entry_of(plan, &plan.processes[who], &board.cells[who], who);
-        self.entries.as_mut_slice()[who] = entry;
-        if entry <= self.least {
-            self.least = entry;
-        } else {
-            self.least = least_of(self.entries.as_slice());
-        }
+        let before = self.candidates.as_slice()[who];
+        self.candidates.as_mut_slice()[who] = candidate_of(
+            plan,
+            &plan.processes[who],
+            &board.cells[who],
+        );
+        self.first = first_after(self.candidates.as_slice(), self.first, who, before);
     }
 
     /// Notes how all stand after a row of the process, in which these events fell: where none of
