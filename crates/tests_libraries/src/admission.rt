@@ -32,8 +32,10 @@ fn put_log(alloc: Global, bytes: &[u8], text: &[u8], out: &mut MemorySink) -> Re
     let script = read_script(alloc, text, image.shape().names())?;
     images_of_files_can_be_run(&image);
     let mut run = AdmittedRun::new(alloc, &image, &script)?;
-    run.run(&image, &script, out)?;
-    Ok(())
+    match run.run(&image, &script, out) {
+        Ok(()) => Ok(()),
+        Err(_) => Err(Fail::new("a put failed")),
+    }
 }
 
 fn holds(out: &MemorySink, log: &str) -> Result<(), Fail> {
