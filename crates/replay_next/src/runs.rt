@@ -389,7 +389,7 @@ pub fn run<'a>(
         },
         Stmt::AssignEmpty { target, cond, .. } => {
             let aim = take_aim(scope, home, depth, memory, target)?;
-            let condition = condition_here(scope, home, depth, cond)?;
+            let condition = condition_here(scope, home, depth, cond);
             asks(scope.alloc, aim, Action::AsksEmpty { condition })
         }
         Stmt::Call { name, args, .. } => {
@@ -456,11 +456,11 @@ pub fn run<'a>(
             ..
         } => waits(scope, home, depth, cond, limit, number),
         Stmt::Signal { cond, .. } => {
-            let condition = condition_here(scope, home, depth, cond)?;
+            let condition = condition_here(scope, home, depth, cond);
             stops(scope.alloc, Action::Signals { condition }, None)
         }
         Stmt::Broadcast { cond, .. } => {
-            let condition = condition_here(scope, home, depth, cond)?;
+            let condition = condition_here(scope, home, depth, cond);
             stops(scope.alloc, Action::Broadcasts { condition }, None)
         }
         Stmt::Except { number, .. } => Ok(RunResult::Fails(count(scope.declarations, number))),

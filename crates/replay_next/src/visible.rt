@@ -159,7 +159,7 @@ pub fn waits<'a>(
     match home {
         CallOwner::Program | CallOwner::Process => Ok(RunResult::Goes),
         CallOwner::Monitor(mon) => {
-            let condition = condition_here(scope, home, depth, condition)?;
+            let condition = condition_here(scope, home, depth, condition);
             let action = Action::Waits {
                 condition,
                 limit: count(scope.declarations, limit),
