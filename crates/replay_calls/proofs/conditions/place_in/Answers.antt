@@ -1,4 +1,4 @@
-use Rattle.std.proofs.Common.{◌≡◌, ◌+◌, ◌-◌, ◌∙◌, ap, sym, Bor, drop, map, take}
+use Rattle.std.proofs.Common.{◌+◌, ◌-◌, ◌∙◌, ap, sym, Bor, drop, take}
 use Rattle.std.proofs.lemmas.List.{drop-map, take-map}
 use Rattle.syntax_tree.specs.declared.name.Name.{Name}
 use Rattle.source_semantics.specs.Names.{place_of}
