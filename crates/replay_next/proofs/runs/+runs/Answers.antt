@@ -345,8 +345,8 @@ run-returns-in-Raised = of_stmts.run-returns-in-Raised
 pub run-returns-in-At : goal.run-returns-in-At
 run-returns-in-At = of_stmts.run-returns-in-At
 
-pub run-returns-in_ok-condition-in-AssignEmpty : goal.run-returns-in_ok-condition-in-AssignEmpty
-run-returns-in_ok-condition-in-AssignEmpty = of_stmts.run-returns-in_ok-condition-in-AssignEmpty
+pub run-returns-in_ok-aim-in-AssignEmpty : goal.run-returns-in_ok-aim-in-AssignEmpty
+run-returns-in_ok-aim-in-AssignEmpty = of_stmts.run-returns-in_ok-aim-in-AssignEmpty
 
 pub run-returns-in-Call : goal.run-returns-in-Call
 run-returns-in-Call = of_stmts.run-returns-in-Call
@@ -381,11 +381,11 @@ run-returns-in_ok-answer-in-Put = of_stmts.run-returns-in_ok-answer-in-Put
 pub run-returns-in-Wait : goal.run-returns-in-Wait
 run-returns-in-Wait = of_stmts.run-returns-in-Wait
 
-pub run-returns-in_ok-condition-in-Signal : goal.run-returns-in_ok-condition-in-Signal
-run-returns-in_ok-condition-in-Signal = of_stmts.run-returns-in_ok-condition-in-Signal
+pub run-returns-in-Signal : goal.run-returns-in-Signal
+run-returns-in-Signal = of_stmts.run-returns-in-Signal
 
-pub run-returns-in_ok-condition-in-Broadcast : goal.run-returns-in_ok-condition-in-Broadcast
-run-returns-in_ok-condition-in-Broadcast = of_stmts.run-returns-in_ok-condition-in-Broadcast
+pub run-returns-in-Broadcast : goal.run-returns-in-Broadcast
+run-returns-in-Broadcast = of_stmts.run-returns-in-Broadcast
 
 pub run-returns-in-Except : goal.run-returns-in-Except
 run-returns-in-Except = of_stmts.run-returns-in-Except

@@ -65,16 +65,16 @@ run-returns-in-At t c =
     ∙ stmts.run_assign_entry s m stmt i.target i.mon i.mon_place i.entry i.entry_place i.args xs (aimed_of c.in_ok-number-in-AssignEntry.field-0) i.is c.in_ok-number-in-AssignEntry.ensures c.as_slice-args.ensures in
     ok_told c.enter.result (λ r. ran_of r m) _ _ told c.enter.ensures
 
-pub run-returns-in_ok-condition-in-AssignEmpty : goal.run-returns-in_ok-condition-in-AssignEmpty
-run-returns-in_ok-condition-in-AssignEmpty t c =
+pub run-returns-in_ok-aim-in-AssignEmpty : goal.run-returns-in_ok-aim-in-AssignEmpty
+run-returns-in_ok-aim-in-AssignEmpty t c =
     let s = site_of c.args.scope.now c.args.home c.args.depth in
     let m = memory_of c.args.memory.now in
     let stmt = c.args.stmt.now in
     let i = c.in-AssignEmpty in
     let a = aimed_of c.in_ok-aim-in-AssignEmpty.aim in
-    let n = c.in_ok-condition-in-AssignEmpty.condition in
+    let n = c.condition_here-condition.result in
     ok_at c.asks.result ran_of (λ k. with_aimed a k (λ g. run.stops (run.asks_empty n) [] (run.receive g ∷ []) k)) m _
-    (stmts.run_assign_empty s m stmt i.target i.cond i.cond_place a n i.is c.in_ok-aim-in-AssignEmpty.ensures c.in_ok-condition-in-AssignEmpty.ensures) c.asks.ensures
+    (stmts.run_assign_empty s m stmt i.target i.cond i.cond_place a n i.is c.in_ok-aim-in-AssignEmpty.ensures c.condition_here-condition.ensures) c.asks.ensures
 
 pub run-returns-in-Call : goal.run-returns-in-Call
 run-returns-in-Call t c =
@@ -191,23 +191,23 @@ run-returns-in-Wait t c =
     ok_at c.waits.result ran_of
     (λ k. run.waits_here s i.cond (count_value g (plain_constant (placed_constant c.deref-in-Wait.result.now))) (count_value g (plain_constant (placed_constant c.deref-in-Wait-2.result.now))) k) m _ told c.waits.ensures
 
-pub run-returns-in_ok-condition-in-Signal : goal.run-returns-in_ok-condition-in-Signal
-run-returns-in_ok-condition-in-Signal t c =
+pub run-returns-in-Signal : goal.run-returns-in-Signal
+run-returns-in-Signal t c =
     let s = site_of c.args.scope.now c.args.home c.args.depth in
     let m = memory_of c.args.memory.now in
     let stmt = c.args.stmt.now in
     let i = c.in-Signal in
-    let n = c.in_ok-condition-in-Signal.condition in
-    ok_at c.stops.result ran_of (λ k. run.stops (run.signals n) [] [] k) m _ (stmts.run_signal s m stmt i.place i.cond i.cond_place n i.is c.in_ok-condition-in-Signal.ensures) c.stops.ensures
+    let n = c.condition_here-condition-in-Signal.result in
+    ok_at c.stops.result ran_of (λ k. run.stops (run.signals n) [] [] k) m _ (stmts.run_signal s m stmt i.place i.cond i.cond_place n i.is c.condition_here-condition-in-Signal.ensures) c.stops.ensures
 
-pub run-returns-in_ok-condition-in-Broadcast : goal.run-returns-in_ok-condition-in-Broadcast
-run-returns-in_ok-condition-in-Broadcast t c =
+pub run-returns-in-Broadcast : goal.run-returns-in-Broadcast
+run-returns-in-Broadcast t c =
     let s = site_of c.args.scope.now c.args.home c.args.depth in
     let m = memory_of c.args.memory.now in
     let stmt = c.args.stmt.now in
     let i = c.in-Broadcast in
-    let n = c.in_ok-condition-in-Broadcast.condition in
-    ok_at c.stops-in-Broadcast.result ran_of (λ k. run.stops (run.broadcasts n) [] [] k) m _ (stmts.run_broadcast s m stmt i.place i.cond i.cond_place n i.is c.in_ok-condition-in-Broadcast.ensures) c.stops-in-Broadcast.ensures
+    let n = c.condition_here-condition-in-Broadcast.result in
+    ok_at c.stops-in-Broadcast.result ran_of (λ k. run.stops (run.broadcasts n) [] [] k) m _ (stmts.run_broadcast s m stmt i.place i.cond i.cond_place n i.is c.condition_here-condition-in-Broadcast.ensures) c.stops-in-Broadcast.ensures
 
 pub run-returns-in-Except : goal.run-returns-in-Except
 run-returns-in-Except t c =
