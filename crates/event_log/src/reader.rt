@@ -2,6 +2,7 @@
 
 ghost use Rattle.std.specs.Prelude.{◌≡◌, ◌<◌, ◌++◌, ◌∷◌, [], List, ℕ, length, IfErr, IfNone, IfOk, IfSome};
 ghost use Rattle.base.specs.declared.event.Event.{Event as Event_spec};
+ghost use Rattle.text_fields.specs.Fields.{IsCutAt, Lacks};
 ghost use Rattle.event_log.specs.Finding.{AreFound};
 ghost use Rattle.event_log.specs.Logs.{IsFault, IsLog};
 ghost use Rattle.event_log.specs.Reader.{HasRead, HasReadAll, IsReader, names_of};
@@ -11,7 +12,8 @@ use crate::find::{NameIndex, Near};
 use crate::line::read_line;
 use crate::words::are_words;
 use base::Event;
-use text_fields::cut_at;
+use memchr::memchr;
+use text_fields::Cut;
 
 /// How many bytes a log has at most.
 const LONGEST_TEXT: usize = 67_108_864;
@@ -26,6 +28,20 @@ pub struct LogReader<'l> {
     /// How many lines were read.
     pub(crate) lines: u32,
     pub(crate) near: Near,
+}
+
+/// The first line of the text, without its LF, and the text behind it; None where there is no LF.
+fn first_line(text: &[u8]) -> Option<Cut<'_>>
+    ensures found { IfSome result (λ cut. IsCutAt 10 text.now cut.before.now cut.after.now) }
+    ensures none { IfNone result (Lacks 10 text.now) }
+{
+    match memchr(b'\n', text) {
+        None => None,
+        Some(len) => Some(Cut {
+            before: &text[..len],
+            after: &text[len + 1..],
+        }),
+    }
 }
 
 impl<'l> LogReader<'l> {
@@ -90,7 +106,7 @@ impl<'l> LogReader<'l> {
         if self.rest.is_empty() {
             return Ok(None);
         }
-        match cut_at(self.rest, b'\n') {
+        match first_line(self.rest) {
             None => Err(LogFault::Line(self.lines + 1)),
             Some(parts) => match read_line(parts.before, self.index, self.near) {
                 None => Err(LogFault::Line(self.lines + 1)),
