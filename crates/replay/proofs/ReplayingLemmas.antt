@@ -1,5 +1,5 @@
 -- Events that are allowed in turn.
-use Rattle.std.specs.Prelude.{◌≡◌, ◌+◌, ◌++◌, ℕ, Bool, true, false, List, [], ◌∷◌, length}
+use Rattle.std.specs.Prelude.{◌≡◌, ◌+◌, ◌++◌, ℕ, Bool, true, false, List, [], ◌∷◌, Option, Some, None, IfNone, IfSome, length}
 use Rattle.std.proofs.Common.{refl, ap, subst, sym, arith, append_assoc, length-append}
 use Rattle.std.proofs.lemmas.List.{append-nil}
 use Rattle.std.specs.Borrow.{Bor}
@@ -57,6 +57,13 @@ pub along : {A B C : Type 0} (P : A → B → C → Type 0) (a x : A) (b y : B) 
 along {A = A} {B = B} {C = C} P a x b y c z one two three p = subst (λ (k : C). P x y k) three (subst (λ (k : B). P x k c) two (subst (λ (k : A). P k b c) one p))
 
 -- ---- what is found
+
+-- what holds of the event that there is, and where there is none
+pub at_some : (next : Option Event) (e : Event) (P : Event → Type 0) → next ≡ Some e → IfSome next P → P e
+at_some next e P is holds = subst (λ (o : Option Event). IfSome o P) is holds
+
+pub at_none : (next : Option Event) (X : Type 0) → next ≡ None → IfNone next X → X
+at_none next X is holds = subst (λ (o : Option Event). IfNone o X) is holds
 
 pub same_names : (old new : LogReader) → new.index ≡ old.index → names_of new ≡ names_of old
 same_names old new same = ap (λ (i : Bor NameIndex). i.now.names.now) same

@@ -3,6 +3,7 @@ use Rattle.std.proofs.lemmas.Result.{IfErr-weaker, IfOk-weaker}
 use Rattle.std.specs.Borrow.{Bor}
 use Rattle.base.specs.declared.event.Event.{Event}
 use Rattle.image.specs.declared.names.ImageNames.{ImageNames}
+use Rattle.event_log.specs.Logs.{IsLog}
 use Rattle.event_log.specs.Reader.{HasRead, names_of}
 use Rattle.replay_accept.specs.declared.rules.Rules.{Rules}
 use Rattle.replay_accept.specs.Running.{program_of}
@@ -15,7 +16,7 @@ use Rattle.source_semantics.specs.Config.{Config}
 use Rattle.source_semantics.specs.Starts.{Script}
 use Rattle.source_semantics.specs.Verdicts.{Allowed, Stops}
 use Rattle.replay.specs.Judging.{IsFaultOf, IsFoundOf}
-use Rattle.replay.proofs.ReplayingLemmas.{allowed_more, along, found_at_end, same_names, stays_here, steps_here, stops_here}
+use Rattle.replay.proofs.ReplayingLemmas.{allowed_more, along, at_none, at_some, found_at_end, same_names, stays_here, steps_here, stops_here}
 use Rattle.replay.proofs.judge_events.judge_over.Goals as goal
 
 abbrev script_at : Bor code_script.Script → Script
@@ -29,6 +30,8 @@ loop-event-preserved c =
     let d = config_of c.loop-event.running.config in
     let new = config_of c.accept.new.self.config in
     let e = c.in-Some.event in
+    let more =
+    at_some c.in_ok-event.field-0 e (λ (next : Event). (text : List ℕ) (events : List Event) → HasRead text events c.loop-event.reader → HasRead text (events ++ next ∷ []) c.next.new.self) c.in-Some.is c.in_ok-event.ensures.some in
     let b = c.in_ok-accept.field-0 in
     let accepts : Accepts g s d e b new =
     along (λ (q : Rules) (y : Bor code_script.Script) (k : Config). Accepts (program_of q) (script_at y) k e b new) c.loop-event.running.rules c.args.running.now.rules c.loop-event.script.script c.args.script.now.script d d
@@ -38,13 +41,13 @@ loop-event-preserved c =
       rules = c.in_ok-accept.ensures.rules ∙ c.loop-event.invariant.rules;
       at = c.in_ok-accept.ensures.script;
       same = c.in_ok-accept.ensures.same ∙ c.loop-event.invariant.same;
-      reader = c.in-Some.ensures.reader;
-      index = c.in-Some.ensures.names ∙ c.loop-event.invariant.index;
+      reader = c.in_ok-event.ensures.reader;
+      index = c.in_ok-event.ensures.names ∙ c.loop-event.invariant.index;
       led = λ text read.
           let before = c.loop-event.invariant.led text read in
           record {
             events = before.events ++ e ∷ [];
-            read = c.in-Some.ensures.some text before.events before.read;
+            read = more text before.events before.read;
             allowed = allowed_more g s begun before.events d e new before.allowed (steps_here g s d e b new accepts c.if-not-branch.false);
           };
     }
@@ -68,12 +71,14 @@ returns-then-not-branch-clause-found c =
     let d = config_of c.loop-event.running.config in
     let new = config_of c.accept.new.self.config in
     let e = c.in-Some.event in
+    let more =
+    at_some c.in_ok-event.field-0 e (λ (next : Event). (text : List ℕ) (events : List Event) → HasRead text events c.loop-event.reader → HasRead text (events ++ next ∷ []) c.next.new.self) c.in-Some.is c.in_ok-event.ensures.some in
     let b = c.in_ok-accept.field-0 in
     let accepts : Accepts (program_of c.loop-event.running.rules) (script_in c.loop-event.script) d e b new = c.in_ok-accept.ensures.accepts in
     let rules : c.accept.new.self.rules ≡ c.args.running.now.rules = c.in_ok-accept.ensures.rules ∙ c.loop-event.invariant.rules in
     let same : c.accept.new.script.script ≡ c.args.script.now.script = c.in_ok-accept.ensures.same ∙ c.loop-event.invariant.same in
     let stays : new ≡ d = stays_here (program_of c.loop-event.running.rules) (script_in c.loop-event.script) d e b new accepts c.if-not-branch.true in
-    let names : names_of c.next.new.self ≡ names_of c.args.reader.now = same_names c.args.reader.now c.next.new.self (c.in-Some.ensures.names ∙ c.loop-event.invariant.index) in
+    let names : names_of c.next.new.self ≡ names_of c.args.reader.now = same_names c.args.reader.now c.next.new.self (c.in_ok-event.ensures.names ∙ c.loop-event.invariant.index) in
     IfOk-weaker c.refuse.result _ _
     (λ found finds text read.
     let before = c.loop-event.invariant.led text read in
@@ -82,28 +87,32 @@ returns-then-not-branch-clause-found c =
     c.accept.new.script.script d new (sym rules) (sym same) (sym stays) before.allowed in
     along (λ (q : Rules) (y : Bor code_script.Script) (n : ImageNames). IsFoundOf (program_of q) (script_at y) begun n text found c.refuse.new.reader.lines) c.accept.new.self.rules c.args.running.now.rules c.accept.new.script.script
     c.args.script.now.script (names_of c.next.new.self) (names_of c.args.reader.now) rules same names
-    (finds begun text before.events (c.in-Some.ensures.some text before.events before.read) allowed))
+    (finds begun text before.events (more text before.events before.read) allowed))
     c.refuse.ensures.found
 
 pub returns-then-not-branch-clause-fault : goal.returns-then-not-branch-clause-fault
 returns-then-not-branch-clause-fault c =
     let e = c.in-Some.event in
-    let names : names_of c.next.new.self ≡ names_of c.args.reader.now = same_names c.args.reader.now c.next.new.self (c.in-Some.ensures.names ∙ c.loop-event.invariant.index) in
+    let more =
+    at_some c.in_ok-event.field-0 e (λ (next : Event). (text : List ℕ) (events : List Event) → HasRead text events c.loop-event.reader → HasRead text (events ++ next ∷ []) c.next.new.self) c.in-Some.is c.in_ok-event.ensures.some in
+    let names : names_of c.next.new.self ≡ names_of c.args.reader.now = same_names c.args.reader.now c.next.new.self (c.in_ok-event.ensures.names ∙ c.loop-event.invariant.index) in
     IfErr-weaker c.refuse.result _ _
     (λ why fault text read.
     let before = c.loop-event.invariant.led text read in
-    subst (λ (n : ImageNames). IsFaultOf n text why) names (fault text (before.events ++ e ∷ []) (c.in-Some.ensures.some text before.events before.read)))
+    subst (λ (n : ImageNames). IsFaultOf n text why) names (fault text (before.events ++ e ∷ []) (more text before.events before.read)))
     c.refuse.ensures.fault
 
 pub returns-clause-found : goal.returns-clause-found
 returns-clause-found c =
     let begun = config_of c.args.running.now.config in
     let d = config_of c.loop-event.running.config in
+    let none =
+    at_none c.in_ok-event.field-0 ((text : List ℕ) (events : List Event) → HasRead text events c.loop-event.reader → HasRead text events c.next.new.self × IsLog (names_of c.loop-event.reader) text events) c.in_default.is c.in_ok-event.ensures.none in
     let names : names_of c.loop-event.reader ≡ names_of c.args.reader.now = same_names c.args.reader.now c.loop-event.reader c.loop-event.invariant.index in
     IfOk-weaker c.judge_end.result _ _
     (λ found finds text read.
     let before = c.loop-event.invariant.led text read in
-    let last = c.in-None.ensures.none text before.events before.read in
+    let last = none text before.events before.read in
     let at_end = last.0 in
     let allowed : Allowed (program_of c.loop-event.running.rules) (script_at c.loop-event.script.script) begun before.events d =
     along (λ (q : Rules) (y : Bor code_script.Script) (k : Config). Allowed (program_of q) (script_at y) begun before.events k) c.args.running.now.rules c.loop-event.running.rules c.args.script.now.script
