@@ -1,9 +1,11 @@
 //! Logs judged.
 
-ghost use Rattle.std.specs.Prelude.{◌<◌, ◌^◌, ℕ, List, IfErr, IfOk};
+ghost use Rattle.std.specs.Prelude.{◌<◌, ◌^◌, ℕ, List, [], IfErr, IfOk};
 ghost use Rattle.command_answers.specs.Contents.{IsContent};
+ghost use Rattle.command_due.specs.Source.{IsWritten};
 ghost use Rattle.event_log.specs.Finding.{AreFound};
 ghost use Rattle.event_log.specs.Logs.{longest_text};
+ghost use Rattle.event_log.specs.Reader.{HasRead, IsReader, names_of};
 ghost use Rattle.replay.specs.Held.{IsSource};
 ghost use Rattle.replay.specs.Judging.{IsFaultOf, IsFoundOf};
 ghost use Rattle.script.specs.Meaning.{said};
@@ -25,6 +27,27 @@ pub struct JudgedLog {
     pub count: u32,
 }
 
+/// What is found of the log of which no line is read yet, by a program that has no fault.
+fn finding_on(
+    alloc: Global,
+    source: &Source<'_>,
+    script: &Script,
+    reader: &mut LogReader<'_>,
+) -> Result<Finding, LogFault>
+    ghost text: { List ℕ }
+    requires written { IsWritten text (placed source.now.program) }
+    requires end { script.now.end < 2 ^ 61 }
+    requires reader { IsReader reader.old }
+    ensures found { IfOk result (λ found. (log : List ℕ) → HasRead log [] reader.old →
+        IsFoundOf (plain (placed source.now.program)) (said script.now.lines script.now.end)
+        (start (plain (placed source.now.program))) (names_of reader.old) log found
+        reader.new.lines) }
+    ensures fault { IfErr result (λ why. (log : List ℕ) → HasRead log [] reader.old →
+        IsFaultOf (names_of reader.old) log why) }
+{
+    replay(alloc, &source.program, script, reader)
+}
+
 /// What is found of the log that a text is, by a program that has no fault, whose names have these
 /// numbers.
 fn judge_lines(
@@ -43,7 +66,7 @@ fn judge_lines(
     ensures fault { IfErr result (IsFaultOf index.now.names.now text.now) }
 {
     let mut reader = LogReader::new(index, text)?;
-    let finding = replay(alloc, &source.program, script, &mut reader)?;
+    let finding = finding_on(alloc, source, script, &mut reader)?;
     Ok(JudgedLog {
         finding,
         count: reader.lines(),
