@@ -1,7 +1,7 @@
 use Rattle.std.proofs.Common.{◌≡◌, ◌<◌, ℕ, [], length}
 use Rattle.std.specs.Prelude.{slice_get, unwrap_or}
 use Rattle.event_log.specs.Line.{condition_name}
-use Rattle.event_log.proofs.numbers.qualified_names.Given as goal
+use Rattle.event_log.proofs.numbers.condition_names.Given as goal
 
 abbrev pub invariant-loop-condition : goal.invariant-loop-condition
 invariant-loop-condition l = record {
