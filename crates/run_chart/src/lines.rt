@@ -2,7 +2,6 @@
 
 ghost use Rattle.std.specs.Prelude.{◌≡◌, ◌<◌, ◌≤◌, ◌*◌, ◌++◌, [], ◌∷◌, IfOk, OnOk, codes, cond, decimal, fold, length, map, max, nat_eq, slice_get, unwrap_or};
 ghost use Rattle.std.specs.List.{flat_map};
-ghost use Rattle.image.specs.Raw.{image_of, named_of};
 ghost use Rattle.machine_semantics.specs.Image.{Script as Lines};
 ghost use Rattle.run_chart.specs.Chart.{by_rank, chart_in, declared_rank_of, filled, line, of_rank, process_of_run, scale, summary};
 ghost use Rattle.run_chart.specs.Spans.{first_tick};
@@ -12,7 +11,7 @@ ghost use Rattle.run_chart.specs.Traces.{AreDrawn};
 
 use crate::put::{put_blanks, put_filled, put_number, put_summary};
 use crate::{Columns, Trace, first_tick};
-use image::RawImage;
+use image_bytes::ImageBytes;
 use std::alloc::{AllocError, Global};
 use syntax_tree::{Name, Text};
 
@@ -116,42 +115,42 @@ fn put_trace(
 fn put_process(
     text: &mut Text,
     lengths: Lengths,
-    image: &RawImage,
+    image: &ImageBytes,
     columns: &Columns,
     traces: &[Trace],
-    number: usize,
+    number: u16,
 ) -> Result<(), AllocError>
     ghost script: { Lines }
     requires lengths { AreLengths image.now.names columns.now lengths }
-    requires drawn { AreDrawn (image_of image.now) script columns.now traces.now }
-    requires number { number < length image.now.processes }
+    requires drawn { AreDrawn image.now.image script columns.now traces.now }
+    requires number { number < length image.now.image.processes }
     ensures { OnOk result (text.new ≡ text.old ++
-        process_of_run (named_of image.now) script columns.now number) }
+        process_of_run image.now script columns.now number) }
 {
-    let name = name_of(image.names.processes.as_slice(), number);
-    let bound = image.processes.as_slice()[number].bound;
-    put_trace(text, lengths, name, &traces[number], bound)
+    let at = usize::from(number);
+    let name = name_of(image.names().processes.as_slice(), at);
+    put_trace(text, lengths, name, &traces[at], image.process(number).bound)
 }
 
 /// Puts the line of a process if it has the rank.
 fn put_if(
     text: &mut Text,
     lengths: Lengths,
-    image: &RawImage,
+    image: &ImageBytes,
     columns: &Columns,
     traces: &[Trace],
     rank: usize,
-    number: usize,
+    number: u16,
 ) -> Result<(), AllocError>
     ghost script: { Lines }
     requires lengths { AreLengths image.now.names columns.now lengths }
-    requires drawn { AreDrawn (image_of image.now) script columns.now traces.now }
-    requires number { number < length image.now.processes }
+    requires drawn { AreDrawn image.now.image script columns.now traces.now }
+    requires number { number < length image.now.image.processes }
     ensures { OnOk result (text.new ≡ text.old ++
-        flat_map (process_of_run (named_of image.now) script columns.now)
-        (cond (nat_eq (declared_rank_of (image_of image.now) number) rank) (number ∷ []) [])) }
+        flat_map (process_of_run image.now script columns.now)
+        (cond (nat_eq (declared_rank_of image.now.image number) rank) (number ∷ []) [])) }
 {
-    if image.processes.as_slice()[number].rank as usize != rank {
+    if usize::from(image.process(number).rank) != rank {
         return Ok(());
     }
     put_process(text, lengths, image, columns, traces, number)
@@ -161,19 +160,19 @@ fn put_if(
 fn put_rank(
     text: &mut Text,
     lengths: Lengths,
-    image: &RawImage,
+    image: &ImageBytes,
     columns: &Columns,
     traces: &[Trace],
     rank: usize,
 ) -> Result<(), AllocError>
     ghost script: { Lines }
     requires lengths { AreLengths image.now.names columns.now lengths }
-    requires drawn { AreDrawn (image_of image.now) script columns.now traces.now }
+    requires drawn { AreDrawn image.now.image script columns.now traces.now }
     ensures { OnOk result (text.new ≡ text.old ++
-        flat_map (process_of_run (named_of image.now) script columns.now)
-        (of_rank (image_of image.now) rank)) }
+        flat_map (process_of_run image.now script columns.now)
+        (of_rank image.now.image rank)) }
 {
-    for number in 0..image.processes.len() {
+    for number in 0..image.processes() {
         put_if(text, lengths, image, columns, traces, rank, number)?;
     }
     Ok(())
@@ -183,19 +182,19 @@ fn put_rank(
 fn put_ranks(
     text: &mut Text,
     lengths: Lengths,
-    image: &RawImage,
+    image: &ImageBytes,
     columns: &Columns,
     traces: &[Trace],
 ) -> Result<(), AllocError>
     ghost script: { Lines }
     requires lengths { AreLengths image.now.names columns.now lengths }
-    requires drawn { AreDrawn (image_of image.now) script columns.now traces.now }
-    requires few { length image.now.processes ≤ 64 }
+    requires drawn { AreDrawn image.now.image script columns.now traces.now }
+    requires few { length image.now.image.processes ≤ 64 }
     ensures { OnOk result (text.new ≡ text.old ++
-        flat_map (process_of_run (named_of image.now) script columns.now)
-        (by_rank (image_of image.now))) }
+        flat_map (process_of_run image.now script columns.now)
+        (by_rank image.now.image)) }
 {
-    for rank in 1..image.processes.len() + 1 {
+    for rank in 1..usize::from(image.processes()) + 1 {
         put_rank(text, lengths, image, columns, traces, rank)?;
     }
     Ok(())
@@ -205,19 +204,19 @@ fn put_ranks(
 /// that memory is short.
 pub fn text_of(
     alloc: Global,
-    image: &RawImage,
+    image: &ImageBytes,
     columns: &Columns,
     traces: &[Trace],
 ) -> Result<Text, AllocError>
     ghost script: { Lines }
     requires columns { AreFew columns.now }
-    requires drawn { AreDrawn (image_of image.now) script columns.now traces.now }
-    requires few { length image.now.processes ≤ 64 }
-    ensures { IfOk result (λ text. text ≡ chart_in (named_of image.now) script columns.now) }
+    requires drawn { AreDrawn image.now.image script columns.now traces.now }
+    requires few { length image.now.image.processes ≤ 64 }
+    ensures { IfOk result (λ text. text ≡ chart_in image.now script columns.now) }
 {
     let scale = scale(alloc, columns)?;
     let lengths = Lengths {
-        labels: label_len(image.names.processes.as_slice()),
+        labels: label_len(image.names().processes.as_slice()),
         texts: columns.count.max(scale.as_bytes().len()),
     };
     let mut text = Text::new(alloc);

@@ -1,6 +1,5 @@
 use Rattle.std.proofs.Common.{◌≡◌, ◌-◌, ◌++◌}
 use Rattle.std.specs.List.{flat_map, range_with_len}
-use Rattle.image.specs.Raw.{image_of, named_of}
 use Rattle.run_chart.specs.Chart.{of_rank, process_of_run}
 use Rattle.run_chart.proofs.lines.put_ranks.Given as goal
 
@@ -8,4 +7,4 @@ abbrev pub ghost-put_rank : goal.ghost-put_rank
 ghost-put_rank g a = g.script
 
 abbrev pub invariant-loop-rank : goal.invariant-loop-rank
-invariant-loop-rank g l = l.text ≡ l.initial.text ++ flat_map (process_of_run (named_of l.image) g.script l.columns) (flat_map (of_rank (image_of l.image)) (range_with_len 1 (l.rank - 1)))
+invariant-loop-rank g l = l.text ≡ l.initial.text ++ flat_map (process_of_run l.image g.script l.columns) (flat_map (of_rank l.image.image) (range_with_len 1 (l.rank - 1)))
