@@ -10,8 +10,8 @@ use Rattle.valid_image_law.proofs.Ranking.{ranked, one_each}
 use Rattle.sched_demand.specs.declared.tasks.DemandTask.{DemandTask}
 use Rattle.sched_demand.specs.Demand.{task_at, AreTasks, IsTask}
 use Rattle.command_due.specs.Tasks.{AreDemands}
-use Rattle.image_loaded.specs.Steps.{AreAsked, IsAsked, IsLastBlock}
-use Rattle.image_loaded.proofs.Ranks.{in_order}
+use Rattle.edf_admission.specs.Steps.{AreAsked, IsAsked, IsLastBlock}
+use Rattle.edf_admission.proofs.Ranks.{in_order}
 
 abbrev pub no_demand : DemandTask
 no_demand = record { frame = 0; deadline = 0; cost = 0; block = 0 }

@@ -17,9 +17,9 @@ use Rattle.edf_semantics.specs.Safe.{IsWaitless}
 use Rattle.edf_semantics.proofs.Keeping.{every_run_is_safe, run_keeps_words}
 use Rattle.edf_semantics.specs.InTime.{IsJudgedFeasible, MeetsDeadlines}
 use Rattle.edf_semantics.proofs.Meeting.{every_run_meets_deadlines}
-use Rattle.image_loaded.specs.Admitted.{IsAdmitted}
-use Rattle.image_loaded.specs.Runs.{EveryAdmittedShapeMeetsDeadlines, IsEdfSafe}
-use Rattle.image_loaded.proofs.Premises.{are_demands, fits, is_waitless}
+use Rattle.edf_admission.specs.Admitted.{IsAdmitted}
+use Rattle.edf_admission.specs.Runs.{EveryAdmittedShapeMeetsDeadlines, IsEdfSafe}
+use Rattle.edf_admission.proofs.Premises.{are_demands, fits, is_waitless}
 
 judged_once : (ts : List DemandTask) (reach count : ℕ) → IsReach ts reach → IsJudged ts reach (verdict.Feasible count) → IsJudgedFeasible ts count
 judged_once ts reach count is judged other is_other = subst (λ (r : ℕ). IsJudged ts r (verdict.Feasible count)) (one_reach ts reach other is is_other) judged

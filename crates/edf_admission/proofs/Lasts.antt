@@ -4,7 +4,7 @@ use Rattle.std.specs.Prelude.{slice_get}
 use Rattle.std.proofs.lemmas.Bool.{cases_lt}
 use Rattle.std.proofs.lemmas.Option.{slice_get_within}
 use Rattle.machine_semantics.specs.Image.{Image, Process}
-use Rattle.image_loaded.specs.Steps.{IsLastBlock, IsLastSoFar}
+use Rattle.edf_admission.specs.Steps.{IsLastBlock, IsLastSoFar}
 
 -- at the start it is the process itself
 pub first_last : (m : Image) (k : ℕ) (p : Process) → slice_get m.processes k ≡ Some p → IsLastSoFar m p.deadline 0 p.rank p.block

@@ -15,12 +15,12 @@ use Rattle.sched_demand.specs.declared.judging.Judgement.TheVariants as verdict
 use Rattle.sched_demand.specs.Demand.{task_at, demand_at, IsJudged, IsReach}
 use Rattle.sched_demand.proofs.Rising.{one_reach}
 use Rattle.command_due.specs.Tasks.{AreDemands, IsAnswer}
-use Rattle.image_loaded.specs.EdfAdmit.{AdmittedShapesAreNotRefused, EachShapeHasOneAnswer}
-use Rattle.image_loaded.specs.Steps.{IsLastBlock, IsLastSoFar}
-use Rattle.image_loaded.specs.declared.edf_fault.EdfFault.TheVariants as fault
-use Rattle.image_loaded.proofs.Lasts.{first_last, last_is, next_is_last, next_is_not}
-use Rattle.image_loaded.proofs.Ranks.{each_rank_is_had}
-use Rattle.image_loaded.proofs.Asked.{no_demand}
+use Rattle.edf_admission.specs.EdfAdmit.{AdmittedShapesAreNotRefused, EachShapeHasOneAnswer}
+use Rattle.edf_admission.specs.Steps.{IsLastBlock, IsLastSoFar}
+use Rattle.edf_admission.specs.declared.edf_fault.EdfFault.TheVariants as fault
+use Rattle.edf_admission.proofs.Lasts.{first_last, last_is, next_is_last, next_is_not}
+use Rattle.edf_admission.proofs.Ranks.{each_rank_is_had}
+use Rattle.edf_admission.proofs.Asked.{no_demand}
 
 -- ---- each deadline has a last process
 

@@ -25,16 +25,16 @@ use Rattle.script.specs.Scripts.{IsScript}
 use Rattle.vm_law.specs.ScriptSuits.{ScriptsForImagesReadSuit, script_with}
 use Rattle.vm_law.specs.Suits.{Suits}
 use Rattle.image_loaded.specs.Shape.{AreOf, IsShape}
+use Rattle.image_reader.specs.Answer.{Holds}
 use Rattle.vm_state.specs.Plan.{HasNumbers}
 use Rattle.valid_image_law.proofs.Parts.{no_part, where_in}
 use Rattle.valid_image_law.proofs.Passing.{params_fit}
 use Rattle.valid_image_law.proofs.Processes.{parts_in}
 use Rattle.image_reader_law.proofs.Limits.{read_monitors}
 use Rattle.loader.proofs.Order.{HasNoFaultBefore, none_before}
-use Rattle.image_loaded.specs.Admitted.{IsAdmitted}
-use Rattle.image_loaded.proofs.Premises.{fits}
-use Rattle.image_loaded.specs.Ready.{CanBeRun}
-use Rattle.image_loaded.proofs.Held.{holds}
+use Rattle.edf_admission.specs.Admitted.{IsAdmitted}
+use Rattle.edf_admission.proofs.Premises.{fits}
+use Rattle.edf_admission.specs.Ready.{CanBeRun}
 use Rattle.vm_plan.proofs.Planned.{handler_ends, small, limit_is}
 
 -- ---- numbers
@@ -55,9 +55,9 @@ module _ (image : Image) (monitors : length image.monitors ≤ 64) (conditions :
 
 -- ---- an image that is read
 
-module _ (bytes : List ℕ) (raw : RawImage) (are : AreOf bytes (named_of raw)) (is : IsShape (named_of raw)) (admitted : IsAdmitted (image_of raw)) where
+module _ (bytes : List ℕ) (raw : RawImage) (held : Holds bytes raw) (is : IsShape (named_of raw)) (admitted : IsAdmitted (image_of raw)) where
   named : IsNamed raw
-  named = read_names bytes raw (holds bytes raw are)
+  named = read_names bytes raw held
 
   none : HasNoFaultBefore (image_of raw)
   none = none_before (image_of raw) is.valid
@@ -81,7 +81,7 @@ module _ (bytes : List ℕ) (raw : RawImage) (are : AreOf bytes (named_of raw)) 
 
   has_plan : HasPlan (image_of raw)
   has_plan =
-      let monitors : length (image_of raw).monitors ≤ 64 = omega (arith, read_monitors bytes raw (holds bytes raw are), length-map raw.monitors monitor_of) in
+      let monitors : length (image_of raw).monitors ≤ 64 = omega (arith, read_monitors bytes raw held, length-map raw.monitors monitor_of) in
       let conditions : length (image_of raw).conditions ≤ 256 = omega (arith, named.conditions, length-map raw.names.conditions (λ (c : ConditionName). c.mon)) in
       let devices : length (image_of raw).devices ≤ 64 = omega (arith, named.devices, length-map raw.names.devices (λ (d : DeviceName). d.out)) in
       record {
@@ -105,11 +105,11 @@ module _ (bytes : List ℕ) (raw : RawImage) (are : AreOf bytes (named_of raw)) 
   can_be_run = record { plan = has_plan; names = has_names }
 
 -- the same of the image that is seen
-pub read_can_be_run : (bytes : List ℕ) (raw : RawImage) (n : NamedImage) → named_of raw ≡ n → AreOf bytes n → IsShape n → IsAdmitted n.image → CanBeRun n
-read_can_be_run bytes raw n same = subst (λ (x : NamedImage). AreOf bytes x → IsShape x → IsAdmitted x.image → CanBeRun x) same (λ are is admitted. can_be_run bytes raw are is admitted)
+pub read_can_be_run : (bytes : List ℕ) (n : NamedImage) → AreOf bytes n → IsShape n → IsAdmitted n.image → CanBeRun n
+read_can_be_run bytes n are =
+    subst (λ (x : NamedImage). IsShape x → IsAdmitted x.image → CanBeRun x) (sym are.image) (λ is admitted. can_be_run bytes are.raw are.held is admitted)
 
-pub read_scripts_suit : ScriptsForImagesReadSuit → (bytes : List ℕ) (raw : RawImage) (n : NamedImage) → named_of raw ≡ n → (text : List ℕ) (lines : List ScriptLine) (last : ℕ) → AreOf bytes n
+pub read_scripts_suit : ScriptsForImagesReadSuit → (bytes : List ℕ) (n : NamedImage) (text : List ℕ) (lines : List ScriptLine) (last : ℕ) → AreOf bytes n
     → IsScript n.names text lines last → Suits n.image (script_with lines last)
-read_scripts_suit law bytes raw n same text lines last =
-    subst (λ (x : NamedImage). AreOf bytes x → IsScript x.names text lines last → Suits x.image (script_with lines last)) same
-    (λ are script. law bytes raw text lines last (holds bytes raw are) script)
+read_scripts_suit law bytes n text lines last are =
+    subst (λ (x : NamedImage). IsScript x.names text lines last → Suits x.image (script_with lines last)) (sym are.image) (λ script. law bytes are.raw text lines last are.held script)

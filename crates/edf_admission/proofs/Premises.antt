@@ -27,10 +27,10 @@ use Rattle.sched_demand.specs.Demand.{task_at, AreTasks}
 use Rattle.edf_semantics.specs.Safe.{IsWaitless, rank_of_some}
 use Rattle.edf_semantics.specs.InTime as timed
 use Rattle.command_due.specs.Tasks.{AreDemands}
-use Rattle.image_loaded.specs.Admitted.{HasNoWait}
-use Rattle.image_loaded.proofs.Once.{last_there}
-use Rattle.image_loaded.proofs.Ranks.{each_rank_is_had, in_order}
-use Rattle.image_loaded.proofs.Still.{body_still}
+use Rattle.edf_admission.specs.Admitted.{HasNoWait}
+use Rattle.edf_admission.proofs.Once.{last_there}
+use Rattle.edf_admission.proofs.Ranks.{each_rank_is_had, in_order}
+use Rattle.edf_admission.proofs.Still.{body_still}
 use Rattle.valid_image_law.proofs.Timing.{search}
 
 -- ---- the search for a rank

@@ -14,7 +14,7 @@ use Rattle.valid_image.specs.Times.{deadline_of, deadline_at, process_outranks, 
 use Rattle.valid_image_law.proofs.Firsts.{neither, none_of_all}
 use Rattle.valid_image_law.proofs.Rows.{is_due}
 use Rattle.valid_image_law.proofs.Ranking.{ranked, one_each}
-use Rattle.image_loaded.specs.Steps.{EachRankIsHad, SomeHasRank}
+use Rattle.edf_admission.specs.Steps.{EachRankIsHad, SomeHasRank}
 
 abbrev rank_some : Option Process → ℕ
 rank_some None = 0

@@ -18,7 +18,7 @@ use Rattle.valid_image_law.proofs.Firsts.{table_length}
 use Rattle.valid_image_law.proofs.Rows.{alike, exact, exact_of, exact_routine}
 use Rattle.valid_image_law.proofs.Shapes.{process_shaped}
 use Rattle.valid_image_law.proofs.Processes.{exact_body}
-use Rattle.image_loaded.specs.Admitted.{HasNoWait}
+use Rattle.edf_admission.specs.Admitted.{HasNoWait}
 use Rattle.valid_image_law.proofs.Quiet.{times_none}
 
 abbrev IsStill : Found → Type 0

@@ -4,10 +4,10 @@ use Rattle.image.specs.Named.{NamedImage}
 use Rattle.image_loaded.specs.Shape.{IsShape}
 use Rattle.sched_demand.specs.declared.judging.Judgement.{Judgement}
 use Rattle.command_due.specs.Tasks.{IsAnswer}
-use Rattle.image_loaded.specs.Admitted.{IsAdmitted}
-use Rattle.image_loaded.specs.EdfAnswers.{Admits}
-use Rattle.image_loaded.specs.declared.edf_fault.EdfFault.{EdfFault}
-use Rattle.image_loaded.specs.declared.edf_fault.EdfFault.TheVariants as fault
+use Rattle.edf_admission.specs.Admitted.{IsAdmitted}
+use Rattle.edf_admission.specs.EdfAnswers.{Admits}
+use Rattle.edf_admission.specs.declared.edf_fault.EdfFault.{EdfFault}
+use Rattle.edf_admission.specs.declared.edf_fault.EdfFault.TheVariants as fault
 
 -- The law: the test of the demand says one thing of a shape, and no other.
 abbrev pub EachShapeHasOneAnswer : Type 0

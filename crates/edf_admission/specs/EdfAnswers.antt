@@ -5,9 +5,9 @@ use Rattle.machine_semantics.specs.Image.{Image}
 use Rattle.sched_demand.specs.declared.judging.Judgement.{Judgement}
 use Rattle.sched_demand.specs.declared.judging.Judgement.TheVariants as verdict
 use Rattle.command_due.specs.Tasks.{IsAnswer}
-use Rattle.image_loaded.specs.Admitted.{HasNoWait, IsAdmitted, IsFirstWait}
-use Rattle.image_loaded.specs.declared.edf_fault.EdfFault.{EdfFault}
-use Rattle.image_loaded.specs.declared.edf_fault.EdfFault.TheVariants as fault
+use Rattle.edf_admission.specs.Admitted.{HasNoWait, IsAdmitted, IsFirstWait}
+use Rattle.edf_admission.specs.declared.edf_fault.EdfFault.{EdfFault}
+use Rattle.edf_admission.specs.declared.edf_fault.EdfFault.TheVariants as fault
 
 -- the image waits nowhere, and this is its overhead, which is not 0
 pub record HasOverhead (m : Image) (over : ℕ) : Type 0 where

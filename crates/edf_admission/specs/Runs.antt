@@ -8,7 +8,7 @@ use Rattle.image.specs.Named.{NamedImage}
 use Rattle.image_loaded.specs.Shape.{IsShape}
 use Rattle.edf_semantics.specs.Run.{tick, state_at}
 use Rattle.edf_semantics.specs.InTime.{MeetsDeadlines}
-use Rattle.image_loaded.specs.Admitted.{IsAdmitted}
+use Rattle.edf_admission.specs.Admitted.{IsAdmitted}
 
 -- a run is safe: no tick is stuck, before each tick every process is within its declared stack and
 -- has the words that it declares, the processes that are inside monitors are apart, and each of

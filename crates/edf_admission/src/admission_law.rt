@@ -1,7 +1,7 @@
 //! The laws.
 
-ghost use Rattle.image_loaded.specs.EdfAdmit.{AdmittedShapesAreNotRefused, EachShapeHasOneAnswer};
-ghost use Rattle.image_loaded.specs.Runs.{EveryAdmittedShapeMeetsDeadlines};
+ghost use Rattle.edf_admission.specs.EdfAdmit.{AdmittedShapesAreNotRefused, EachShapeHasOneAnswer};
+ghost use Rattle.edf_admission.specs.Runs.{EveryAdmittedShapeMeetsDeadlines};
 
 /// The test of the demand says one thing of a shape, and no other.
 pub fn each_shape_has_one_answer()

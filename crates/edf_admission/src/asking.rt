@@ -3,9 +3,9 @@
 ghost use Rattle.std.specs.Prelude.{◌≡◌, ◌<◌, length, slice_get, IfOk};
 ghost use Rattle.sched_demand.specs.Demand.{AreTasks};
 ghost use Rattle.command_due.specs.Tasks.{AreDemands, IsAnswer};
-ghost use Rattle.image_loaded.specs.Steps.{AreAsked, EachRankIsHad, HasRank, IsAsked, IsBlockOfLast, SomeHasRank};
+ghost use Rattle.edf_admission.specs.Steps.{AreAsked, EachRankIsHad, HasRank, IsAsked, IsBlockOfLast, SomeHasRank};
 
-use crate::Shape;
+use image_loaded::Shape;
 use sched_demand::demand::each_set_has_one_reach;
 use sched_demand::{DemandSet, DemandTask, Judgement, judge};
 use std::alloc::{AllocError, Global};

@@ -1,19 +1,20 @@
 //! Admitted images.
 
 ghost use Rattle.std.specs.Prelude.{◌≡◌, ◌≤◌};
-ghost use Rattle.image_loaded.specs.Admitted.{IsAdmitted};
-ghost use Rattle.image_loaded.specs.EdfAnswers.{Admits};
-ghost use Rattle.image_loaded.specs.Runs.{IsEdfSafe};
+ghost use Rattle.edf_admission.specs.Admitted.{IsAdmitted};
+ghost use Rattle.edf_admission.specs.EdfAnswers.{Admits};
+ghost use Rattle.edf_admission.specs.Runs.{IsEdfSafe};
 ghost use Rattle.edf_semantics.specs.InTime.{MeetsDeadlines};
 ghost use Rattle.machine_semantics.specs.Image.{Script};
 ghost use Rattle.image_loaded.specs.Shape.{IsShape};
 ghost use Rattle.sched_timing.specs.Timed.{RespectsFrames};
 
-use crate::Shape;
 use crate::admission_law::every_admitted_shape_meets_deadlines;
 use crate::asking::judge_shape;
 use crate::edf_fault::EdfFault;
 use crate::waiting::first_wait;
+use image_bytes::ImageBytes;
+use image_loaded::Shape;
 use sched_demand::Judgement;
 use std::alloc::Global;
 use std::marker::Model;
@@ -25,7 +26,7 @@ pub struct EdfImage {
 }
 
 impl Model for EdfImage {
-    ghost use Rattle.image_loaded.specs.Admitted.{IsAdmitted};
+    ghost use Rattle.edf_admission.specs.Admitted.{IsAdmitted};
     ghost use Rattle.image.specs.Named.{NamedImage};
     ghost use Rattle.image_loaded.specs.Shape.{IsShape};
     ghost use Rattle.image_format.specs.TreeCode.{coded_segs};
@@ -72,11 +73,24 @@ impl EdfImage {
 
     /// The same image as a shape.
     pub fn shape(&self) -> &Shape
-        ensures same { result.now ≡ self.now }
+        ensures { result.now ≡ self.now }
+    {
+        &self.shape
+    }
+
+    /// It is a shape that is admitted. The call does nothing.
+    pub fn is_admitted(&self)
         ensures shape { IsShape self.now }
         ensures admitted { IsAdmitted self.now.image }
     {
-        &self.shape
+        let _shape = &self.shape;
+    }
+
+    /// The image as it stands in its bytes, which are not copied.
+    pub fn into_image(self) -> ImageBytes
+        ensures { result ≡ self.entry }
+    {
+        self.shape.into_image()
     }
 
     /// Every run of an admitted image under earliest deadline first is safe: no tick is stuck, each

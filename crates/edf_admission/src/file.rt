@@ -6,7 +6,7 @@ ghost use Rattle.script.specs.Scripts.{IsScript};
 ghost use Rattle.vm_law.specs.ScriptSuits.{script_with};
 ghost use Rattle.vm_law.specs.Suits.{Suits};
 ghost use Rattle.image_loaded.specs.Shape.{AreOf};
-ghost use Rattle.image_loaded.specs.Ready.{CanBeRun};
+ghost use Rattle.edf_admission.specs.Ready.{CanBeRun};
 
 use crate::EdfImage;
 use vm_law::suitable_scripts::scripts_suit;
@@ -20,5 +20,5 @@ pub fn images_of_files_can_be_run(image: &EdfImage)
         Suits image.now.image (script_with lines last) }
 {
     scripts_suit();
-    let _shape = image.shape();
+    image.is_admitted();
 }

@@ -1,9 +1,9 @@
 //! The first WAIT instruction.
 
 ghost use Rattle.std.specs.Prelude.{◌≡◌, IfNone, IfSome};
-ghost use Rattle.image_loaded.specs.Admitted.{HasNoWait, IsFirstWait, is_wait as is_wait_instr};
+ghost use Rattle.edf_admission.specs.Admitted.{HasNoWait, IsFirstWait, is_wait as is_wait_instr};
 
-use crate::Shape;
+use image_loaded::Shape;
 use machine_isa::Instr;
 
 /// Whether it is a WAIT.

@@ -1,7 +1,7 @@
 use Rattle.std.proofs.Common.{◌≡◌, ◌∙◌, Some, refl, sym, ap}
 use Rattle.image_bytes.specs.Standing.{process_in}
 use Rattle.machine_semantics.specs.Image.{Process}
-use Rattle.image_loaded.proofs.asking.demand.Goals as goal
+use Rattle.edf_admission.proofs.asking.demand.Goals as goal
 
 pub returns : goal.returns
 returns c =

@@ -3,9 +3,9 @@ use Rattle.sched_demand.specs.declared.tasks.DemandTask.{DemandTask}
 use Rattle.sched_demand.specs.Demand.{AreTasks}
 use Rattle.loader.proofs.Order.{ranks_none}
 use Rattle.command_due.specs.Tasks.{AreDemands}
-use Rattle.image_loaded.proofs.Asked.{are_a_set, are_demands}
-use Rattle.image_loaded.proofs.Ranks.{each_rank_is_had}
-use Rattle.image_loaded.proofs.asking.demands.Goals as goal
+use Rattle.edf_admission.proofs.Asked.{are_a_set, are_demands}
+use Rattle.edf_admission.proofs.Ranks.{each_rank_is_had}
+use Rattle.edf_admission.proofs.asking.demands.Goals as goal
 
 pub tasks-requires : goal.tasks-requires
 tasks-requires c =

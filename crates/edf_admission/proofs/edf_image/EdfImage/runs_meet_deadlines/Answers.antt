@@ -3,8 +3,8 @@ use Rattle.image.specs.Named.{NamedImage}
 use Rattle.machine_semantics.specs.Image.{Script}
 use Rattle.sched_timing.specs.Timed.{RespectsFrames}
 use Rattle.edf_semantics.specs.InTime.{MeetsDeadlines}
-use Rattle.image_loaded.specs.Runs.{IsEdfSafe}
-use Rattle.image_loaded.proofs.edf_image.EdfImage.runs_meet_deadlines.Goals as goal
+use Rattle.edf_admission.specs.Runs.{IsEdfSafe}
+use Rattle.edf_admission.proofs.edf_image.EdfImage.runs_meet_deadlines.Goals as goal
 
 pub returns-clause-safe : goal.returns-clause-safe
 returns-clause-safe c =
