@@ -9,8 +9,9 @@ ghost use Rattle.vm_runner.specs.Runnable.{IsRunnable};
 ghost use Rattle.vm_state.specs.Plan.{IsOf};
 
 use crate::course::Course;
+use crate::lines::text_of;
 use image_bytes::ImageBytes;
-use run_chart::{Columns, columns_of, text_of};
+use run_chart::{Columns, columns_of};
 use script::Script;
 use std::alloc::{AllocError, Global};
 use syntax_tree::Text;

@@ -19,14 +19,13 @@ new-requires g c =
     (c.requires.1.1.0, subst (λ (x : Image). IsRunnable x (script_of c.args.script.now)) (sym c.requires.0) (is_runnable c.args.image.now c.args.script.now c.requires.1.1.1))
 
 pub run-requires : goal.run-requires
-run-requires g c =
-    (
-      c.requires.1.1.0,
-      (
-        subst (λ (x : Image). IsRunnable x (script_of c.args.script.now)) (sym c.requires.0) (is_runnable c.args.image.now c.args.script.now c.requires.1.1.1),
-        (c.in_ok-course.ensures.follows, c.in_ok-course.ensures.start),
-      ),
-    )
+run-requires g c = (
+  c.requires.1.1.0,
+  (
+    subst (λ (x : Image). IsRunnable x (script_of c.args.script.now)) (sym c.requires.0) (is_runnable c.args.image.now c.args.script.now c.requires.1.1.1),
+    (c.in_ok-course.ensures.follows, c.in_ok-course.ensures.start),
+  ),
+)
 
 pub tell-requires : goal.tell-requires
 tell-requires g c =

@@ -6,12 +6,12 @@ ghost use Rattle.machine_semantics.specs.Image.{Script as Lines};
 ghost use Rattle.run_chart.specs.Chart.{by_rank, chart_in, declared_rank_of, filled, line, of_rank, process_of_run, scale, summary};
 ghost use Rattle.run_chart.specs.Spans.{first_tick};
 ghost use Rattle.run_chart.specs.Columns.{AreFew};
-ghost use Rattle.run_chart.specs.Lengths.{AreLengths};
+ghost use Rattle.vm_chart.specs.Lengths.{AreLengths};
 ghost use Rattle.run_chart.specs.Traces.{AreDrawn};
 
 use crate::put::{put_blanks, put_filled, put_number, put_summary};
-use crate::{Columns, Trace, first_tick};
 use image_bytes::ImageBytes;
+use run_chart::{Columns, Trace, first_tick};
 use std::alloc::{AllocError, Global};
 use syntax_tree::{Name, Text};
 
@@ -129,7 +129,13 @@ fn put_process(
 {
     let at = usize::from(number);
     let name = name_of(image.names().processes.as_slice(), at);
-    put_trace(text, lengths, name, &traces[at], image.process(number).bound)
+    put_trace(
+        text,
+        lengths,
+        name,
+        &traces[at],
+        image.process(number).bound,
+    )
 }
 
 /// Puts the line of a process if it has the rank.
@@ -202,7 +208,7 @@ fn put_ranks(
 
 /// The chart of the processes of an image in these columns, all of which are drawn. An error says
 /// that memory is short.
-pub fn text_of(
+pub(crate) fn text_of(
     alloc: Global,
     image: &ImageBytes,
     columns: &Columns,

@@ -2,7 +2,7 @@
 use Rattle.std.specs.Prelude.{◌≡◌}
 use Rattle.image.specs.declared.names.ImageNames.{ImageNames}
 use Rattle.run_chart.specs.declared.columns.Columns.{Columns}
-use Rattle.run_chart.specs.declared.lines.Lengths.{Lengths}
+use Rattle.vm_chart.specs.declared.lines.Lengths.{Lengths}
 use Rattle.run_chart.specs.Chart.{label_len, text_len}
 
 pub record AreLengths (names : ImageNames) (columns : Columns) (lengths : Lengths) : Type 0 where

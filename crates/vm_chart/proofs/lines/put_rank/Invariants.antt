@@ -2,7 +2,7 @@ use Rattle.std.proofs.Common.{◌≡◌, ◌++◌}
 use Rattle.std.specs.Prelude.{filter, nat_eq}
 use Rattle.std.specs.List.{flat_map, range_with_len}
 use Rattle.run_chart.specs.Chart.{process_of_run, declared_rank_of}
-use Rattle.run_chart.proofs.lines.put_rank.Given as goal
+use Rattle.vm_chart.proofs.lines.put_rank.Given as goal
 
 abbrev pub ghost-put_if : goal.ghost-put_if
 ghost-put_if g a = g.script

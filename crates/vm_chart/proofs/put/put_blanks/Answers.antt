@@ -1,7 +1,7 @@
 use Rattle.std.proofs.Common.{◌++◌, ◌∷◌, [], ℕ, List, ap, ◌∙◌, append_assoc}
 use Rattle.std.specs.Prelude.{replicate}
 use Rattle.std.proofs.lemmas.List.{replicate_more}
-use Rattle.run_chart.proofs.put.put_blanks.Goals as goal
+use Rattle.vm_chart.proofs.put.put_blanks.Goals as goal
 
 pub loop-blank-preserved : goal.loop-blank-preserved
 loop-blank-preserved c =

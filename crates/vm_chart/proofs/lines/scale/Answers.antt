@@ -2,8 +2,8 @@ use Rattle.std.proofs.Common.{◌*◌, ◌++◌, List, ℕ, ap, sym, ◌∙◌}
 use Rattle.std.specs.Prelude.{decimal}
 use Rattle.run_chart.specs.Chart.{filled}
 use Rattle.run_chart.specs.Spans.{first_tick}
-use Rattle.run_chart.proofs.Ranges.{marks_more}
-use Rattle.run_chart.proofs.lines.scale.Goals as goal
+use Rattle.vm_chart.proofs.Ranges.{marks_more}
+use Rattle.vm_chart.proofs.lines.scale.Goals as goal
 
 pub loop-mark-preserved : goal.loop-mark-preserved
 loop-mark-preserved c =

@@ -1,8 +1,8 @@
 use Rattle.std.proofs.Common.{◌≡◌, ◌+◌, ◌-◌, ◌++◌, List, ℕ, arith, ap, ◌∙◌}
 use Rattle.std.specs.List.{flat_map, range_with_len}
 use Rattle.run_chart.specs.Chart.{of_rank, process_of_run}
-use Rattle.run_chart.proofs.Ranges.{rank_more}
-use Rattle.run_chart.proofs.lines.put_ranks.Goals as goal
+use Rattle.vm_chart.proofs.Ranges.{rank_more}
+use Rattle.vm_chart.proofs.lines.put_ranks.Goals as goal
 
 pub loop-rank-preserved : goal.loop-rank-preserved
 loop-rank-preserved g c =

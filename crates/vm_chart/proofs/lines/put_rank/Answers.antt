@@ -1,7 +1,7 @@
 use Rattle.std.specs.Prelude.{nat_eq}
 use Rattle.run_chart.specs.Chart.{process_of_run, declared_rank_of}
-use Rattle.run_chart.proofs.Ranges.{line_more}
-use Rattle.run_chart.proofs.lines.put_rank.Goals as goal
+use Rattle.vm_chart.proofs.Ranges.{line_more}
+use Rattle.vm_chart.proofs.lines.put_rank.Goals as goal
 
 pub loop-number-preserved : goal.loop-number-preserved
 loop-number-preserved g c =

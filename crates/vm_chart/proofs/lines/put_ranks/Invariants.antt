@@ -1,7 +1,7 @@
 use Rattle.std.proofs.Common.{◌≡◌, ◌-◌, ◌++◌}
 use Rattle.std.specs.List.{flat_map, range_with_len}
 use Rattle.run_chart.specs.Chart.{of_rank, process_of_run}
-use Rattle.run_chart.proofs.lines.put_ranks.Given as goal
+use Rattle.vm_chart.proofs.lines.put_ranks.Given as goal
 
 abbrev pub ghost-put_rank : goal.ghost-put_rank
 ghost-put_rank g a = g.script
