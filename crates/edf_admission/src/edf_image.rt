@@ -88,7 +88,7 @@ impl EdfImage {
 
     /// The image as it stands in its bytes, which are not copied.
     pub fn into_image(self) -> ImageBytes
-        ensures { result ≡ self.entry }
+        ensures { result ≡ self }
     {
         self.shape.into_image()
     }

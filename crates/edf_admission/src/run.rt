@@ -18,10 +18,10 @@ impl EdfImage {
     /// Both conditions are met where the image is one that a file holds, and the script is one that
     /// `read_script` gives for its names (`images_of_files_can_be_run`).
     pub fn over(self, script: Script) -> PreparedRun
-        requires image { CanBeRun self.entry }
+        requires image { CanBeRun self }
         // its lines are in order, it respects the frames, and it ends by tick 1,000,000,000
-        requires script { Suits self.entry.image (script_of script) }
-        ensures run { result ≡ by_deadlines self.entry script }
+        requires script { Suits self.image (script_of script) }
+        ensures run { result ≡ by_deadlines self script }
         ensures can { CanRun result }
     {
         self.runs_meet_deadlines();

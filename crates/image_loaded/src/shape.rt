@@ -97,7 +97,7 @@ impl Shape {
 
     /// The image as it stands in its bytes, which are not copied.
     pub fn into_image(self) -> ImageBytes
-        ensures { result ≡ self.entry }
+        ensures { result ≡ self }
     {
         self.image
     }
