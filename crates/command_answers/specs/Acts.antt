@@ -71,12 +71,12 @@ abbrev pub by_deadlines : NamedImage → Script → PreparedRun
 by_deadlines n script = record { image = by.Deadlines n; script = script }
 
 -- the machine can run the image over the script
-pub record CanRunByRanks (n : NamedImage) (script : Script) : Type 0 where
+pub record CanRunByRanks (n : NamedImage) (s : Script) : Type 0 where
   pub limits : HasLimits n.image
   pub valid : IsValid n.image
   pub plan : HasPlan n.image
   pub names : AreNamesOf n.names n.image
-  pub script : Suits n.image (script_of script)
+  pub script : Suits n.image (script_of s)
 
 -- under earliest deadline first: the run is one that the machine takes, and each of its events has
 -- a line
