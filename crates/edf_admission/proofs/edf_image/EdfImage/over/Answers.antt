@@ -1,12 +1,9 @@
-use Rattle.std.proofs.Common.{ap, subst, sym}
-use Rattle.command_answers.specs.Acts.{CanRunByDeadlines, by_deadlines}
+use Rattle.std.proofs.Common.{subst, sym}
+use Rattle.command_answers.specs.Acts.{CanRunByDeadlines}
 use Rattle.image.specs.Named.{NamedImage}
 use Rattle.vm_releases.specs.Begin.{script_of}
 use Rattle.edf_admission.proofs.AdmittedRunRuns.{can_run}
-use Rattle.edf_admission.proofs.run.EdfImage.over.Goals as goal
-
-pub returns-clause-run : goal.returns-clause-run
-returns-clause-run c = ap (λ (n : NamedImage). by_deadlines n c.args.script) c.into_image.ensures
+use Rattle.edf_admission.proofs.edf_image.EdfImage.over.Goals as goal
 
 pub returns-clause-can : goal.returns-clause-can
 returns-clause-can c =
