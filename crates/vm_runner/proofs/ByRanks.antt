@@ -112,7 +112,7 @@ module _ (image : Image) (script : Script) where
         ready = subst (λ (m : ℕ). slice_get s.threads m ≡ Some (Ready f.job)) same f.ready;
       }
 
-  is_picked : (t budget k : ℕ) (first : Own) → IsChosen (by_ranks image script) t budget k first → IsPicked image script t budget k first
+  abbrev is_picked : (t budget k : ℕ) (first : Own) → IsChosen (by_ranks image script) t budget k first → IsPicked image script t budget k first
   is_picked t budget k first is = record { p = is.p; process = is.process; picked = is.chosen; ready = is.ready; owned = is.owned; shared = is.shared; quiet = is.quiet }
 
   turns : IsSafeRun image script → (t n : ℕ) → IsTurn (by_ranks image script) t n → ComeTo (by_ranks image script) t n (course.turn (by_ranks image script) t n)
