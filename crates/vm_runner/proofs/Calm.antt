@@ -17,7 +17,7 @@ use Rattle.vm_runner.specs.Turn.{HasPassed}
 
 -- the start events of its tick change nothing, and its slots are right after them
 pub record IsCalm {D : Type 0} (c : Course) (m : Machine D) : Type 0 where
-  pub begun : state_of m.board ≡ begun c m.tick
+  pub state : state_of m.board ≡ begun c m.tick
   pub still : begun c m.tick ≡ c.state m.tick
   pub none : started c m.tick ≡ []
   pub slots : HasSlots c.image c.script m.tick m.agenda.done (state_of m.board) m.agenda.slots
@@ -31,7 +31,7 @@ is_calm behaviour Knows image script phase m stands calm =
     let all : Rests image script t m.agenda.done s m.agenda.slots = rests image script t m.agenda.done s m.agenda.slots stands.due stands.done later in
     let starts_so : s ≡ begun (course behaviour image script) t = sym (ap (λ (a : Started). a.state) all.starts) ∙ ap (λ (x : State). (starts image script t x).state) stands.state in
     record {
-      begun = starts_so;
+      state = starts_so;
       still = sym starts_so ∙ stands.state;
       none = ap (λ (x : State). (starts image script t x).events) (sym stands.state) ∙ ap (λ (a : Started). a.events) all.starts;
       slots = all.next;

@@ -52,7 +52,7 @@ returns-in_default-clause-stands g c =
     record { plans = record { plan = c.requires.1.0; sees = record { board = stands.board; state = stands.state; knows = stands.knows } }; calm = calm.still } in
     let none : c.first.result ≡ None = cc in
     let quiet = slots_are_quiet image script m.tick n m.agenda.done s m.agenda.slots calm.slots span.clear in
-    let passed = idle_passes (course g.D.Dispatch.behaviour image script) goes m.tick n s m.fired.items calm.begun (sym (c.first.ensures.chosen at rests) ∙ none) span.some quiet in
+    let passed = idle_passes (course g.D.Dispatch.behaviour image script) goes m.tick n s m.fired.items calm.state (sym (c.first.ensures.chosen at rests) ∙ none) span.some quiet in
     record {
       within = omega (arith, span.within, c.requires.1.1.1.1.0);
       state = passed.state;
@@ -79,7 +79,7 @@ returns-in_default-clause-events g c =
     record { plans = record { plan = c.requires.1.0; sees = record { board = stands.board; state = stands.state; knows = stands.knows } }; calm = calm.still } in
     let none : c.first.result ≡ None = cc in
     let quiet = slots_are_quiet image script m.tick n m.agenda.done s m.agenda.slots calm.slots span.clear in
-    let passed = idle_passes (course g.D.Dispatch.behaviour image script) goes m.tick n s m.fired.items calm.begun (sym (c.first.ensures.chosen at rests) ∙ none) span.some quiet in
+    let passed = idle_passes (course g.D.Dispatch.behaviour image script) goes m.tick n s m.fired.items calm.state (sym (c.first.ensures.chosen at rests) ∙ none) span.some quiet in
     told_on (course g.D.Dispatch.behaviour image script) m.tick n s m.fired.items m.fired.items passed calm.none
 
 pub take_ticks-requires : goal.take_ticks-requires
@@ -101,7 +101,7 @@ take_ticks-requires g c =
         goes = goes;
         plan = c.requires.1.0;
         board = stands.board;
-        begun = calm.begun;
+        begun = calm.state;
         chosen = sym (c.in-Some.ensures.chosen at rests);
         quiet = slots_are_quiet image script m.tick n m.agenda.done s m.agenda.slots calm.slots span.clear;
         some = span.some;
@@ -121,7 +121,7 @@ follow-requires-clause-who g c =
     let at : At = record { image = image; script = script; tick = m.tick } in
     let rests : Rests g.D.Dispatch.behaviour g.D.Dispatch.Knows c.args.plan.now m.board m.dispatch at =
     record { plans = record { plan = c.requires.1.0; sees = record { board = stands.board; state = stands.state; knows = stands.knows } }; calm = calm.still } in
-    let there = below (course g.D.Dispatch.behaviour image script) goes m.tick c.in-Some.who (state_of m.board) calm.begun (sym (c.in-Some.ensures.chosen at rests)) in
+    let there = below (course g.D.Dispatch.behaviour image script) goes m.tick c.in-Some.who (state_of m.board) calm.state (sym (c.in-Some.ensures.chosen at rests)) in
     let old = m.board.cells.items in
     let new = c.take_ticks.new.board.cells.items in
     omega (arith, there, threads_count old, cells_count image old stands.board.rooms, cells_count image new c.take_ticks.ensures.board.rooms, c.take_ticks.new.board.cells.ok.0)

@@ -18,7 +18,7 @@ row_on-requires g c = λ κs lives. (
   lives,
   (
     c.requires.1.0,
-    (c.requires.1.1.0, (c.loop-self.invariant.stands, (c.requires.1.1.1.1.0, (c.goes_on-2.ensures.before c.loop-self-test.true, (c.goes_on-2.ensures.calm c.loop-self-test.true, c.goes_on-2.ensures.room c.loop-self-test.true))))),
+    (c.requires.1.1.0, (c.loop-self.invariant.stands, (c.requires.1.1.1.1.0, (c.goes_on-in-loop-self.ensures.before c.loop-self-test.true, (c.goes_on-in-loop-self.ensures.calm c.loop-self-test.true, c.goes_on-in-loop-self.ensures.room c.loop-self-test.true))))),
   ),
 )
 
