@@ -61,6 +61,29 @@ impl Machine<Ranking> {
         completed
     }
 
+    /// The start events of the tick and a turn, up to the limit at most: the instruction whose effect
+    /// came in its last tick, if there was one.
+    #[inline(always)]
+    fn take_turn(&mut self, plan: &DecodedImage, script: &Script, limit: u64) -> Option<Completed>
+        ghost run: { Run }
+        requires plan { IsOf run.image plan.now }
+        requires script { run.script ≡ script_of script.now }
+        requires runnable { IsRunnable run.image run.script }
+        requires stands { StandsIn run.image run.script self.old }
+        requires limit { limit ≤ script.now.end }
+        requires before { self.old.tick < limit }
+        ensures passed { self.old.tick < self.new.tick }
+        ensures stands { StandsIn run.image run.script self.new }
+        ensures events { self.new.fired.items ≡
+            events_between run.image run.script self.old.tick self.new.tick }
+        ensures ends { IsTurnEnd run.image run.script limit self.old.tick self.new.tick }
+        ensures last { result ≡ last_completed run.image run.script self.new.tick }
+        ensures sole { NoneBetween run.image run.script self.old.tick self.new.tick }
+    {
+        self.begin_turn(plan, script);
+        self.finish_turn(plan, limit)
+    }
+
     /// The rest of a turn that is begun, up to the limit at most, which is above the tick and no
     /// later than the end. The events are those of the whole turn, in all ticks of which the same
     /// process is picked, and all stand as they did when it was begun.
@@ -100,8 +123,7 @@ impl Machine<Ranking> {
         ensures last { result ≡ last_completed image (script_of script.now) self.new.tick }
         ensures sole { NoneBetween image (script_of script.now) self.old.tick self.new.tick }
     {
-        self.begin_turn(plan, script);
-        self.finish_turn(plan, limit)
+        self.take_turn(plan, script, limit)
     }
 
     /// One turn, up to the limit at most; `Done` where the limit is reached.
@@ -126,7 +148,7 @@ impl Machine<Ranking> {
         if self.tick >= limit {
             return Progress::Done;
         }
-        let _ = self.follow(plan, script, limit);
+        let _ = self.take_turn(plan, script, limit);
         self.came_to()
     }
 

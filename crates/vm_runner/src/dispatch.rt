@@ -63,13 +63,7 @@ pub trait Dispatch: Drop {
             Knows at.image at.script (Between (at.tick + n)) self.new };
 
     /// Notes how all stand after a row of the process, in which these events fell.
-    fn follow(
-        &mut self,
-        plan: &DecodedImage,
-        board: &MachineState,
-        who: usize,
-        events: &[Event],
-    )
+    fn follow(&mut self, plan: &DecodedImage, board: &MachineState, who: usize, events: &[Event])
         requires who { who < vec_len board.now.cells }
         requires gone { (run : Ticks) ×
             HasGone behaviour Knows plan.now board.now who events.now self.old run }

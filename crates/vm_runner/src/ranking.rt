@@ -240,13 +240,7 @@ impl Dispatch for Ranking {
 
     /// Where none of the events is at a queue, all others stand as before.
     #[inline(always)]
-    fn follow(
-        &mut self,
-        plan: &DecodedImage,
-        board: &MachineState,
-        who: usize,
-        events: &[Event],
-    ) {
+    fn follow(&mut self, plan: &DecodedImage, board: &MachineState, who: usize, events: &[Event]) {
         if is_some_at_queue(events) {
             self.note_all(plan, board);
         } else {
