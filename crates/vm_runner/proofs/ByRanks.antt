@@ -1,5 +1,5 @@
 -- Runs by ranks go by turns and rows.
-use Rattle.std.proofs.Common.{◌≡◌, ◌≤◌, ◌<◌, ◌+◌, ◌-◌, ◌++◌, inl, inr, ℕ, zero, suc, false, List, [], Some, arith, refl, ap, sym, subst, ◌∙◌, append_assoc}
+use Rattle.std.proofs.Common.{◌≡◌, ◌≤◌, ◌+◌, ◌++◌, inl, inr, ℕ, zero, suc, false, List, [], Some, arith, refl, ap, sym, subst, ◌∙◌, append_assoc}
 use Rattle.std.specs.Prelude.{slice_get}
 use Rattle.std.proofs.lemmas.Bool.{cases_lt}
 use Rattle.base.specs.declared.event.Event.{Event}
@@ -8,7 +8,7 @@ use Rattle.machine_semantics.specs.State.{Ready, State}
 use Rattle.machine_semantics.specs.Starts.{Started, starts}
 use Rattle.machine_semantics.specs.Effect.{Own}
 use Rattle.machine_semantics.specs.Tick.{Ticked, pick, tick}
-use Rattle.machine_semantics.specs.Run.{at_start, events_from, state_at}
+use Rattle.machine_semantics.specs.Run.{events_from, state_at}
 use Rattle.vm_stretch.specs.Quiet.{IsQuiet}
 use Rattle.vm_stretch.specs.RowLaws.{IsPicked, IsSafeRun, begun}
 use Rattle.vm_stretch.specs.Silent.{Leads, with_process}

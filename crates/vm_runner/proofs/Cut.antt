@@ -1,11 +1,14 @@
 -- The events of a run, cut at a tick.
-use Rattle.std.proofs.Common.{◌≡◌, ◌≤◌, ◌+◌, ◌-◌, ◌++◌, ℕ, [], List, arith, ap, ◌∙◌}
-use Rattle.base.specs.declared.event.Event.{Event}
+use Rattle.std.proofs.Common.{◌≡◌, ◌≤◌, ◌+◌, ◌-◌, ◌++◌, ℕ, [], arith, ap, ◌∙◌}
 use Rattle.vm_runner.specs.Course.{Course, events_between}
 
 -- its events may be cut at any tick
 abbrev pub Cuts : Course → Type 0
 Cuts c = (n m t : ℕ) → c.events (n + m) t ≡ c.events n t ++ c.events m (t + n)
+
+-- no event falls in no tick
+abbrev pub HasNone : Course → Type 0
+HasNone c = (t : ℕ) → c.events 0 t ≡ []
 
 module _ (c : Course) where
   -- the events up to a tick, and then those from it on up to a later one
@@ -19,8 +22,8 @@ module _ (c : Course) where
       ∙ (cuts n m t
       ∙ ap (λ (w : ℕ). c.events n t ++ c.events m w) there)
 
-  -- no event falls in no tick
-  pub none_between : ((t : ℕ) → c.events 0 t ≡ []) → (t : ℕ) → events_between c t t ≡ []
+  -- nor from a tick to itself
+  pub none_between : HasNone c → (t : ℕ) → events_between c t t ≡ []
   none_between none_in t =
       let none : t - t ≡ 0 = omega arith in
       ap (λ (k : ℕ). c.events k t) none ∙ none_in t

@@ -1,15 +1,14 @@
 -- A turn of the process that is picked, by ranks.
-use Rattle.std.proofs.Common.{◌≡◌, ◌≤◌, ◌<◌, ◌+◌, ◌-◌, ◌++◌, ℕ, zero, suc, false, List, [], Option, Some, None, inl, length, arith, refl, ap, sym, subst, ◌∙◌}
+use Rattle.std.proofs.Common.{◌≡◌, ◌≤◌, ◌<◌, ◌+◌, ◌-◌, ◌++◌, ℕ, false, List, [], Option, Some, None, length, arith, refl, ap, sym, subst, ◌∙◌}
 use Rattle.std.specs.Prelude.{slice_get}
 use Rattle.std.proofs.lemmas.List.{append-nil}
 use Rattle.std.proofs.lemmas.Option.{slice_get_within}
 use Rattle.base.specs.declared.event.Event.{Event}
 use Rattle.machine_semantics.specs.Image.{Image, Process, Script}
 use Rattle.machine_semantics.specs.State.{Job, Thread, Ready, State}
-use Rattle.machine_semantics.specs.Starts.{starts}
 use Rattle.machine_semantics.specs.Tick.{Ticked, owned_of, pick, settle}
 use Rattle.machine_semantics.specs.Run.{events_from, state_at}
-use Rattle.vm_stretch.specs.Stretch.{FitsIn, FitsThread, left, left_of, outcomes, pass, pass_thread, place_of}
+use Rattle.vm_stretch.specs.Stretch.{FitsIn, FitsThread, left, outcomes, pass, pass_thread, place_of}
 use Rattle.vm_stretch.specs.StretchDue.{time_out_of}
 use Rattle.vm_stretch.specs.StretchLaws.{IsTurnOfRun, turn, turn_events, turned}
 use Rattle.vm_stretch.specs.Quiet.{AreQuiet}

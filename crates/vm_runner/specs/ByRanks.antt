@@ -1,5 +1,4 @@
 -- The run by ranks.
-use Rattle.std.specs.Prelude.{ℕ}
 use Rattle.machine_semantics.specs.Image.{Image, Script}
 use Rattle.machine_semantics.specs.Run.{events_from, state_at}
 use Rattle.machine_semantics.specs.Tick.{pick}

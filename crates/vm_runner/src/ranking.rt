@@ -4,7 +4,6 @@ ghost use Rattle.std.specs.Prelude.{◌≡◌, ◌<◌, ℕ, false, true, length
 ghost use Rattle.machine_semantics.specs.Image.{Image};
 ghost use Rattle.vm_state.specs.Board.{IsBoardOf, state_of};
 ghost use Rattle.vm_state.specs.Plan.{IsOf};
-ghost use Rattle.vm_turn.specs.Chosen.{IsCeiling};
 ghost use Rattle.vm_runner.specs.Ranking.{IsBehind, IsCandidate, IsFirst, IsNoLater, IsRanking};
 ghost use Rattle.vm_runner.specs.Ranking.{IsReadyOne, IsThere, StandAsBefore, Standing, StandsAsWell};
 
@@ -13,7 +12,7 @@ use crate::waits::is_some_at_queue;
 use arrayvec::ArrayVec;
 use base::Event;
 use vm_state::{ControlBlock, DecodedImage, DecodedProcess, MachineState, SchedulingState};
-use vm_turn::choose;
+use vm_turn::{ceiling_of, choose};
 
 /// How a process that is ready stands in the choice: the lower active rank comes first, and of two
 /// alike one inside a monitor.
@@ -28,18 +27,6 @@ struct Candidate {
 pub struct Ranking {
     candidates: ArrayVec<Option<Candidate>, 64>,
     first: Option<usize>,
-}
-
-/// The ceiling of a monitor; 0 where there is none.
-#[inline(always)]
-fn ceiling_of(ceilings: &[u16], monitor: u16) -> u16
-    ensures { IsCeiling ceilings.now monitor result }
-{
-    let place = usize::from(monitor);
-    if place < ceilings.len() {
-        return ceilings[place];
-    }
-    0
 }
 
 /// How a process that is ready stands, inside this monitor or outside of all.

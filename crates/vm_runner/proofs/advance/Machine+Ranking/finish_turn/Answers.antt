@@ -1,5 +1,4 @@
-use Rattle.std.proofs.Common.{◌≡◌, ◌≤◌, ◌<◌, ◌+◌, ◌∙◌, ℕ, Option, None, Some, arith, ap, refl, sym, subst}
-use Rattle.std.specs.Prelude.{slice_get}
+use Rattle.std.proofs.Common.{◌≡◌, ◌+◌, ◌∙◌, ℕ, Option, None, Some, arith, ap, refl, sym, subst}
 use Rattle.machine_semantics.specs.State.{State, Thread}
 use Rattle.machine_semantics.specs.Tick.{pick}
 use Rattle.vm_stretch.proofs.Jumping.{slots_are_quiet}

@@ -1,4 +1,4 @@
-use Rattle.std.proofs.Common.{◌≡◌, ◌≤◌, ◌<◌, ◌+◌, ◌∙◌, ℕ, List, Option, None, Some, arith, ap, sym, subst}
+use Rattle.std.proofs.Common.{◌≡◌, ◌+◌, ◌∙◌, ℕ, List, None, Some, arith, ap, sym, subst}
 use Rattle.std.specs.Prelude.{slice_get}
 use Rattle.base.specs.declared.event.Event.{Event}
 use Rattle.machine_semantics.specs.State.{State}
@@ -9,8 +9,8 @@ use Rattle.vm_releases.proofs.Joining.{threads_count}
 use Rattle.vm_releases.specs.Order.{IsOrderOf}
 use Rattle.vm_releases.specs.declared.order.StartOrder.{StartOrder}
 use Rattle.vm_state.specs.Board.{state_of}
-use Rattle.vm_runner.specs.Course.{Course, course}
-use Rattle.vm_runner.specs.Dispatching.{At, Between, HasGone, Rests, Ticks}
+use Rattle.vm_runner.specs.Course.{course}
+use Rattle.vm_runner.specs.Dispatching.{At, Between, Rests, Ticks}
 use Rattle.vm_runner.specs.Waits.{is_some_at_queue}
 use Rattle.vm_runner.proofs.Calm.{is_calm, told_on}
 use Rattle.vm_runner.proofs.Going.{below, idle_passes}

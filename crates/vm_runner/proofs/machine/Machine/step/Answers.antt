@@ -1,4 +1,4 @@
-use Rattle.std.proofs.Common.{◌≡◌, ◌≤◌, ◌<◌, ◌+◌, ◌∙◌, ℕ, Option, None, arith, ap, sym, subst}
+use Rattle.std.proofs.Common.{◌≡◌, ◌+◌, ◌∙◌, ℕ, None, arith, ap, sym, subst}
 use Rattle.machine_semantics.specs.Image.{Script}
 use Rattle.vm_stretch.proofs.Jumping.{slots_are_quiet}
 use Rattle.vm_stretch.proofs.StartLawsMoving.{slots_are_due}

@@ -1,4 +1,4 @@
-use Rattle.std.proofs.Common.{◌≡◌, ◌∙◌, false, ap, subst, sym}
+use Rattle.std.proofs.Common.{◌∙◌, subst, sym}
 use Rattle.machine_semantics.specs.State.{State}
 use Rattle.machine_semantics.specs.Run.{state_at}
 use Rattle.vm_runner.specs.Ranking.{IsRanking}
