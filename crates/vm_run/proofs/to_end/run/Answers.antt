@@ -19,7 +19,7 @@ on_err (Err e) P p = p
 pub put_all-requires : goal.put_all-requires
 put_all-requires g c =
     let all_of = course g.D.Dispatch.behaviour g.image (script_of c.args.script.now) in
-    let goes = c.goes_by_steps.ensures.steps g.image (script_of c.args.script.now) c.requires.1.1.0 in
+    let goes = c.goes_by_steps.ensures.steps g.image (script_of c.args.script.now) c.requires.1.1.1.0 in
     let t = c.loop-text.machine.tick in
     let u = c.advance_row.new.self.tick in
     let later : t < u = c.advance_row.ensures.passed (λ e. absurd (omega (arith, c.advance_row.ensures.done.0 e))) in
@@ -30,7 +30,7 @@ put_all-requires g c =
 pub loop-text-preserved : goal.loop-text-preserved
 loop-text-preserved g c =
     let all_of = course g.D.Dispatch.behaviour g.image (script_of c.args.script.now) in
-    let goes = c.goes_by_steps.ensures.steps g.image (script_of c.args.script.now) c.requires.1.1.0 in
+    let goes = c.goes_by_steps.ensures.steps g.image (script_of c.args.script.now) c.requires.1.1.1.0 in
     let names = c.args.names.now in
     let t = c.loop-text.machine.tick in
     let u = c.advance_row.new.self.tick in
@@ -51,7 +51,7 @@ loop-text-preserved g c =
 pub returns-in_err-put_all-clause-front : goal.returns-in_err-put_all-clause-front
 returns-in_err-put_all-clause-front g c =
     let all_of = course g.D.Dispatch.behaviour g.image (script_of c.args.script.now) in
-    let goes = c.goes_by_steps.ensures.steps g.image (script_of c.args.script.now) c.requires.1.1.0 in
+    let goes = c.goes_by_steps.ensures.steps g.image (script_of c.args.script.now) c.requires.1.1.1.0 in
     let names = c.args.names.now in
     let t = c.loop-text.machine.tick in
     let u = c.advance_row.new.self.tick in
@@ -66,7 +66,7 @@ returns-in_err-put_all-clause-front g c =
 pub returns-in_err-put_all-clause-some : goal.returns-in_err-put_all-clause-some
 returns-in_err-put_all-clause-some g c =
     let all_of = course g.D.Dispatch.behaviour g.image (script_of c.args.script.now) in
-    let goes = c.goes_by_steps.ensures.steps g.image (script_of c.args.script.now) c.requires.1.1.0 in
+    let goes = c.goes_by_steps.ensures.steps g.image (script_of c.args.script.now) c.requires.1.1.1.0 in
     let names = c.args.names.now in
     let t = c.loop-text.machine.tick in
     let u = c.advance_row.new.self.tick in
@@ -81,7 +81,7 @@ returns-in_err-put_all-clause-some g c =
 pub returns-clause-whole : goal.returns-clause-whole
 returns-clause-whole g c =
     let all_of = course g.D.Dispatch.behaviour g.image (script_of c.args.script.now) in
-    let goes = c.goes_by_steps.ensures.steps g.image (script_of c.args.script.now) c.requires.1.1.0 in
+    let goes = c.goes_by_steps.ensures.steps g.image (script_of c.args.script.now) c.requires.1.1.1.0 in
     let names = c.args.names.now in
     let taken = c.loop-text.invariant.taken in
     let all : log_to_come all_of names c.args.machine.now.tick ≡ taken.0 =
