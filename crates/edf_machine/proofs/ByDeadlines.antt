@@ -1,6 +1,5 @@
 -- Runs under earliest deadline first go by turns and rows.
-use Rattle.std.proofs.Common.{◌≡◌, ◌≤◌, ◌<◌, ◌+◌, ◌-◌, ◌++◌, inl, inr, ℕ, zero, suc, false, List, [], Option, Some, length, arith, refl, ap, sym, subst, ◌∙◌, append_assoc}
-use Rattle.std.specs.Prelude.{slice_get}
+use Rattle.std.proofs.Common.{◌≡◌, ◌≤◌, ◌+◌, ◌++◌, inl, inr, ℕ, zero, suc, List, [], Option, Some, length, arith, refl, ap, sym, subst, ◌∙◌, append_assoc}
 use Rattle.std.proofs.lemmas.List.{append-nil}
 use Rattle.base.specs.declared.event.Event.{Event}
 use Rattle.machine_semantics.specs.Image.{Image, Script}
@@ -13,7 +12,6 @@ use Rattle.vm_runner.specs.Course as course
 use Rattle.vm_runner.specs.Course.{ComeTo, GoesBySteps, IsRow, IsStep, IsThere}
 use Rattle.edf_semantics.specs.Choice.{Mark}
 use Rattle.edf_semantics.specs.Run.{Marked, begin_some, events_from, first_marks, marks_of, state_at, tick}
-use Rattle.edf_semantics.specs.Runs.{HasNoOverrun}
 use Rattle.edf_semantics.specs.Rows.{IsChosen, IsRowTaken, IsSafeRun}
 use Rattle.edf_semantics.specs.Turn.{IsTaken, IsTurn, begun, chosen, marked, started}
 use Rattle.edf_semantics.proofs.Rowing.{row_is_safe, row_is_taken}
@@ -129,7 +127,7 @@ module _ (image : Image) (script : Script) where
       let old : Marked = state_at image script t in
       ap (λ (x : State). marks_of t old.state.threads x.threads old.marks) still ∙ marks_same t old.state.threads old.marks few
 
-  there : (t k : ℕ) → chosen image script t ≡ Some k → IsThere image (begun image script t) k
+  pub there : (t k : ℕ) → chosen image script t ≡ Some k → IsThere image (begun image script t) k
   there t k at =
       let r : IsReady image (begun image script t).threads k = chosen_ready image (begun image script t).threads (marked image script t) k at in
       record { p = r.p; process = r.process; job = r.job; ready = r.ready }

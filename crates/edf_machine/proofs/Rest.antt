@@ -1,6 +1,5 @@
 -- Before the first tick the whole run is to come.
 use Rattle.std.proofs.Common.{◌≡◌, ◌-◌, ℕ, arith, ap}
-use Rattle.machine_semantics.specs.Image.{Image, Script}
 use Rattle.edf_semantics.specs.Run.{events, events_from, state_at}
 use Rattle.edf_machine.specs.Coming.{AllIsToCome}
 

@@ -1,11 +1,9 @@
 -- By the laws of safety and of waits.
-use Rattle.std.proofs.Common.{ℕ, Option, None, arith, subst}
-use Rattle.std.specs.Prelude.{◌^◌}
+use Rattle.std.proofs.Common.{ℕ, arith}
 use Rattle.std.proofs.lemmas.Option.{slice_get_within}
 use Rattle.base.proofs.Lists.{some_at}
-use Rattle.machine_isa.specs.declared.instr.Instr.{Instr}
 use Rattle.machine_semantics.specs.Image.{Script}
-use Rattle.machine_semantics.specs.State.{Job, Thread, Ready, State}
+use Rattle.machine_semantics.specs.State.{Ready}
 use Rattle.machine_semantics.specs.Walk.{Where}
 use Rattle.machine_semantics.specs.Safe.{Parts, ImageFits}
 use Rattle.machine_semantics.specs.Whole.{StateFits}
@@ -13,7 +11,7 @@ use Rattle.machine_safety.proofs.Starting.{starts_keep}
 use Rattle.edf_semantics.specs.Run.{state_at}
 use Rattle.edf_semantics.specs.Safe.{EveryRunIsSafe, IsWaitless}
 use Rattle.edf_semantics.proofs.Keeping.{kept}
-use Rattle.edf_semantics.specs.Runs.{IsNotWaiting, IsAwake, WaitlessRunsAreAwake}
+use Rattle.edf_semantics.specs.Runs.{WaitlessRunsAreAwake}
 use Rattle.edf_semantics.specs.Rows.{IsSafeRun}
 use Rattle.edf_semantics.specs.Turn.{begun}
 use Rattle.edf_machine.specs.EdfRunnable.{WaitlessRunsAreRunnable}

@@ -1,5 +1,5 @@
 -- What is seen of the processes from one on, and what one more adds.
-use Rattle.std.specs.Prelude.{◌≡◌, ◌||◌, ℕ, true, false, not, List, Option, Some, None, if◌then◌else◌, map, slice_get}
+use Rattle.std.specs.Prelude.{◌≡◌, ◌||◌, ℕ, true, false, not, List, Option, Some, None, if◌then◌else◌}
 use Rattle.vm_state.specs.declared.threads.ControlBlock.{ControlBlock}
 use Rattle.vm_state.specs.Threads.{thread_of}
 use Rattle.machine_semantics.specs.Image.{Image, Process}

@@ -1,5 +1,5 @@
-use Rattle.std.proofs.Common.{◌≡◌, ℕ, List, arith, subst, sym}
-use Rattle.machine_semantics.specs.State.{State, Thread}
+use Rattle.std.proofs.Common.{ℕ, arith, subst, sym}
+use Rattle.machine_semantics.specs.State.{State}
 use Rattle.vm_releases.proofs.Boards.{cells_count}
 use Rattle.edf_semantics.specs.Run.{Marked, marks_of, state_at}
 use Rattle.edf_semantics.specs.Turn.{begun, marked}
