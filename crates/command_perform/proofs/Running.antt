@@ -13,7 +13,9 @@ use Rattle.vm_law.proofs.Ticking.{valid_runs_have_lines}
 use Rattle.machine_semantics.specs.Image.{Image, Script}
 use Rattle.machine_semantics.specs.Run.{events, events_from, state_at}
 use Rattle.vm_run.specs.Coming.{coming, log_to_come}
+use Rattle.vm_runner.specs.ByRanks.{by_ranks}
 use Rattle.vm_runner.specs.declared.machine.Machine.{Machine}
+use Rattle.vm_runner.specs.declared.ranking.Ranking.{Ranking}
 use Rattle.vm_runner.specs.Runnable.{IsRunnable}
 use Rattle.vm_runner.specs.Standing.{StandsIn}
 use Rattle.vm_law.proofs.Runnable.{valid_runs_are_runnable}
@@ -22,14 +24,14 @@ use Rattle.command_perform.specs.Ready.{IsByRanks}
 use Rattle.command_perform.proofs.Scripts.{same_script}
 
 -- what is to come at tick 0 is all
-all_coming : (image : Image) (script : Script) → coming image script 0 ≡ events image script
+all_coming : (image : Image) (script : Script) → coming (by_ranks image script) 0 ≡ events image script
 unfolding events state_at
 all_coming image script =
     let all : script.end_tick - 0 ≡ script.end_tick = omega arith in
     ap (λ (n : ℕ). events_from image script n 0 (state_at image script 0)) all
 
-coming_first : (image : Image) (script : Script) (t : ℕ) → t ≡ 0 → coming image script t ≡ events image script
-coming_first image script t first = ap (λ (u : ℕ). coming image script u) first ∙ all_coming image script
+coming_first : (image : Image) (script : Script) (t : ℕ) → t ≡ 0 → coming (by_ranks image script) t ≡ events image script
+coming_first image script t first = ap (λ (u : ℕ). coming (by_ranks image script) u) first ∙ all_coming image script
 
 module _ (run : PreparedRun) (image : Image) (same : image ≡ image_of run.image) where
   pub is_runnable : CanRunByRanks run → IsRunnable image (script_of run.script)
@@ -38,7 +40,7 @@ module _ (run : PreparedRun) (image : Image) (same : image ≡ image_of run.imag
       (valid_runs_are_runnable (image_of run.image) (script_of run.script) can.limits can.valid can.script.frames can.script.order (let end = can.script.end in omega (arith, end)))
 
   -- each event that is to come at tick 0 has a line
-  pub lines_first : (t : ℕ) → CanRunByRanks run → t ≡ 0 → All (AreIn run.image.names) (coming image (script_of run.script) t)
+  pub lines_first : (t : ℕ) → CanRunByRanks run → t ≡ 0 → All (AreIn run.image.names) (coming (by_ranks image (script_of run.script)) t)
   lines_first t can first =
       let have : All (AreIn run.image.names) (events (image_of run.image) (script_of run.script)) =
       valid_runs_have_lines run.image.names (image_of run.image) (script_of run.script) can.limits can.valid can.names can.script.end in
@@ -46,24 +48,24 @@ module _ (run : PreparedRun) (image : Image) (same : image ≡ image_of run.imag
       (subst (λ (x : Image). All (AreIn run.image.names) (events x (script_of run.script))) (sym same) have)
 
   -- the log that is to come at tick 0 is the one that is due
-  pub log_first : (t : ℕ) → run.dispatch ≡ dispatch.Ranks → t ≡ 0 → log_to_come image (script_of run.script) run.image.names t ≡ log_due (Some run)
-  log_first t by_ranks first =
+  pub log_first : (t : ℕ) → run.dispatch ≡ dispatch.Ranks → t ≡ 0 → log_to_come (by_ranks image (script_of run.script)) run.image.names t ≡ log_due (Some run)
+  log_first t ranked first =
       ap (λ (es : List Event). log_of run.image.names es) (coming_first image (script_of run.script) t first)
       ∙ (ap (λ (x : Image). log_of run.image.names (events x (script_of run.script))) same
       ∙ (ap (λ (script : Script). log_of run.image.names (events (image_of run.image) script)) (sym (same_script run.script))
-      ∙ ap (λ (d : Dispatch). log_by d (named_of run.image) run.script.lines run.script.end) (sym by_ranks)))
+      ∙ ap (λ (d : Dispatch). log_by d (named_of run.image) run.script.lines run.script.end) (sym ranked)))
 
   -- a machine that stands in the run before tick 0 is ready for it
-  pub made_by_ranks : {E : Type 0} (made : Result Machine E) → run.dispatch ≡ dispatch.Ranks → CanRunByRanks run
-      → IfOk made (λ (m : Machine). m.tick ≡ 0) → IfOk made (λ (m : Machine). StandsIn image (script_of run.script) m) → IfOk made (λ (m : Machine). IsByRanks run m)
-  made_by_ranks (Ok m) by_ranks can start stands = record {
-    dispatch = by_ranks;
+  pub made_by_ranks : {E : Type 0} (made : Result (Machine Ranking) E) → run.dispatch ≡ dispatch.Ranks → CanRunByRanks run
+      → IfOk made (λ (m : Machine Ranking). m.tick ≡ 0) → IfOk made (λ (m : Machine Ranking). StandsIn image (script_of run.script) m) → IfOk made (λ (m : Machine Ranking). IsByRanks run m)
+  made_by_ranks (Ok m) ranked can start stands = record {
+    dispatch = ranked;
     can = can;
     start = start;
     stands = subst (λ (x : Image). StandsIn x (script_of run.script) m) same stands;
   }
-  made_by_ranks (Err e) by_ranks can start stands = tt
+  made_by_ranks (Err e) ranked can start stands = tt
 
 -- the run by ranks can be made
 pub can_by_ranks : (run : PreparedRun) → run.dispatch ≡ dispatch.Ranks → CanRun run → CanRunByRanks run
-can_by_ranks run by_ranks can = subst (λ (d : Dispatch). CanRunBy d run) by_ranks can
+can_by_ranks run ranked can = subst (λ (d : Dispatch). CanRunBy d run) ranked can

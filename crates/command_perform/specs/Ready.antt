@@ -3,10 +3,11 @@ use Rattle.std.specs.Prelude.{◌≡◌, Option, option_map}
 use Rattle.command_answers.specs.declared.act.Dispatch.TheVariants as dispatch
 use Rattle.command_answers.specs.declared.act.PreparedRun.{PreparedRun}
 use Rattle.command_answers.specs.Acts.{CanRunByDeadlines, CanRunByRanks}
-use Rattle.edf_machine.specs.declared.machine.EdfMachine.{EdfMachine}
+use Rattle.edf_machine.specs.declared.deadlines.Deadlines.{Deadlines}
 use Rattle.edf_machine.specs.Standing as edf
 use Rattle.image.specs.Raw.{image_of}
 use Rattle.vm_runner.specs.declared.machine.Machine.{Machine}
+use Rattle.vm_runner.specs.declared.ranking.Ranking.{Ranking}
 use Rattle.vm_runner.specs.Standing as ranked
 use Rattle.vm_releases.specs.Begin.{script_of}
 use Rattle.vm_state.specs.Plan.{IsOf}
@@ -15,14 +16,14 @@ use Rattle.command_perform.specs.declared.any_machine.AnyMachine.TheVariants as 
 use Rattle.command_perform.specs.declared.ready.Ready.{Ready}
 
 -- the machine stands before tick 0 of a run by ranks that it can make
-pub record IsByRanks (run : PreparedRun) (machine : Machine) : Type 0 where
+pub record IsByRanks (run : PreparedRun) (machine : Machine Ranking) : Type 0 where
   pub dispatch : run.dispatch ≡ dispatch.Ranks
   pub can : CanRunByRanks run
   pub start : machine.tick ≡ 0
   pub stands : ranked.StandsIn (image_of run.image) (script_of run.script) machine
 
 -- likewise under earliest deadline first
-pub record IsByDeadlines (run : PreparedRun) (machine : EdfMachine) : Type 0 where
+pub record IsByDeadlines (run : PreparedRun) (machine : Machine Deadlines) : Type 0 where
   pub dispatch : run.dispatch ≡ dispatch.Deadlines
   pub can : CanRunByDeadlines run
   pub start : machine.tick ≡ 0

@@ -11,13 +11,14 @@ ghost use Rattle.vm_state.specs.Plan.{IsOf};
 ghost use Rattle.image_loaded.specs.Ready.{CanBeRun, IsReady, run_log};
 
 use crate::{EdfImage, Shape};
-use edf_machine::EdfMachine;
+use edf_machine::Deadlines;
 use edf_machine::runnable_law::{waitless_runs_are_runnable, waitless_runs_have_lines};
 use outside::Sink;
 use script::Script;
 use std::alloc::{AllocError, Global};
 use vm_plan::plan_bytes_plan::plan_of;
 use vm_run::OutputCut;
+use vm_runner::Machine;
 use vm_state::DecodedImage;
 
 /// The deadline of each process in ticks; an error says that memory is short.
@@ -38,7 +39,7 @@ fn machine_of(
     plan: &DecodedImage,
     image: &EdfImage,
     script: &Script,
-) -> Result<EdfMachine, AllocError>
+) -> Result<Machine<Deadlines>, AllocError>
     ghost whole: { Image }
     requires image { whole ≡ image.now.image }
     requires plan { IsOf whole plan.now }
@@ -48,7 +49,8 @@ fn machine_of(
         StandsIn image.now.image (script_of script.now) machine) }
 {
     let deadlines = deadlines_of(alloc, image.shape())?;
-    EdfMachine::new(alloc, plan, deadlines.as_slice(), script)
+    let dispatch = Deadlines::new(alloc, deadlines.as_slice())?;
+    Machine::new(alloc, plan, script, dispatch)
 }
 
 /// Runs to the end of the script, and puts the log, one put a line. After a failed put nothing more
@@ -71,14 +73,14 @@ fn put_log<O: Sink>(
     ensures quiet { OnOk result ((O.state out.new).faults ≡ (O.state out.old).faults) }
 {
     let names = image.shape().names();
-    edf_machine::run(&mut run.machine, &run.plan, script, names, out)
+    vm_run::run(&mut run.machine, &run.plan, script, names, out)
 }
 
 /// A run of an admitted image under earliest deadline first, over a script.
 #[derive(Drop)]
 pub struct AdmittedRun {
     plan: DecodedImage,
-    machine: EdfMachine,
+    machine: Machine<Deadlines>,
 }
 
 impl AdmittedRun {

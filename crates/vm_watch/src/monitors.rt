@@ -12,7 +12,7 @@ ghost use Rattle.vm_state.specs.Board.{state_of};
 ghost use Rattle.vm_stretch.specs.View.{monitor_words, occupant as occupant_of};
 
 use image::RawImage;
-use vm_runner::Machine;
+use vm_runner::{Machine, Ranking};
 use vm_state::{ControlBlock, MachineState, SchedulingState};
 
 /// Whether a process is inside a monitor.
@@ -41,7 +41,7 @@ fn occupant_on(board: &MachineState, monitor: u16) -> Option<usize>
 }
 
 /// The process that is inside a monitor; `None` exactly where the monitor is free.
-pub fn occupant(machine: &Machine, monitor: u16) -> Option<usize>
+pub fn occupant(machine: &Machine<Ranking>, monitor: u16) -> Option<usize>
     ghost run: { Run }
     requires { StandsIn run.image run.script machine.now }
     ensures occupant { result ≡
@@ -64,7 +64,7 @@ fn monitor_word_on(image: &RawImage, board: &MachineState, monitor: usize, word:
 }
 
 /// The word with this number, from 0, of those of a monitor.
-pub fn monitor_word(image: &RawImage, machine: &Machine, monitor: usize, word: usize) -> i32
+pub fn monitor_word(image: &RawImage, machine: &Machine<Ranking>, monitor: usize, word: usize) -> i32
     ghost run: { Run }
     requires image { run.image ≡ image_of image.now }
     requires stands { StandsIn run.image run.script machine.now }

@@ -16,7 +16,7 @@ use crate::{monitor_word, occupant, put_monitor, put_process, view, word};
 use image::RawImage;
 use std::alloc::{AllocError, Global};
 use syntax_tree::Text;
-use vm_runner::Machine;
+use vm_runner::{Machine, Ranking};
 use vm_state::DecodedImage;
 
 /// How many words are shown at most.
@@ -43,7 +43,7 @@ fn shown_of_monitor(image: &RawImage, monitor: usize) -> usize
 /// The first words of a process, so many.
 fn words_of_process(
     alloc: Global,
-    machine: &Machine,
+    machine: &Machine<Ranking>,
     process: usize,
     count: usize,
 ) -> Result<Vec<i32>, AllocError>
@@ -65,7 +65,7 @@ fn words_of_process(
 fn words_of_monitor(
     alloc: Global,
     image: &RawImage,
-    machine: &Machine,
+    machine: &Machine<Ranking>,
     monitor: usize,
     count: usize,
 ) -> Result<Vec<i32>, AllocError>
@@ -90,7 +90,7 @@ fn put_one_process(
     text: &mut Text,
     image: &RawImage,
     plan: &DecodedImage,
-    machine: &Machine,
+    machine: &Machine<Ranking>,
     process: usize,
 ) -> Result<(), AllocError>
     ghost run: { Run }
@@ -113,7 +113,7 @@ fn put_one_monitor(
     alloc: Global,
     text: &mut Text,
     image: &RawImage,
-    machine: &Machine,
+    machine: &Machine<Ranking>,
     monitor: usize,
 ) -> Result<(), AllocError>
     ghost run: { Run }
@@ -137,7 +137,7 @@ fn put_processes(
     text: &mut Text,
     image: &RawImage,
     plan: &DecodedImage,
-    machine: &Machine,
+    machine: &Machine<Ranking>,
 ) -> Result<(), AllocError>
     ghost run: { Run }
     requires image { run.image ≡ image_of image.now }
@@ -159,7 +159,7 @@ fn put_monitors(
     alloc: Global,
     text: &mut Text,
     image: &RawImage,
-    machine: &Machine,
+    machine: &Machine<Ranking>,
 ) -> Result<(), AllocError>
     ghost run: { Run }
     requires image { run.image ≡ image_of image.now }
@@ -182,7 +182,7 @@ pub(crate) fn put_state(
     text: &mut Text,
     image: &RawImage,
     plan: &DecodedImage,
-    machine: &Machine,
+    machine: &Machine<Ranking>,
 ) -> Result<(), AllocError>
     ghost run: { Run }
     requires image { run.image ≡ image_of image.now }
