@@ -7,7 +7,8 @@ use Rattle.command_answers.specs.declared.act.PreparedRun.{PreparedRun}
 use Rattle.command_answers.specs.Acts.{CanRun, CanRunBy, CanRunByDeadlines, image_in, log_by, log_due}
 use Rattle.edf_semantics.specs.Run.{events}
 use Rattle.edf_machine.specs.Marks.{HasDeadlines}
-use Rattle.edf_machine.specs.declared.machine.EdfMachine.{EdfMachine}
+use Rattle.edf_machine.specs.declared.deadlines.Deadlines.{Deadlines}
+use Rattle.vm_runner.specs.declared.machine.Machine.{Machine}
 use Rattle.edf_machine.specs.Runnable.{IsRunnable}
 use Rattle.edf_machine.specs.Standing.{StandsIn}
 use Rattle.edf_machine.proofs.Rest.{all_is_to_come}
@@ -53,8 +54,8 @@ module _ (run : PreparedRun) (image : Image) (same : image ≡ (image_in run.ima
       ∙ (ap (λ (x : NamedImage). map (λ (p : Process). p.deadline) x.image.processes) (sym own) ∙ sym taken)
 
   -- a machine that stands in the run before tick 0 is ready for it
-  pub made_by_deadlines : {E : Type 0} (made : Result EdfMachine E) → run.image ≡ by.Deadlines (image_in run.image) → CanRunByDeadlines (image_in run.image) run.script
-      → IfOk made (λ (m : EdfMachine). m.tick ≡ 0) → IfOk made (λ (m : EdfMachine). StandsIn image (script_of run.script) m) → IfOk made (λ (m : EdfMachine). IsByDeadlines run m)
+  pub made_by_deadlines : {E : Type 0} (made : Result (Machine Deadlines) E) → run.image ≡ by.Deadlines (image_in run.image) → CanRunByDeadlines (image_in run.image) run.script
+      → IfOk made (λ (m : Machine Deadlines). m.tick ≡ 0) → IfOk made (λ (m : Machine Deadlines). StandsIn image (script_of run.script) m) → IfOk made (λ (m : Machine Deadlines). IsByDeadlines run m)
   made_by_deadlines (Ok m) by_deadlines can start stands = record {
     dispatch = by_deadlines;
     can = can;

@@ -3,9 +3,10 @@ use Rattle.std.specs.Prelude.{◌≡◌, Option, option_map}
 use Rattle.command_answers.specs.declared.act.RunnableImage.TheVariants as by
 use Rattle.command_answers.specs.declared.act.PreparedRun.{PreparedRun}
 use Rattle.command_answers.specs.Acts.{CanRunByDeadlines, CanRunByRanks, image_in}
-use Rattle.edf_machine.specs.declared.machine.EdfMachine.{EdfMachine}
+use Rattle.edf_machine.specs.declared.deadlines.Deadlines.{Deadlines}
 use Rattle.edf_machine.specs.Standing as edf
 use Rattle.vm_runner.specs.declared.machine.Machine.{Machine}
+use Rattle.vm_runner.specs.declared.ranking.Ranking.{Ranking}
 use Rattle.vm_runner.specs.Standing as ranked
 use Rattle.vm_releases.specs.Begin.{script_of}
 use Rattle.vm_state.specs.Plan.{IsOf}
@@ -14,14 +15,14 @@ use Rattle.command_perform.specs.declared.any_machine.AnyMachine.TheVariants as 
 use Rattle.command_perform.specs.declared.ready.Ready.{Ready}
 
 -- the machine stands before tick 0 of a run by ranks that it can make
-pub record IsByRanks (run : PreparedRun) (machine : Machine) : Type 0 where
+pub record IsByRanks (run : PreparedRun) (machine : Machine Ranking) : Type 0 where
   pub dispatch : run.image ≡ by.Ranks (image_in run.image)
   pub can : CanRunByRanks (image_in run.image) run.script
   pub start : machine.tick ≡ 0
   pub stands : ranked.StandsIn (image_in run.image).image (script_of run.script) machine
 
 -- likewise under earliest deadline first
-pub record IsByDeadlines (run : PreparedRun) (machine : EdfMachine) : Type 0 where
+pub record IsByDeadlines (run : PreparedRun) (machine : Machine Deadlines) : Type 0 where
   pub dispatch : run.image ≡ by.Deadlines (image_in run.image)
   pub can : CanRunByDeadlines (image_in run.image) run.script
   pub start : machine.tick ≡ 0

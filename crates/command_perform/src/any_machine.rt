@@ -8,25 +8,29 @@ ghost use Rattle.vm_state.specs.Plan.{IsOf};
 ghost use Rattle.command_perform.specs.Ready.{IsByDeadlines, IsByRanks, IsCourseOf};
 
 use command_answers::{PreparedRun, RunnableImage};
-use edf_machine::EdfMachine;
+use edf_machine::Deadlines;
 use image_bytes::ImageBytes;
 use outside::Sink;
 use std::alloc::{AllocError, Global};
 use vm_run::OutputCut;
-use vm_runner::Machine;
+use vm_runner::{Machine, Ranking};
 use vm_state::DecodedImage;
 
 /// The machine of a run, by its dispatch.
 #[derive(Drop)]
 pub(crate) enum AnyMachine {
     /// By ranks.
-    Ranks(Machine),
+    Ranks(Machine<Ranking>),
     /// Under earliest deadline first.
-    Deadlines(EdfMachine),
+    Deadlines(Machine<Deadlines>),
 }
 
 /// The machine by ranks before tick 0 of the run; an error says that memory is short.
-fn by_ranks(alloc: Global, plan: &DecodedImage, run: &PreparedRun) -> Result<Machine, AllocError>
+fn by_ranks(
+    alloc: Global,
+    plan: &DecodedImage,
+    run: &PreparedRun,
+) -> Result<Machine<Ranking>, AllocError>
     ghost image: { Image }
     requires image { image ≡ (image_in run.now.image).image }
     requires plan { IsOf image plan.now }
@@ -34,7 +38,7 @@ fn by_ranks(alloc: Global, plan: &DecodedImage, run: &PreparedRun) -> Result<Mac
     requires can { CanRun run.now }
     ensures { IfOk result (λ machine. IsByRanks run.now machine) }
 {
-    Machine::new(alloc, plan, &run.script)
+    Machine::new(alloc, plan, &run.script, Ranking::new())
 }
 
 /// The deadline of each process in ticks; an error says that memory is short.
@@ -55,7 +59,7 @@ fn by_deadlines(
     alloc: Global,
     plan: &DecodedImage,
     run: &PreparedRun,
-) -> Result<EdfMachine, AllocError>
+) -> Result<Machine<Deadlines>, AllocError>
     ghost image: { Image }
     requires image { image ≡ (image_in run.now.image).image }
     requires plan { IsOf image plan.now }
@@ -64,13 +68,14 @@ fn by_deadlines(
     ensures { IfOk result (λ machine. IsByDeadlines run.now machine) }
 {
     let deadlines = deadlines_of(alloc, run.image.image())?;
-    EdfMachine::new(alloc, plan, deadlines.as_slice(), &run.script)
+    let dispatch = Deadlines::new(alloc, deadlines.as_slice())?;
+    Machine::new(alloc, plan, &run.script, dispatch)
 }
 
 /// Runs by ranks to the end of the script, and puts the log, one put a line. After a failed put
 /// nothing more is put.
 fn put_by_ranks<O: Sink>(
-    machine: &mut Machine,
+    machine: &mut Machine<Ranking>,
     plan: &DecodedImage,
     run: &PreparedRun,
     out: &mut O,
@@ -93,7 +98,7 @@ fn put_by_ranks<O: Sink>(
 /// Runs under earliest deadline first to the end of the script, and puts the log, one put a line.
 /// After a failed put nothing more is put.
 fn put_by_deadlines<O: Sink>(
-    machine: &mut EdfMachine,
+    machine: &mut Machine<Deadlines>,
     plan: &DecodedImage,
     run: &PreparedRun,
     out: &mut O,
@@ -110,7 +115,7 @@ fn put_by_deadlines<O: Sink>(
     ensures failed { OnErr result (Rose (O.state out.old).faults (O.state out.new).faults) }
     ensures quiet { OnOk result ((O.state out.new).faults ≡ (O.state out.old).faults) }
 {
-    edf_machine::run(machine, plan, &run.script, run.image.image().names(), out)
+    vm_run::run(machine, plan, &run.script, run.image.image().names(), out)
 }
 
 impl AnyMachine {

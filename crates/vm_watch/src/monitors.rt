@@ -11,7 +11,7 @@ ghost use Rattle.vm_state.specs.Board.{state_of};
 ghost use Rattle.vm_stretch.specs.View.{monitor_words, occupant as occupant_of};
 
 use image_bytes::ImageBytes;
-use vm_runner::Machine;
+use vm_runner::{Machine, Ranking};
 use vm_state::{ControlBlock, MachineState, SchedulingState};
 
 /// Whether a process is inside a monitor.
@@ -40,7 +40,7 @@ fn occupant_on(board: &MachineState, monitor: u16) -> Option<usize>
 }
 
 /// The process that is inside a monitor; `None` exactly where the monitor is free.
-pub fn occupant(machine: &Machine, monitor: u16) -> Option<usize>
+pub fn occupant(machine: &Machine<Ranking>, monitor: u16) -> Option<usize>
     ghost run: { Run }
     requires { StandsIn run.image run.script machine.now }
     ensures occupant { result ≡
@@ -63,7 +63,7 @@ fn monitor_word_on(image: &ImageBytes, board: &MachineState, monitor: u16, word:
 }
 
 /// The word with this number, from 0, of those of a monitor.
-pub fn monitor_word(image: &ImageBytes, machine: &Machine, monitor: u16, word: usize) -> i32
+pub fn monitor_word(image: &ImageBytes, machine: &Machine<Ranking>, monitor: u16, word: usize) -> i32
     ghost run: { Run }
     requires image { run.image ≡ image.now.image }
     requires stands { StandsIn run.image run.script machine.now }

@@ -15,7 +15,7 @@ use crate::{monitor_word, occupant, put_monitor, put_process, view, word};
 use image_bytes::ImageBytes;
 use std::alloc::{AllocError, Global};
 use syntax_tree::Text;
-use vm_runner::Machine;
+use vm_runner::{Machine, Ranking};
 use vm_state::DecodedImage;
 
 /// How many words are shown at most.
@@ -42,7 +42,7 @@ fn shown_of_monitor(image: &ImageBytes, monitor: u16) -> usize
 /// The first words of a process, so many.
 fn words_of_process(
     alloc: Global,
-    machine: &Machine,
+    machine: &Machine<Ranking>,
     process: usize,
     count: usize,
 ) -> Result<Vec<i32>, AllocError>
@@ -64,7 +64,7 @@ fn words_of_process(
 fn words_of_monitor(
     alloc: Global,
     image: &ImageBytes,
-    machine: &Machine,
+    machine: &Machine<Ranking>,
     monitor: u16,
     count: usize,
 ) -> Result<Vec<i32>, AllocError>
@@ -89,7 +89,7 @@ fn put_one_process(
     text: &mut Text,
     image: &ImageBytes,
     plan: &DecodedImage,
-    machine: &Machine,
+    machine: &Machine<Ranking>,
     process: u16,
 ) -> Result<(), AllocError>
     ghost run: { Run }
@@ -113,7 +113,7 @@ fn put_one_monitor(
     alloc: Global,
     text: &mut Text,
     image: &ImageBytes,
-    machine: &Machine,
+    machine: &Machine<Ranking>,
     monitor: u16,
 ) -> Result<(), AllocError>
     ghost run: { Run }
@@ -137,7 +137,7 @@ fn put_processes(
     text: &mut Text,
     image: &ImageBytes,
     plan: &DecodedImage,
-    machine: &Machine,
+    machine: &Machine<Ranking>,
 ) -> Result<(), AllocError>
     ghost run: { Run }
     requires image { run.image ≡ image.now.image }
@@ -159,7 +159,7 @@ fn put_monitors(
     alloc: Global,
     text: &mut Text,
     image: &ImageBytes,
-    machine: &Machine,
+    machine: &Machine<Ranking>,
 ) -> Result<(), AllocError>
     ghost run: { Run }
     requires image { run.image ≡ image.now.image }
@@ -181,7 +181,7 @@ pub(crate) fn put_state(
     text: &mut Text,
     image: &ImageBytes,
     plan: &DecodedImage,
-    machine: &Machine,
+    machine: &Machine<Ranking>,
 ) -> Result<(), AllocError>
     ghost run: { Run }
     requires image { run.image ≡ image.now.image }
