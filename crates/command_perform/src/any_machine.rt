@@ -9,7 +9,7 @@ ghost use Rattle.vm_state.specs.Plan.{IsOf};
 ghost use Rattle.command_perform.specs.Ready.{IsByDeadlines, IsByRanks, IsCourseOf};
 
 use command_answers::{Dispatch, PreparedRun};
-use edf_machine::Deadlines;
+use edf_machine::{Deadlines, machine_by_deadlines};
 use image::RawProcess;
 use outside::Sink;
 use std::alloc::{AllocError, Global};
@@ -39,7 +39,7 @@ fn by_ranks(
     requires can { CanRun run.now }
     ensures { IfOk result (λ machine. IsByRanks run.now machine) }
 {
-    Machine::new(alloc, plan, &run.script, Ranking::new())
+    Machine::by_ranks(alloc, plan, &run.script)
 }
 
 /// The deadline of each process in ticks; an error says that memory is short.
@@ -68,8 +68,7 @@ fn by_deadlines(
     ensures { IfOk result (λ machine. IsByDeadlines run.now machine) }
 {
     let deadlines = deadlines_of(alloc, run.image.processes.as_slice())?;
-    let dispatch = Deadlines::new(alloc, deadlines.as_slice())?;
-    Machine::new(alloc, plan, &run.script, dispatch)
+    machine_by_deadlines(alloc, plan, deadlines.as_slice(), &run.script)
 }
 
 /// Runs by ranks to the end of the script, and puts the log, one put a line. After a failed put

@@ -11,7 +11,7 @@ ghost use Rattle.vm_state.specs.Plan.{IsOf};
 ghost use Rattle.image_loaded.specs.Ready.{CanBeRun, IsReady, run_log};
 
 use crate::{EdfImage, Shape};
-use edf_machine::Deadlines;
+use edf_machine::{Deadlines, machine_by_deadlines};
 use edf_machine::runnable_law::{waitless_runs_are_runnable, waitless_runs_have_lines};
 use outside::Sink;
 use script::Script;
@@ -49,8 +49,7 @@ fn machine_of(
         StandsIn image.now.image (script_of script.now) machine) }
 {
     let deadlines = deadlines_of(alloc, image.shape())?;
-    let dispatch = Deadlines::new(alloc, deadlines.as_slice())?;
-    Machine::new(alloc, plan, script, dispatch)
+    machine_by_deadlines(alloc, plan, deadlines.as_slice(), script)
 }
 
 /// Runs to the end of the script, and puts the log, one put a line. After a failed put nothing more
