@@ -8,7 +8,7 @@ ghost use Rattle.vm_state.specs.Plan.{IsOf};
 ghost use Rattle.command_perform.specs.Ready.{IsByDeadlines, IsByRanks, IsCourseOf};
 
 use command_answers::{PreparedRun, RunnableImage};
-use edf_machine::Deadlines;
+use edf_machine::{Deadlines, machine_by_deadlines};
 use image_bytes::ImageBytes;
 use outside::Sink;
 use std::alloc::{AllocError, Global};
@@ -38,7 +38,7 @@ fn by_ranks(
     requires can { CanRun run.now }
     ensures { IfOk result (λ machine. IsByRanks run.now machine) }
 {
-    Machine::new(alloc, plan, &run.script, Ranking::new())
+    Machine::by_ranks(alloc, plan, &run.script)
 }
 
 /// The deadline of each process in ticks; an error says that memory is short.
@@ -68,8 +68,7 @@ fn by_deadlines(
     ensures { IfOk result (λ machine. IsByDeadlines run.now machine) }
 {
     let deadlines = deadlines_of(alloc, run.image.image())?;
-    let dispatch = Deadlines::new(alloc, deadlines.as_slice())?;
-    Machine::new(alloc, plan, &run.script, dispatch)
+    machine_by_deadlines(alloc, plan, deadlines.as_slice(), &run.script)
 }
 
 /// Runs by ranks to the end of the script, and puts the log, one put a line. After a failed put

@@ -1,16 +1,22 @@
 //! Earliest deadline first, as the dispatch of a machine.
 
-ghost use Rattle.std.specs.Prelude.{IfOk};
-ghost use Rattle.machine_semantics.specs.Image.{Image, Script};
+ghost use Rattle.std.specs.Prelude.{◌≡◌, IfOk};
+ghost use Rattle.vm_releases.specs.Begin.{script_of};
+ghost use Rattle.vm_state.specs.Plan.{IsOf};
 ghost use Rattle.vm_runner.specs.Dispatching.{Before};
+ghost use Rattle.vm_runner.specs.Setup.{IsSetUp};
+ghost use Rattle.vm_runner.specs.Turn.{Run};
 ghost use Rattle.edf_machine.specs.ByDeadlines.{Knows};
 ghost use Rattle.edf_machine.specs.Marks.{HasDeadlines};
+ghost use Rattle.edf_machine.specs.Runnable.{IsRunnable};
+ghost use Rattle.edf_machine.specs.Standing.{StandsIn};
 
 use crate::choice::choose;
 use crate::marks::{DeadlineState, first_marks, mark_begun, mark_releases, note_idle};
 use base::Event;
+use script::Script;
 use std::alloc::{AllocError, Global};
-use vm_runner::Dispatch;
+use vm_runner::{Dispatch, Machine, Setup};
 use vm_state::{DecodedImage, MachineState};
 
 /// By process when its activation is due, and whether it has had a tick.
@@ -23,8 +29,8 @@ impl Deadlines {
     /// What is known before the first tick, given the deadline of each process in ticks. An error
     /// says that memory is short.
     pub fn new(alloc: Global, deadlines: &[u32]) -> Result<Deadlines, AllocError>
-        ensures { IfOk result (λ known. (image : Image) (script : Script) →
-            HasDeadlines image deadlines.now → Knows image script (Before 0) known) }
+        ensures { IfOk result (λ known. (run : Run) → HasDeadlines run.image deadlines.now →
+            Knows run.image run.script (Before 0) known) }
     {
         Ok(Deadlines {
             marks: first_marks(alloc, deadlines)?,
@@ -34,7 +40,6 @@ impl Deadlines {
 
 impl Dispatch for Deadlines {
     ghost use Rattle.edf_machine.specs.ByDeadlines.{deadlines};
-    ghost use Rattle.edf_machine.specs.Runnable.{IsRunnable};
 
     ghost behaviour = { deadlines };
 
@@ -75,4 +80,37 @@ impl Dispatch for Deadlines {
     }
 
     fn goes_by_steps() {}
+}
+
+/// The machine that knows what is known before the first tick.
+fn machine_of(setup: Setup, dispatch: Deadlines) -> Machine<Deadlines>
+    ghost run: { Run }
+    requires runnable { IsRunnable run.image run.script }
+    requires setup { IsSetUp run.image run.script setup }
+    requires knows { Knows run.image run.script (Before 0) dispatch }
+    ensures start { result.tick ≡ 0 }
+    ensures stands { StandsIn run.image run.script result }
+{
+    Machine::new(setup, dispatch)
+}
+
+/// A machine under earliest deadline first before tick 0 of the run, given the deadline of each
+/// process in ticks. It takes all the memory that the run needs; an error says that memory is short.
+pub fn machine_by_deadlines(
+    alloc: Global,
+    plan: &DecodedImage,
+    deadlines: &[u32],
+    script: &Script,
+) -> Result<Machine<Deadlines>, AllocError>
+    ghost run: { Run }
+    requires plan { IsOf run.image plan.now }
+    requires script { run.script ≡ script_of script.now }
+    requires deadlines { HasDeadlines run.image deadlines.now }
+    requires runnable { IsRunnable run.image run.script }
+    ensures start { IfOk result (λ machine. machine.tick ≡ 0) }
+    ensures stands { IfOk result (λ machine. StandsIn run.image run.script machine) }
+{
+    let setup = Setup::new(alloc, plan, script)?;
+    let dispatch = Deadlines::new(alloc, deadlines)?;
+    Ok(machine_of(setup, dispatch))
 }

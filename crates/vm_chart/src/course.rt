@@ -42,7 +42,7 @@ impl Course {
           column = 0;
         }) course) }
     {
-        let machine = Machine::new(alloc, plan, script, Ranking::new())?;
+        let machine = Machine::by_ranks(alloc, plan, script)?;
         let traces = traces_of(alloc, plan.processes.len())?;
         Ok(Course { machine, traces })
     }

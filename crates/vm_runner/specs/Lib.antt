@@ -4,6 +4,7 @@ pub mod Course
 pub mod Dispatching
 pub mod Turn
 pub mod ByRanks
+pub mod Setup
 pub mod Standing
 pub mod Ends
 pub mod Completing

@@ -1,6 +1,6 @@
 //! Turns by ranks, one at a time.
 
-ghost use Rattle.std.specs.Prelude.{◌≡◌, ◌≢◌, ◌≤◌, ◌<◌, ◌↔◌, [], min};
+ghost use Rattle.std.specs.Prelude.{◌≡◌, ◌≢◌, ◌≤◌, ◌<◌, ◌↔◌, [], IfOk, min};
 ghost use Rattle.machine_semantics.specs.Image.{Image};
 ghost use Rattle.vm_releases.specs.Begin.{script_of};
 ghost use Rattle.vm_state.specs.Plan.{IsOf};
@@ -15,13 +15,32 @@ ghost use Rattle.vm_runner.specs.Turn.{Run};
 use crate::completing::completed_of;
 use crate::span::span;
 use crate::turn::{Reach, take_ticks};
-use crate::{Machine, Progress, Ranking};
+use crate::{Machine, Progress, Ranking, Setup};
 use script::Script;
+use std::alloc::{AllocError, Global};
 use vm_state::DecodedImage;
 use vm_stretch::Completed;
 use vm_turn::choose;
 
 impl Machine<Ranking> {
+    /// A machine by ranks before tick 0 of the run. It takes all the memory that the run needs; an
+    /// error says that memory is short.
+    pub fn by_ranks(
+        alloc: Global,
+        plan: &DecodedImage,
+        script: &Script,
+    ) -> Result<Machine<Ranking>, AllocError>
+        ghost run: { Run }
+        requires plan { IsOf run.image plan.now }
+        requires script { run.script ≡ script_of script.now }
+        requires runnable { IsRunnable run.image run.script }
+        ensures start { IfOk result (λ machine. machine.tick ≡ 0) }
+        ensures stands { IfOk result (λ machine. StandsIn run.image run.script machine) }
+    {
+        let setup = Setup::new(alloc, plan, script)?;
+        Ok(Machine::new(setup, Ranking::new()))
+    }
+
     /// The rest of a turn that is begun, up to the limit at most: the instruction whose effect came
     /// in its last tick, if there was one.
     #[inline(always)]

@@ -13,7 +13,7 @@ use vm_state::{DecodedImage, MachineState};
 ///
 /// `behaviour` says how the run of an image under a script goes by it, `CanRun` which runs it takes,
 /// and `Knows` what it has to know as a run goes on (`specs/Dispatching.antt`). No call takes memory.
-pub trait Dispatch: Drop {
+pub trait Dispatch {
     ghost behaviour: { Image → Script → Behaviour };
 
     ghost CanRun: { Image → Script → Type 0 };

@@ -10,9 +10,9 @@
 //! chosen from row to row (`specs/Ranking.antt`). By ranks `advance` takes one turn, up to
 //! `IsTurnEnd` of `specs/Ends.antt`, and `follow` tells the instruction that it completed.
 //!
-//! `Machine::new` takes the plan that is the image's (`IsOf` of `vm_state`), and asks that its
-//! dispatch can take the run: by ranks it is runnable (`specs/Runnable.antt`), which the runs of
-//! valid images are. Nothing else takes memory.
+//! `Machine::new` takes what `Setup` made of the plan that is the image's (`IsOf` of `vm_state`), and
+//! asks that its dispatch can take the run: by ranks (`Machine::by_ranks`) it is runnable
+//! (`specs/Runnable.antt`), which the runs of valid images are. Nothing else takes memory.
 #![tactic(auto)]
 
 mod advance;
@@ -20,6 +20,7 @@ mod completing;
 mod dispatch;
 mod machine;
 mod ranking;
+mod setup;
 mod span;
 mod turn;
 mod waits;
@@ -27,3 +28,4 @@ mod waits;
 pub use dispatch::Dispatch;
 pub use machine::{Machine, Progress};
 pub use ranking::Ranking;
+pub use setup::Setup;

@@ -1,6 +1,6 @@
 //! The machine over whole runs.
 
-ghost use Rattle.std.specs.Prelude.{◌≡◌, ◌≢◌, ◌≤◌, ◌<◌, ◌↔◌, ◌++◌, [], IfOk, Some, true};
+ghost use Rattle.std.specs.Prelude.{◌≡◌, ◌≢◌, ◌≤◌, ◌<◌, ◌↔◌, ◌++◌, [], Some, true};
 ghost use Rattle.arrayvec.specs.ArrayVec.{array_vec_len};
 ghost use Rattle.vm_stretch.specs.Due.{least};
 ghost use Rattle.machine_semantics.specs.Image.{Image};
@@ -8,15 +8,15 @@ ghost use Rattle.vm_releases.specs.Begin.{script_of};
 ghost use Rattle.vm_state.specs.Plan.{IsOf};
 ghost use Rattle.vm_runner.specs.Course.{course, events_between};
 ghost use Rattle.vm_runner.specs.Dispatching.{Before, Between};
+ghost use Rattle.vm_runner.specs.Setup.{IsSetUp};
 ghost use Rattle.vm_runner.specs.Standing.{Begins, Stands};
 ghost use Rattle.vm_runner.specs.Turn.{Run};
 
-use crate::Dispatch;
 use crate::span::span;
 use crate::turn::{Reach, take_ticks};
+use crate::{Dispatch, Setup};
 use base::Event;
 use script::Script;
-use std::alloc::{AllocError, Global};
 use vm_releases::Timers;
 use vm_state::{DecodedImage, EventBuffer, MOST, MachineState};
 
@@ -43,31 +43,23 @@ pub struct Machine<D> {
 }
 
 impl<D: Dispatch> Machine<D> {
-    /// A machine before tick 0 of the run. It takes all the memory that the run needs; an error
-    /// says that memory is short.
-    pub fn new(
-        alloc: Global,
-        plan: &DecodedImage,
-        script: &Script,
-        dispatch: D,
-    ) -> Result<Machine<D>, AllocError>
-        ghost image: { Image }
-        requires plan { IsOf image plan.now }
-        requires runnable { D.CanRun image (script_of script.now) }
-        requires knows { D.Knows image (script_of script.now) (Before 0) dispatch }
-        ensures start { IfOk result (λ machine. machine.tick ≡ 0) }
-        ensures stands { IfOk result (λ machine.
-            Stands D.behaviour D.Knows image (script_of script.now) Before machine) }
+    /// A machine before tick 0 of the run.
+    pub fn new(setup: Setup, dispatch: D) -> Machine<D>
+        ghost run: { Run }
+        requires runnable { D.CanRun run.image run.script }
+        requires setup { IsSetUp run.image run.script setup }
+        requires knows { D.Knows run.image run.script (Before 0) dispatch }
+        ensures start { result.tick ≡ 0 }
+        ensures stands { Stands D.behaviour D.Knows run.image run.script Before result }
     {
         D::goes_by_steps();
-        let board = MachineState::new(alloc, plan)?;
-        Ok(Machine {
+        Machine {
             tick: 0,
-            board,
-            agenda: Timers::new(alloc, plan, script)?,
+            board: setup.board,
+            agenda: setup.agenda,
             fired: EventBuffer::new(),
             dispatch,
-        })
+        }
     }
 
     /// The start events of the tick, before the script's end. The turn is begun; up to its end the

@@ -52,7 +52,7 @@ impl Course {
         ensures start { IfOk result (λ course. course.machine.tick ≡ 0) }
         ensures follows { IfOk result (Follows image (script_of script.now)) }
     {
-        let machine = Machine::new(alloc, plan, script, Ranking::new())?;
+        let machine = Machine::by_ranks(alloc, plan, script)?;
         let recent = HeapCircularBuffer::with_capacity(alloc, SHOWN_EVENTS)?;
         Ok(Course { machine, recent })
     }

@@ -8,7 +8,9 @@ use Rattle.edf_machine.proofs.Marking.{first_are}
 use Rattle.edf_machine.proofs.deadlines.Deadlines.new.Goals as goal
 
 pub returns : goal.returns
-returns c image script has =
+returns c run has =
+    let image = run.image in
+    let script = run.script in
     let at = at_start_is image script in
     subst (λ (ks : List Kept). AreMarks image ks (state_at image script 0).marks) (sym c.in_ok-first_marks.ensures)
     (subst (λ (ms : List Mark). AreMarks image (map first_kept c.args.deadlines.now) ms) (sym (ap (λ (x : Marked). x.marks) at)) (first_are image c.args.deadlines.now has))
