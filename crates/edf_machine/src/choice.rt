@@ -152,7 +152,11 @@ fn taken(sight: Candidates) -> Option<usize>
 /// alike the one of the less rank, if its activation has had a tick, or no monitor is occupied, or
 /// its rank is below the least ceiling of those that are; else the first in this order whose
 /// activation has had a tick. `None` where there is none.
-pub(crate) fn choose(plan: &DecodedImage, board: &MachineState, marks: &[DeadlineState]) -> Option<usize>
+pub(crate) fn choose(
+    plan: &DecodedImage,
+    board: &MachineState,
+    marks: &[DeadlineState],
+) -> Option<usize>
     requires { (image : Image) × (known : List Mark) × IsOf image plan.now ×
         IsBoardOf image board.now × AreMarks image marks.now known }
     ensures { (image : Image) (known : List Mark) → IsOf image plan.now →

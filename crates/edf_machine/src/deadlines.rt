@@ -76,8 +76,7 @@ impl Dispatch for Deadlines {
         _board: &MachineState,
         _who: usize,
         _events: &[Event],
-    ) {
-    }
+    ) {}
 
     fn goes_by_steps() {}
 }

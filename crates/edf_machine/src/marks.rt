@@ -27,7 +27,10 @@ pub(crate) struct DeadlineState {
 
 /// By process its mark before the first tick, of its deadline in ticks. An error says that memory
 /// is short.
-pub(crate) fn first_marks(alloc: Global, deadlines: &[u32]) -> Result<Vec<DeadlineState>, AllocError>
+pub(crate) fn first_marks(
+    alloc: Global,
+    deadlines: &[u32],
+) -> Result<Vec<DeadlineState>, AllocError>
     ensures { IfOk result (λ marks. marks.items ≡ map first_kept deadlines.now) }
 {
     let mut marks = Vec::with_capacity(alloc, deadlines.len())?;

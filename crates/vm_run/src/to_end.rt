@@ -37,10 +37,12 @@ pub fn run<D: Dispatch, O: Sink>(
     requires lines { All (AreIn names.now)
         (coming (course D.behaviour image (script_of script.now)) machine.old.tick) }
     ensures whole { OnOk result (Appends (O.state out.old).taken (O.state out.new).taken
-        (log_to_come (course D.behaviour image (script_of script.now)) names.now machine.old.tick)) }
+        (log_to_come (course D.behaviour image (script_of script.now))
+        names.now machine.old.tick)) }
     ensures end { OnOk result (machine.new.tick ≡ script.now.end) }
     ensures front { OnErr result (AppendsFront (O.state out.old).taken (O.state out.new).taken
-        (log_to_come (course D.behaviour image (script_of script.now)) names.now machine.old.tick)) }
+        (log_to_come (course D.behaviour image (script_of script.now))
+        names.now machine.old.tick)) }
     // a put failed, so there was a line to put
     ensures some { OnErr result (log_to_come (course D.behaviour image (script_of script.now))
         names.now machine.old.tick ≢ []) }

@@ -63,7 +63,12 @@ fn monitor_word_on(image: &ImageBytes, board: &MachineState, monitor: u16, word:
 }
 
 /// The word with this number, from 0, of those of a monitor.
-pub fn monitor_word(image: &ImageBytes, machine: &Machine<Ranking>, monitor: u16, word: usize) -> i32
+pub fn monitor_word(
+    image: &ImageBytes,
+    machine: &Machine<Ranking>,
+    monitor: u16,
+    word: usize,
+) -> i32
     ghost run: { Run }
     requires image { run.image ≡ image.now.image }
     requires stands { StandsIn run.image run.script machine.now }

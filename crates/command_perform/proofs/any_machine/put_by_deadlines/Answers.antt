@@ -1,3 +1,4 @@
+use contract.BorrowLft.{⊑_static}
 use Rattle.std.proofs.Common.{◌≢◌, [], List, ℕ, OnOk, OnErr, subst, sym}
 use Rattle.outside.specs.Outside.{Appends, AppendsFront}
 use Rattle.machine_semantics.specs.Image.{Image}
@@ -13,12 +14,15 @@ run-requires g c = λ κs lives.
     let ready = c.requires.1.1.1 in
     let machine = c.args.machine.now in
     let run = c.args.run.now in (
-      lives,
+      ⊑_static _,
       (
-        c.requires.1.1.0,
+        lives,
         (
+          c.requires.1.1.0,
+          (
           is_runnable run g.image same ready.can,
           (subst (λ (image : Image). StandsIn image (script_of run.script) machine) (sym same) ready.stands, lines_first run g.image same c.names.result.now machine.tick (called c.names.ensures c.image.ensures) ready.can ready.start),
+          ),
         ),
       ),
     )
