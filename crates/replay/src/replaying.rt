@@ -15,6 +15,7 @@ use crate::nesting::levels;
 use crate::{judge, ranks_of, start};
 use base::Event;
 use built_image_law::premises_of_laws::checked_programs_are_ready;
+use replay_calls::NumberedConditions;
 use replay_reason_spec::Finding;
 use replay_state::Ranks;
 use script::Script;
@@ -43,7 +44,8 @@ fn judged<'a, 'b: 'a>(
         (said script.now.lines script.now.end) (start_of (plain (placed declarations.now)))
         events.now) }
 {
-    let mut running = start(alloc, declarations, ranks)?;
+    let conditions = NumberedConditions::new(alloc, declarations)?;
+    let mut running = start(alloc, &conditions, ranks)?;
     judge(&mut running, script, events)
 }
 
