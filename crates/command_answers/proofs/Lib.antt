@@ -3,3 +3,4 @@ pub mod Coming
 pub mod Held
 pub mod Judged
 pub mod Trying
+pub mod ValidImages

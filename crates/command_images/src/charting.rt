@@ -10,7 +10,7 @@ ghost use Rattle.command_answers.specs.Acting.{IsQuiet};
 ghost use Rattle.command_answers.specs.Contents.{IsContent};
 ghost use Rattle.command_answers.specs.Prepared.{IsReadError, Prepares};
 ghost use Rattle.command_answers.specs.Tried.{HasTried, status_of};
-ghost use Rattle.command_answers.specs.Runnable.{IsRunnable, RunsRaw};
+ghost use Rattle.command_answers.specs.Acts.{CanRunByRanks};
 ghost use Rattle.command_images.specs.Charted.{IsDrawnDue, IsDrawnOver};
 ghost use Rattle.command_refusals.specs.Refusals.{Explains, IsExplained};
 ghost use Rattle.command_refusals.specs.Told.{IsScriptTold};
@@ -18,31 +18,32 @@ ghost use Rattle.command_refusals.specs.Told.{IsScriptTold};
 use crate::images::{load_content, refuse_image};
 use command_answers::{
     Content, LONGEST_IMAGE, LONGEST_SCRIPT, PrepareError, PreparedCall, Status, judge_script, put,
-    read,
+    read, valid_images_can_be_run,
 };
 use command_refusals::refuse_script;
-use image::RawImage;
+use image_loaded::Image;
 use outside::Files;
 use script::Script;
 use std::alloc::{AllocError, Global};
 use syntax_tree::Text;
 use vm_chart::chart;
-use vm_plan::plan::plan_of;
+use vm_plan::plan_of;
 
 /// The act that puts the chart of the run of an image over a script.
 fn put_drawn<'a>(
     alloc: Global,
-    raw: &RawImage,
+    image: &Image,
     script: &Script,
     first: u64,
     end: u64,
 ) -> Result<PreparedCall<'a>, AllocError>
-    requires { RunsRaw raw.now script.now }
-    ensures told { IfOk result (λ act. IsDrawnOver first end raw.now script.now (outcome_of act)) }
+    requires { CanRunByRanks image.now script.now }
+    ensures told { IfOk result (λ act. IsDrawnOver first end image.now script.now (outcome_of act)) }
     ensures quiet { IfOk result IsQuiet }
 {
-    let plan = plan_of(alloc, raw)?;
-    let text = chart(alloc, raw, &plan, script, first, end)?;
+    let image = image.image();
+    let plan = plan_of(alloc, image)?;
+    let text = chart(alloc, image, &plan, script, first, end)?;
     Ok(put(Status::Done, text))
 }
 
@@ -51,21 +52,21 @@ fn chart_act<'a>(
     alloc: Global,
     message: &mut Text,
     file: &str,
-    raw: &RawImage,
+    image: &Image,
     content: &Content,
     first: u64,
     end: u64,
 ) -> Result<PreparedCall<'a>, AllocError>
-    requires { IsRunnable raw.now }
     ensures due { IfOk result (λ act. (text : List ℕ) → IsContent longest_text content.now text →
-        IsDrawnDue first end raw.now text (outcome_of act)) }
+        IsDrawnDue first end image.now text (outcome_of act)) }
     ensures quiet { IfOk result IsQuiet }
     ensures told { IfOk result (λ act. (text : List ℕ) → IsContent longest_text content.now text →
-        Explains (IsScriptTold raw.now.names file.now text (outcome_of act) message.new) act) }
+        Explains (IsScriptTold image.now.names file.now text (outcome_of act) message.new) act) }
 {
-    match judge_script(alloc, content, &raw.names) {
-        Ok(script) => put_drawn(alloc, raw, &script, first, end),
-        Err(fault) => refuse_script(alloc, message, file, content, &raw.names, &fault),
+    valid_images_can_be_run(image);
+    match judge_script(alloc, content, image.names()) {
+        Ok(script) => put_drawn(alloc, image, &script, first, end),
+        Err(fault) => refuse_script(alloc, message, file, content, image.names(), &fault),
     }
 }
 
@@ -74,16 +75,15 @@ fn chart_act<'a>(
 fn chart_on<'a, F: Files>(
     alloc: Global,
     message: &mut Text,
-    raw: &RawImage,
+    image: &Image,
     script: &'a str,
     first: u64,
     end: u64,
     files: &mut F,
 ) -> Result<PreparedCall<'a>, PrepareError<'a>>
-    requires { IsRunnable raw.now }
     ensures due { IfOk result (λ act. OnTrue F.tells
         (IsSomeAnd ((F.state files.old).held script.now)
-        (λ text. IsDrawnDue first end raw.now text (outcome_of act)))) }
+        (λ text. IsDrawnDue first end image.now text (outcome_of act)))) }
     ensures quiet { IfOk result IsQuiet }
     ensures failed { IfErr result
         (IsReadError script.now (F.state files.old) (F.state files.new)) }
@@ -96,10 +96,10 @@ fn chart_on<'a, F: Files>(
     ensures writes { (F.state files.new).writes ≡ (F.state files.old).writes }
     ensures told { IfOk result (λ act. OnTrue F.tells
         (IsSomeAnd ((F.state files.old).held script.now) (λ text. Explains
-        (IsScriptTold raw.now.names script.now text (outcome_of act) message.new) act))) }
+        (IsScriptTold image.now.names script.now text (outcome_of act) message.new) act))) }
 {
     let content = read(files, script, LONGEST_SCRIPT)?;
-    match chart_act(alloc, message, script, raw, &content, first, end) {
+    match chart_act(alloc, message, script, image, &content, first, end) {
         Ok(act) => Ok(act),
         Err(_) => Err(PrepareError::Memory),
     }
@@ -129,8 +129,8 @@ pub fn prepare_chart<'a, F: Files>(
         (F.state files.old).held message.new) }
 {
     let content = read(files, image, LONGEST_IMAGE)?;
-    match load_content(alloc, &content) {
-        Ok(raw) => chart_on(alloc, message, &raw, script, first, end, files),
+    match load_content(alloc, content) {
+        Ok(loaded) => chart_on(alloc, message, &loaded, script, first, end, files),
         Err(fault) => match refuse_image(alloc, message, image, fault) {
             Ok(act) => Ok(act),
             Err(_) => Err(PrepareError::Memory),

@@ -10,7 +10,7 @@ ghost use Rattle.command_answers.specs.Acting.{IsQuiet};
 ghost use Rattle.command_answers.specs.Contents.{IsContent};
 ghost use Rattle.command_answers.specs.Prepared.{IsReadError, Prepares};
 ghost use Rattle.command_answers.specs.Tried.{HasTried, status_of};
-ghost use Rattle.command_answers.specs.Runnable.{IsRunnable, RunsRaw};
+ghost use Rattle.command_answers.specs.Acts.{CanRunByRanks};
 ghost use Rattle.command_images.specs.Watched.{IsSeenDue, IsTold};
 ghost use Rattle.command_refusals.specs.Refusals.{Explains, IsExplained};
 ghost use Rattle.command_refusals.specs.Told.{IsScriptTold};
@@ -18,11 +18,11 @@ ghost use Rattle.command_refusals.specs.Told.{IsScriptTold};
 use crate::images::{load_content, refuse_image};
 use command_answers::{
     Content, LONGEST_IMAGE, LONGEST_SCRIPT, PrepareError, PreparedCall, Status, judge_script, put,
-    read,
+    read, valid_images_can_be_run,
 };
 use command_refusals::refuse_script;
 use command_words::Breakpoint;
-use image::RawImage;
+use image_loaded::Image;
 use outside::Files;
 use script::Script;
 use std::alloc::{AllocError, Global};
@@ -32,15 +32,15 @@ use vm_watch::watch;
 /// The act that puts the state of the run of an image over a script where it stops.
 fn put_seen<'a>(
     alloc: Global,
-    raw: &RawImage,
+    image: &Image,
     script: &Script,
     stop: Breakpoint,
 ) -> Result<PreparedCall<'a>, AllocError>
-    requires { RunsRaw raw.now script.now }
-    ensures told { IfOk result (λ act. IsTold stop raw.now script.now (outcome_of act)) }
+    requires { CanRunByRanks image.now script.now }
+    ensures told { IfOk result (λ act. IsTold stop image.now script.now (outcome_of act)) }
     ensures quiet { IfOk result IsQuiet }
 {
-    let text = watch(alloc, raw, script, stop)?;
+    let text = watch(alloc, image.image(), script, stop)?;
     Ok(put(Status::Done, text))
 }
 
@@ -49,20 +49,20 @@ fn watch_act<'a>(
     alloc: Global,
     message: &mut Text,
     file: &str,
-    raw: &RawImage,
+    image: &Image,
     content: &Content,
     stop: Breakpoint,
 ) -> Result<PreparedCall<'a>, AllocError>
-    requires { IsRunnable raw.now }
     ensures due { IfOk result (λ act. (text : List ℕ) → IsContent longest_text content.now text →
-        IsSeenDue stop raw.now text (outcome_of act)) }
+        IsSeenDue stop image.now text (outcome_of act)) }
     ensures quiet { IfOk result IsQuiet }
     ensures told { IfOk result (λ act. (text : List ℕ) → IsContent longest_text content.now text →
-        Explains (IsScriptTold raw.now.names file.now text (outcome_of act) message.new) act) }
+        Explains (IsScriptTold image.now.names file.now text (outcome_of act) message.new) act) }
 {
-    match judge_script(alloc, content, &raw.names) {
-        Ok(script) => put_seen(alloc, raw, &script, stop),
-        Err(fault) => refuse_script(alloc, message, file, content, &raw.names, &fault),
+    valid_images_can_be_run(image);
+    match judge_script(alloc, content, image.names()) {
+        Ok(script) => put_seen(alloc, image, &script, stop),
+        Err(fault) => refuse_script(alloc, message, file, content, image.names(), &fault),
     }
 }
 
@@ -71,15 +71,14 @@ fn watch_act<'a>(
 fn watch_on<'a, F: Files>(
     alloc: Global,
     message: &mut Text,
-    raw: &RawImage,
+    image: &Image,
     script: &'a str,
     stop: Breakpoint,
     files: &mut F,
 ) -> Result<PreparedCall<'a>, PrepareError<'a>>
-    requires { IsRunnable raw.now }
     ensures due { IfOk result (λ act. OnTrue F.tells
         (IsSomeAnd ((F.state files.old).held script.now)
-        (λ text. IsSeenDue stop raw.now text (outcome_of act)))) }
+        (λ text. IsSeenDue stop image.now text (outcome_of act)))) }
     ensures quiet { IfOk result IsQuiet }
     ensures failed { IfErr result
         (IsReadError script.now (F.state files.old) (F.state files.new)) }
@@ -92,10 +91,10 @@ fn watch_on<'a, F: Files>(
     ensures writes { (F.state files.new).writes ≡ (F.state files.old).writes }
     ensures told { IfOk result (λ act. OnTrue F.tells
         (IsSomeAnd ((F.state files.old).held script.now) (λ text. Explains
-        (IsScriptTold raw.now.names script.now text (outcome_of act) message.new) act))) }
+        (IsScriptTold image.now.names script.now text (outcome_of act) message.new) act))) }
 {
     let content = read(files, script, LONGEST_SCRIPT)?;
-    match watch_act(alloc, message, script, raw, &content, stop) {
+    match watch_act(alloc, message, script, image, &content, stop) {
         Ok(act) => Ok(act),
         Err(_) => Err(PrepareError::Memory),
     }
@@ -124,8 +123,8 @@ pub fn prepare_watch<'a, F: Files>(
         (F.state files.old).held message.new) }
 {
     let content = read(files, image, LONGEST_IMAGE)?;
-    match load_content(alloc, &content) {
-        Ok(raw) => watch_on(alloc, message, &raw, script, stop, files),
+    match load_content(alloc, content) {
+        Ok(loaded) => watch_on(alloc, message, &loaded, script, stop, files),
         Err(fault) => match refuse_image(alloc, message, image, fault) {
             Ok(act) => Ok(act),
             Err(_) => Err(PrepareError::Memory),

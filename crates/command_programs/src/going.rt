@@ -16,14 +16,13 @@ ghost use Rattle.command_refusals.specs.Refusals.{Explains, IsExplained};
 ghost use Rattle.command_refusals.specs.Told.{IsScriptTold};
 
 use crate::compile_content;
-use crate::programs::{Format, refuse};
+use crate::programs::{Format, refuse, report_and_image};
 use command_answers::{
-    Content, Dispatch, LONGEST_PROGRAM, LONGEST_SCRIPT, PrepareError, PreparedCall, PreparedRun,
-    Status, Store, judge_script, read,
+    Content, LONGEST_PROGRAM, LONGEST_SCRIPT, PrepareError, PreparedCall, PreparedRun,
+    RunnableImage, Status, Store, judge_script, read,
 };
 use command_refusals::refuse_script;
 use compile::Built;
-use image::write_image;
 use outside::Files;
 use script::Script;
 use std::alloc::{AllocError, Global};
@@ -35,24 +34,25 @@ fn run_built<'a>(
     alloc: Global,
     built: Built,
     script: Script,
-    image: &'a str,
+    target: &'a str,
 ) -> Result<PreparedCall<'a>, AllocError>
     requires ready { IsRunnableBuilt built }
     requires runs { RunsBuilt built script }
     ensures outcome { IfOk result (λ act. outcome_of act ≡ built_run built script) }
-    ensures done { IfOk result (CanBeDone (Some image.now)) }
+    ensures done { IfOk result (CanBeDone (Some target.now)) }
 {
-    let Built { image: raw, table } = built;
-    let text = sched_table::report(alloc, &raw.names, &raw.program, &table)?;
-    let bytes = write_image(alloc, &raw)?;
+    let (text, image) = report_and_image(alloc, built)?;
+    let bytes = Vec::from_slice(alloc, image.bytes())?;
     Ok(PreparedCall {
         status: Status::Done,
         text,
-        store: Some(Store { name: image, bytes }),
+        store: Some(Store {
+            name: target,
+            bytes,
+        }),
         run: Some(PreparedRun {
-            image: raw,
+            image: RunnableImage::Ranks(image),
             script,
-            dispatch: Dispatch::Ranks,
         }),
     })
 }

@@ -16,6 +16,8 @@ ghost use Rattle.command_refusals.specs.Told.{IsProgramTold, IsTextTold};
 ghost use Rattle.command_answers.specs.Prepared.{Prepares};
 ghost use Rattle.command_answers.specs.Tried.{HasTried, status_of};
 ghost use Rattle.command_programs.specs.Runnable.{CanBeShown, IsRunnableBuilt, Readies};
+ghost use Rattle.command_programs.specs.Scripted.{report_on};
+ghost use Rattle.image.specs.Raw.{named_of};
 
 use crate::{compile_content, read_content, slack_text};
 use command_answers::{
@@ -23,7 +25,8 @@ use command_answers::{
 };
 use command_refusals::refuse_text;
 use compile::{Built, CompileFault, ProgramTextFault};
-use image::{ImageNames, write_image};
+use image::ImageNames;
+use image_loaded::Image;
 use message_program::late_message;
 use outside::Files;
 use sched_table::Table;
@@ -181,25 +184,39 @@ fn print_act<'a>(
     }
 }
 
+/// The report on a program that is timely, and its image.
+pub(crate) fn report_and_image(alloc: Global, built: Built) -> Result<(Text, Image), AllocError>
+    requires { IsRunnableBuilt built }
+    ensures report { IfOk result (λ made. made.0 ≡ report_on built) }
+    ensures image { IfOk result (λ made. made.1 ≡ named_of built.image) }
+{
+    let Built { image: raw, table } = built;
+    let text = sched_table::report(alloc, &raw.names, &raw.program, &table)?;
+    let image = Image::of_valid(alloc, raw)?;
+    Ok((text, image))
+}
+
 /// The act that stores the image of a program that is timely, and puts the report.
 fn store_built<'a>(
     alloc: Global,
-    built: &Built,
-    image: &'a str,
+    built: Built,
+    target: &'a str,
 ) -> Result<PreparedCall<'a>, AllocError>
-    requires { IsRunnableBuilt built.now }
+    requires { IsRunnableBuilt built }
     ensures due { IfOk result (λ act. (over : ℕ) (text : List ℕ) →
-        Compiles over text (Ok built.now) → IsCompileDue over text (outcome_of act)) }
-    ensures done { IfOk result (CanBeDone (Some image.now)) }
+        Compiles over text (Ok built) → IsCompileDue over text (outcome_of act)) }
+    ensures done { IfOk result (CanBeDone (Some target.now)) }
     ensures succeeds { IfOk result (λ act. number_of act.status ≡ 0) }
 {
-    let raw = &built.image;
-    let text = sched_table::report(alloc, &raw.names, &raw.program, &built.table)?;
-    let bytes = write_image(alloc, raw)?;
+    let (text, image) = report_and_image(alloc, built)?;
+    let bytes = Vec::from_slice(alloc, image.bytes())?;
     Ok(PreparedCall {
         status: Status::Done,
         text,
-        store: Some(Store { name: image, bytes }),
+        store: Some(Store {
+            name: target,
+            bytes,
+        }),
         run: None,
     })
 }
@@ -221,7 +238,7 @@ fn compile_act<'a>(
         Explains (IsProgramTold over file.now text (outcome_of act) message.new) act) }
 {
     match compile_content(alloc, content, over) {
-        Ok(built) => store_built(alloc, &built, image),
+        Ok(built) => store_built(alloc, built, image),
         Err(fault) => refuse(alloc, message, file, content, over, Format::Text, fault),
     }
 }

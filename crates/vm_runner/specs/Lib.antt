@@ -1,6 +1,9 @@
 pub mod Waits
 pub mod Runnable
+pub mod Course
+pub mod Dispatching
 pub mod Turn
+pub mod ByRanks
 pub mod Standing
 pub mod Ends
 pub mod Completing

@@ -1,6 +1,6 @@
-use Rattle.std.proofs.Common.{◌≡◌, ℕ, List, map, subst, sym}
+use Rattle.std.proofs.Common.{ℕ, List, subst, sym}
 use Rattle.edf_machine.specs.Marks.{HasDeadlines}
-use Rattle.image.specs.declared.raw.RawProcess.{RawProcess}
+use Rattle.vm_releases.specs.Begin.{script_of}
 use Rattle.command_perform.proofs.Earliest.{can_by_deadlines, has_deadlines, is_runnable, made_by_deadlines}
 use Rattle.command_perform.proofs.any_machine.by_deadlines.Goals as goal
 
@@ -9,10 +9,9 @@ new-requires g c =
     let run = c.args.run.now in
     let deadlines = c.in_ok-deadlines.deadlines.items in
     let can = can_by_deadlines run c.requires.1.1.0 c.requires.1.1.1 in
-    let taken = subst (λ (ps : List RawProcess). deadlines ≡ map (λ (p : RawProcess). p.deadline) ps) c.as_slice.ensures c.in_ok-deadlines.ensures in (
-      c.requires.1.0,
-      (subst (λ (ds : List ℕ). HasDeadlines g.image ds) (sym c.as_slice-2.ensures.value) (has_deadlines run g.image c.requires.0 deadlines taken), is_runnable run g.image c.requires.0 can),
-    )
+    let has = has_deadlines run g.image c.requires.0 c.image.result.now deadlines c.image.ensures c.in_ok-deadlines.ensures in
+    let knows = c.in_ok-dispatch.ensures g.image (script_of run.script) (subst (λ (ds : List ℕ). HasDeadlines g.image ds) (sym c.as_slice.ensures.value) has) in
+    λ κs lives. (lives, (c.requires.1.0, (is_runnable run g.image c.requires.0 can, knows)))
 
 pub returns : goal.returns
 returns g c =

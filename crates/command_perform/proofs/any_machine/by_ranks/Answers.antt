@@ -4,10 +4,8 @@ use Rattle.command_perform.proofs.any_machine.by_ranks.Goals as goal
 pub new-requires : goal.new-requires
 new-requires g c =
     let run = c.args.run.now in
-    let can = can_by_ranks run c.requires.1.1.0 c.requires.1.1.1 in (
-      c.requires.1.0,
-      is_runnable run g.image c.requires.0 can,
-    )
+    let can = can_by_ranks run c.requires.1.1.0 c.requires.1.1.1 in
+    λ κs lives. (lives, (c.requires.1.0, (is_runnable run g.image c.requires.0 can, tt)))
 
 pub returns : goal.returns
 returns g c =
