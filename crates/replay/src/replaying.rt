@@ -16,6 +16,7 @@ use crate::nesting::levels;
 use crate::{judge, ranks_of, start};
 use built_image_law::premises_of_laws::checked_programs_are_ready;
 use event_log::{LogFault, LogReader};
+use replay_calls::NumberedConditions;
 use replay_reason_spec::Finding;
 use replay_state::Ranks;
 use script::Script;
@@ -48,7 +49,8 @@ fn judged<'a, 'b: 'a>(
     ensures fault { IfErr result (λ why. (log : List ℕ) → HasRead log [] reader.old →
         IsFaultOf (names_of reader.old) log why) }
 {
-    let mut running = start(alloc, declarations, ranks)?;
+    let conditions = NumberedConditions::new(alloc, declarations)?;
+    let mut running = start(alloc, &conditions, ranks)?;
     judge(&mut running, script, reader)
 }
 
