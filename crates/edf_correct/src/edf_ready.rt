@@ -2,8 +2,8 @@
 //! whose demand is met.
 //!
 //! `specs/Ready.antt` has it: the image has a plan, each run over a script that is written for its
-//! names is one that the machine takes by `Deadlines` of `edf_machine`, and each event of such a run
-//! has a line in the log. Nothing here can run.
+//! names is one that the machine takes by `Deadlines` of `edf_machine`, and each event of such a
+//! run has a line in the log. Nothing here can run.
 //!
 //! The laws.
 

@@ -1,7 +1,8 @@
 //! Which process runs.
 
 ghost use Rattle.std.specs.Prelude.{◌≡◌, List, false, map, true};
-ghost use Rattle.edf_semantics.specs.Choice.{Mark, choose, is_sooner, lesser, may_go, place_of, sooner_of, taken, with_inside};
+ghost use Rattle.edf_semantics.specs.Choice.{Mark, choose, is_sooner, lesser, may_go, place_of};
+ghost use Rattle.edf_semantics.specs.Choice.{sooner_of, taken, with_inside};
 ghost use Rattle.machine_semantics.specs.Image.{Image, Monitor};
 ghost use Rattle.vm_state.specs.Board.{IsBoardOf, state_of};
 ghost use Rattle.vm_state.specs.Plan.{IsOf};

@@ -94,7 +94,8 @@ fn machine_of(setup: Setup, dispatch: Deadlines) -> Machine<Deadlines>
 }
 
 /// A machine under earliest deadline first before tick 0 of the run, given the deadline of each
-/// process in ticks. It takes all the memory that the run needs; an error says that memory is short.
+/// process in ticks. It takes all the memory that the run needs; an error says that memory is
+/// short.
 pub fn machine_by_deadlines(
     alloc: Global,
     plan: &DecodedImage,

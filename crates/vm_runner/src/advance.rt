@@ -80,8 +80,8 @@ impl Machine<Ranking> {
         completed
     }
 
-    /// The start events of the tick and a turn, up to the limit at most: the instruction whose effect
-    /// came in its last tick, if there was one.
+    /// The start events of the tick and a turn, up to the limit at most: the instruction whose
+    /// effect came in its last tick, if there was one.
     #[inline(always)]
     fn take_turn(&mut self, plan: &DecodedImage, script: &Script, limit: u64) -> Option<Completed>
         ghost run: { Run }

@@ -11,8 +11,9 @@ use vm_state::{DecodedImage, MachineState};
 
 /// A dispatch: in each tick of a run it chooses one of the processes that are ready.
 ///
-/// `behaviour` says how the run of an image under a script goes by it, `CanRun` which runs it takes,
-/// and `Knows` what it has to know as a run goes on (`specs/Dispatching.antt`). No call takes memory.
+/// `behaviour` says how the run of an image under a script goes by it, `CanRun` which runs it
+/// takes, and `Knows` what it has to know as a run goes on (`specs/Dispatching.antt`). No call
+/// takes memory.
 pub trait Dispatch {
     ghost behaviour: { Image → Script → Behaviour };
 
@@ -39,7 +40,8 @@ pub trait Dispatch {
         ensures chosen { (at : At) → Plans behaviour Knows Begun plan.now board.now self.old at →
             result ≡ (course behaviour at.image at.script).chosen at.tick }
         ensures goes { (at : At) → Plans behaviour Knows Begun plan.now board.now self.old at →
-            CanRun at.image at.script → (n : ℕ) → IsStep (course behaviour at.image at.script) at.tick n →
+            CanRun at.image at.script → (n : ℕ) →
+            IsStep (course behaviour at.image at.script) at.tick n →
             Knows at.image at.script (Before (at.tick + n)) self.new };
 
     /// Notes by what all processes are chosen, where rows follow one another.

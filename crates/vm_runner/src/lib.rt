@@ -10,8 +10,8 @@
 //! chosen from row to row (`specs/Ranking.antt`). By ranks `advance` takes one turn, up to
 //! `IsTurnEnd` of `specs/Ends.antt`, and `follow` tells the instruction that it completed.
 //!
-//! `Machine::new` takes what `Setup` made of the plan that is the image's (`IsOf` of `vm_state`), and
-//! asks that its dispatch can take the run: by ranks (`Machine::by_ranks`) it is runnable
+//! `Machine::new` takes what `Setup` made of the plan that is the image's (`IsOf` of `vm_state`),
+//! and asks that its dispatch can take the run: by ranks (`Machine::by_ranks`) it is runnable
 //! (`specs/Runnable.antt`), which the runs of valid images are. Nothing else takes memory.
 #![tactic(auto)]
 

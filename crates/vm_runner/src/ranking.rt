@@ -5,7 +5,8 @@ ghost use Rattle.machine_semantics.specs.Image.{Image};
 ghost use Rattle.vm_state.specs.Board.{IsBoardOf, state_of};
 ghost use Rattle.vm_state.specs.Plan.{IsOf};
 ghost use Rattle.vm_runner.specs.Ranking.{IsBehind, IsCandidate, IsFirst, IsNoLater, IsRanking};
-ghost use Rattle.vm_runner.specs.Ranking.{IsReadyOne, IsThere, StandAsBefore, Standing, StandsAsWell};
+ghost use Rattle.vm_runner.specs.Ranking.{IsReadyOne, IsThere, StandAsBefore, Standing};
+ghost use Rattle.vm_runner.specs.Ranking.{StandsAsWell};
 
 use crate::Dispatch;
 use crate::waits::is_some_at_queue;

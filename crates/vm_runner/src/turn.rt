@@ -157,8 +157,8 @@ fn pass_ticks(
     }
 }
 
-/// Ticks of the process that is chosen, so many at most, in which nothing is due, as far as the call
-/// goes: how many passed. When waits time out is noted anew.
+/// Ticks of the process that is chosen, so many at most, in which nothing is due, as far as the
+/// call goes: how many passed. When waits time out is noted anew.
 #[inline(always)]
 pub(crate) fn take_ticks(
     plan: &DecodedImage,

@@ -20,8 +20,8 @@ run-requires g c = λ κs lives.
         (
           c.requires.1.1.0,
           (
-          is_runnable run g.image same ready.can,
-          (subst (λ (image : Image). StandsIn image (script_of run.script) machine) (sym same) ready.stands, lines_first run g.image same c.names.result.now machine.tick (called c.names.ensures c.image.ensures) ready.can ready.start),
+            is_runnable run g.image same ready.can,
+            (subst (λ (image : Image). StandsIn image (script_of run.script) machine) (sym same) ready.stands, lines_first run g.image same c.names.result.now machine.tick (called c.names.ensures c.image.ensures) ready.can ready.start),
           ),
         ),
       ),
