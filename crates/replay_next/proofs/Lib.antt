@@ -7,3 +7,5 @@ pub mod Stepping
 pub mod Stack
 pub mod Guarding
 pub mod Weighing
+pub mod Arguments
+pub mod Waiting

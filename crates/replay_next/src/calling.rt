@@ -5,11 +5,10 @@ ghost use Rattle.syntax_tree.specs.Placed.{placed, placed_routine, plain, plain_
 ghost use Rattle.source_semantics.specs.Run as run_of;
 ghost use Rattle.replay_state.specs.View.{answers_of, call_of, home_of, target_of, vars_of};
 ghost use Rattle.replay_calls.specs.Lookups.{found_of};
-ghost use Rattle.replay_calls.specs.Reach.{memory_of};
 ghost use Rattle.replay_next.specs.Ran.{ran_of, receiving};
 
 use crate::results::{RunResult, Stop, stopped_in};
-use replay_calls::{EvalContext, Memory, ResolvedRoutine, add_fresh, home_in};
+use replay_calls::{EvalContext, ResolvedRoutine, add_fresh, home_in};
 use replay_state::{Action, Call, CallOwner, Item, ResultExpr, Slot, Target};
 use static_declarations::Declarations;
 use std::alloc::{AllocError, Global};
@@ -106,15 +105,16 @@ pub fn entered<'a>(
 pub fn given_back<'a>(
     alloc: Global,
     home: CallOwner,
-    memory: &mut Memory<'_, 'a>,
+    own: &mut Vec<Slot<'a>>,
     callers: Vec<Slot<'a>>,
     ran: RunResult<'a>,
 ) -> Result<RunResult<'a>, AllocError>
-    ensures { IfOk result (λ all. ran_of all (memory_of memory.new) ≡
+    ensures { IfOk result (λ all. (m : run_of.Memory) →
+        ran_of all (run_of.with_own m (vars_of own.new.items)) ≡
         run_of.within_caller (home_of home) (vars_of callers.entry.items)
-        (ran_of ran.entry (memory_of memory.old))) }
+        (ran_of ran.entry (run_of.with_own m (vars_of own.old.items)))) }
 {
-    let own = mem::replace(&mut memory.own, callers);
+    let own = mem::replace(own, callers);
     match ran {
         RunResult::Goes | RunResult::Exits => Ok(RunResult::Goes),
         RunResult::Fails(number) => Ok(RunResult::Fails(number)),

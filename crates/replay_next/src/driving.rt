@@ -40,22 +40,26 @@ fn call_procedure<'s, 'a>(
     ensures falls { IfOk result (λ step. running_weight scope.now running.new step <
         running_weight scope.now running.old (procedure_step called.entry)) }
 {
-    if running.depth == 0 {
+    let depth = running.depth;
+    if depth == 0 {
         return Ok(Step::Came(ItemResult::Ran(RunResult::Goes)));
     }
     let CalledRoutine { found, own } = called;
     let callee = home_in(found.home);
-    let caller = ProcedureCaller {
-        callee,
-        home: running.home,
-        depth: running.depth,
-        own: mem::replace(&mut memory.own, own),
-        rest: mem::replace(&mut running.rest, Vec::new(scope.alloc)),
-    };
-    running.callers.push(Caller::OfProcedure(caller))?;
+    let body = statements(&found.routine.body);
+    let own = mem::replace(&mut memory.own, own);
+    let rest = mem::replace(&mut running.rest, Vec::new(scope.alloc));
+    let home = running.home;
     running.home = callee;
-    running.depth -= 1;
-    Ok(Step::Does(statements(&found.routine.body)))
+    running.depth = depth - 1;
+    running.callers.push(Caller::OfProcedure(ProcedureCaller {
+        callee,
+        home,
+        depth,
+        own,
+        rest,
+    }))?;
+    Ok(Step::Does(body))
 }
 
 /// A function begins; its caller waits. What it changes beside its own variables is dropped.
@@ -71,25 +75,31 @@ fn call_function<'s, 'a>(
     ensures falls { IfOk result (λ step. running_weight scope.now running.new step <
         running_weight scope.now running.old (function_step called.entry remains.entry)) }
 {
-    if running.depth == 0 {
+    let depth = running.depth;
+    if depth == 0 {
         return Ok(Step::Part(Part::Answer(Answer::Word(0)), remains));
     }
     let CalledRoutine { found, own } = called;
     let callee = home_in(found.home);
-    let caller = FunctionCaller {
-        callee,
-        result: answering(found.routine),
-        home: running.home,
-        depth: running.depth,
-        own: mem::replace(&mut memory.own, own),
-        rest: mem::replace(&mut running.rest, Vec::new(scope.alloc)),
-        remains,
-        kept: mem::replace(&mut running.kept, None),
-    };
-    running.callers.push(Caller::OfFunction(caller))?;
+    let body = statements(&found.routine.body);
+    let result = answering(found.routine);
+    let own = mem::replace(&mut memory.own, own);
+    let rest = mem::replace(&mut running.rest, Vec::new(scope.alloc));
+    let kept = mem::replace(&mut running.kept, None);
+    let home = running.home;
     running.home = callee;
-    running.depth -= 1;
-    Ok(Step::Does(statements(&found.routine.body)))
+    running.depth = depth - 1;
+    running.callers.push(Caller::OfFunction(FunctionCaller {
+        callee,
+        result,
+        home,
+        depth,
+        own,
+        rest,
+        remains,
+        kept,
+    }))?;
+    Ok(Step::Does(body))
 }
 
 /// A procedure gives no value back.
@@ -126,7 +136,13 @@ fn procedure_over<'s, 'a>(
         own,
         rest,
     } = caller;
-    let back = given_back(scope.alloc, callee, memory, own, without_value(came))?;
+    let back = given_back(
+        scope.alloc,
+        callee,
+        &mut memory.own,
+        own,
+        without_value(came),
+    )?;
     running.home = home;
     running.depth = depth;
     running.rest = rest;
