@@ -11,7 +11,6 @@ ghost use Rattle.syntax_tree.specs.Placed.{placed, plain};
 ghost use Rattle.replay_reason_spec.specs.Findings.{Finds};
 
 use crate::frames_pass_law::frames_pass;
-use crate::nesting::levels;
 use crate::{judge, ranks_of, start};
 use base::Event;
 use built_image_law::premises_of_laws::checked_programs_are_ready;
@@ -21,10 +20,6 @@ use script::Script;
 use static_declarations::Declarations;
 use static_semantics::Checked;
 use std::alloc::{AllocError, Global};
-
-/// The most levels of statements and expressions for which calls are followed: each takes some of
-/// the stack.
-const MOST_LEVELS: u64 = 3_000;
 
 /// What is found of events, by the declarations of their program and by its ranks and ceilings.
 fn judged<'a, 'b: 'a>(
@@ -49,8 +44,7 @@ fn judged<'a, 'b: 'a>(
 
 /// Whether the events are a run, over the script, of the program of a text, which keeps to all
 /// rules and is not too large; else the first line that is refused, the first line being 1, and
-/// why. Want of memory is the only error; it is told too where the texts of the program have more
-/// than 3,000 levels of statements and expressions together, for which the stack may be too small.
+/// why. Want of memory is the only error.
 pub fn replay(
     alloc: Global,
     program: &Checked,
@@ -67,9 +61,6 @@ pub fn replay(
 {
     checked_programs_are_ready();
     frames_pass();
-    if levels(program.prog()) > MOST_LEVELS {
-        return Err(AllocError);
-    }
     let declarations = Declarations::new(alloc, program.named())?;
     let ranks = ranks_of(alloc, program)?;
     judged(alloc, &declarations, ranks, script, events)

@@ -1,5 +1,5 @@
 -- Callers that wait, and the last of them.
-use Rattle.std.specs.Prelude.{◌≡◌, ℕ, ◌+◌, List, [], ◌∷◌, ◌++◌}
+use Rattle.std.specs.Prelude.{◌≡◌, ℕ, ◌+◌, List, [], ◌∷◌, ◌++◌, Option, Some, option_to_list}
 use Rattle.std.proofs.Common.{refl, sym, ◌∙◌, ap, arith}
 use Rattle.source_semantics.specs.Run as run
 use Rattle.replay_calls.specs.declared.lookup.EvalContext as code_scope
@@ -38,3 +38,6 @@ exprs_pushed k (y ∷ xs) x = let more = exprs_pushed k xs x in omega (arith, mo
 pub last_told : (c : run.Site) (m : run.Memory) (xs : List ExprItem) (x : ExprItem) (a : Answer) → exprs_told c m (xs ++ x ∷ []) a ≡ exprs_told c m xs (expr_told c m x a)
 last_told c m [] x a = refl
 last_told c m (y ∷ xs) x a = ap (expr_told c m y) (last_told c m xs x a)
+
+pub last_popped : {A : Type 0} (old new : List A) (o : Option A) (x : A) → old ≡ new ++ option_to_list o → o ≡ Some x → old ≡ new ++ x ∷ []
+last_popped old new o x all is = all ∙ ap (λ k. new ++ option_to_list k) is

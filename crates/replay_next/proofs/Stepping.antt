@@ -1,8 +1,8 @@
 -- Items that follow a run, one after the other.
-use Rattle.std.specs.Prelude.{◌≡◌, ℕ, suc, List, [], ◌∷◌, ◌++◌, ℤ, pos, ◌+ℤ◌, map, reverse}
-use Rattle.std.proofs.Common.{refl, sym, ◌∙◌, ap}
+use Rattle.std.specs.Prelude.{◌≡◌, ◌≢◌, ℕ, zero, suc, ◌-◌, List, [], ◌∷◌, ◌++◌, ℤ, pos, ◌+ℤ◌, map, reverse}
+use Rattle.std.proofs.Common.{refl, sym, ◌∙◌, ap, arith}
 use Rattle.std.proofs.lemmas.List.{append-nil, reverse-append, reverse-reverse}
-use Rattle.syntax_tree.specs.Plain.{Name, Stmt, Stmts, stmts}
+use Rattle.syntax_tree.specs.Plain.{Name, Stmts}
 use Rattle.source_semantics.specs.Next.{leave_loop, run_items}
 use Rattle.source_semantics.specs.Run as run
 use Rattle.replay_state.specs.View.{item_of}
@@ -50,3 +50,14 @@ rest_pushed is i = ap (map item_of) (reverse-append is (i ∷ []))
 
 pub rest_turned : (is : List Item) → rest_of (reverse is) ≡ map item_of is
 rest_turned is = ap (map item_of) (reverse-reverse is)
+
+-- a turn, and the others after it
+pub turn_goes : (c : run.Site) (is : List run.Item) (x : Name) (v u : ℤ) (n : ℕ) (ss : Stmts) (m0 m1 : run.Memory) → n ≢ 0 → run.with_turn x v m0 ≡ m1 → u ≡ v +ℤ pos 1
+    → then_items c (run.turns_left x u (n - 1) ss ∷ is) (run.run_all c m1 ss) ≡ then_items c is (run.turns (λ j. run.run_all c j ss) x ss n v m0)
+turn_goes c is x v u zero ss m0 m1 some into next = absurd (some refl)
+turn_goes c is x v u (suc n) ss m0 m1 some into next =
+    let less : suc n - 1 ≡ n = omega arith in
+    ap (λ k. then_items c (run.turns_left x u k ss ∷ is) (run.run_all c m1 ss)) less
+    ∙ (ap (λ k. then_items c (run.turns_left x k n ss ∷ is) (run.run_all c m1 ss)) next
+    ∙ (ap (λ k. then_items c (run.turns_left x (v +ℤ pos 1) n ss ∷ is) (run.run_all c k ss)) (sym into)
+    ∙ then_turns c is x (v +ℤ pos 1) n ss (run.run_all c (run.with_turn x v m0) ss)))

@@ -367,16 +367,23 @@ fn drive<'s, 'a>(
 {
     let home = running.home;
     let depth = running.depth;
-    let next = match step {
-        Step::Came(came) => return go_on(scope, memory, running, came),
-        Step::Part(part, remains) => next_part(scope, memory, running, part, remains)?,
-        Step::CallsProcedure(called) => call_procedure(scope, memory, running, called)?,
-        Step::Does(stmts) => next_stmt(scope, home, depth, &mut running.rest, stmts)?,
-        Step::Turns { name, turns, body } => {
-            next_turn(&mut memory.own, &mut running.rest, name, turns, body)?
+    match step {
+        Step::Came(came) => go_on(scope, memory, running, came),
+        Step::Part(part, remains) => {
+            Ok(Driven::At(next_part(scope, memory, running, part, remains)?))
         }
-    };
-    Ok(Driven::At(next))
+        Step::CallsProcedure(called) => {
+            Ok(Driven::At(call_procedure(scope, memory, running, called)?))
+        }
+        Step::Does(stmts) => {
+            let rest = &mut running.rest;
+            Ok(Driven::At(next_stmt(scope, home, depth, rest, stmts)?))
+        }
+        Step::Turns { name, turns, body } => {
+            let rest = &mut running.rest;
+            Ok(Driven::At(next_turn(&mut memory.own, rest, name, turns, body)?))
+        }
+    }
 }
 
 /// What a run comes to from this step on.
