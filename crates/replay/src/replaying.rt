@@ -12,7 +12,6 @@ ghost use Rattle.event_log.specs.Reader.{HasRead, IsReader, names_of};
 ghost use Rattle.replay.specs.Judging.{IsFaultOf, IsFoundOf};
 
 use crate::frames_pass_law::frames_pass;
-use crate::nesting::levels;
 use crate::{judge, ranks_of, start};
 use built_image_law::premises_of_laws::checked_programs_are_ready;
 use event_log::{LogFault, LogReader};
@@ -23,10 +22,6 @@ use script::Script;
 use static_declarations::Declarations;
 use static_semantics::Checked;
 use std::alloc::Global;
-
-/// The most levels of statements and expressions for which calls are followed: each takes some of
-/// the stack.
-const MOST_LEVELS: u64 = 3_000;
 
 /// What is found of a log of which no line is read yet, by the declarations of its program and by
 /// its ranks and ceilings.
@@ -57,8 +52,7 @@ fn judged<'a, 'b: 'a>(
 /// Whether the log of which no line is read yet is that of a run, over the script, of the program
 /// of a text, which keeps to all rules and is not too large; else the first line that is refused,
 /// the first line being 1, and why. A fault of the log's text and want of memory are the only
-/// errors; the latter is told too where the texts of the program have more than 3,000 levels of
-/// statements and expressions together, for which the stack may be too small.
+/// errors.
 pub fn replay(
     alloc: Global,
     program: &Checked,
@@ -78,9 +72,6 @@ pub fn replay(
 {
     checked_programs_are_ready();
     frames_pass();
-    if levels(program.prog()) > MOST_LEVELS {
-        return Err(LogFault::Memory);
-    }
     let declarations = Declarations::new(alloc, program.named())?;
     let ranks = ranks_of(alloc, program)?;
     judged(alloc, &declarations, ranks, script, reader)
