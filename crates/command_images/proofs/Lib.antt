@@ -1,4 +1,5 @@
 pub mod Files
+pub mod Named
 pub mod ImageFileTold
 pub mod Read
 pub mod Refused

@@ -12,6 +12,7 @@
 mod charting;
 mod images;
 mod running;
+mod scripts;
 mod telling;
 mod texts;
 mod watching;

@@ -16,9 +16,10 @@ ghost use Rattle.command_refusals.specs.Refusals.{Explains, IsExplained};
 ghost use Rattle.command_refusals.specs.Told.{IsScriptTold};
 
 use crate::images::{load_content, refuse_image};
+use crate::scripts::script_for;
 use command_answers::{
     Content, LONGEST_IMAGE, LONGEST_SCRIPT, PrepareError, PreparedCall, PreparedRun, RunnableImage,
-    Status, judge_script, read, valid_images_can_be_run,
+    Status, read,
 };
 use command_refusals::refuse_script;
 use image_loaded::Image;
@@ -58,8 +59,7 @@ fn run_act<'a>(
     ensures told { IfOk result (λ act. (text : List ℕ) → IsContent longest_text content.now text →
         Explains (IsScriptTold image.names file.now text (outcome_of act) message.new) act) }
 {
-    valid_images_can_be_run(&image);
-    match judge_script(alloc, content, image.names()) {
+    match script_for(alloc, content, &image) {
         Ok(script) => Ok(run_image(alloc, image, script)),
         Err(fault) => refuse_script(alloc, message, file, content, image.names(), &fault),
     }

@@ -16,9 +16,9 @@ ghost use Rattle.command_refusals.specs.Refusals.{Explains, IsExplained};
 ghost use Rattle.command_refusals.specs.Told.{IsScriptTold};
 
 use crate::images::{load_content, refuse_image};
+use crate::scripts::script_for;
 use command_answers::{
-    Content, LONGEST_IMAGE, LONGEST_SCRIPT, PrepareError, PreparedCall, Status, judge_script, put,
-    read, valid_images_can_be_run,
+    Content, LONGEST_IMAGE, LONGEST_SCRIPT, PrepareError, PreparedCall, Status, put, read,
 };
 use command_refusals::refuse_script;
 use command_words::Breakpoint;
@@ -59,8 +59,7 @@ fn watch_act<'a>(
     ensures told { IfOk result (λ act. (text : List ℕ) → IsContent longest_text content.now text →
         Explains (IsScriptTold image.now.names file.now text (outcome_of act) message.new) act) }
 {
-    valid_images_can_be_run(image);
-    match judge_script(alloc, content, image.names()) {
+    match script_for(alloc, content, image) {
         Ok(script) => put_seen(alloc, image, &script, stop),
         Err(fault) => refuse_script(alloc, message, file, content, image.names(), &fault),
     }

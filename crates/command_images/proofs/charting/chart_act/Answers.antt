@@ -1,11 +1,7 @@
 use Rattle.script.specs.Scripts.{longest_text}
 use Rattle.command_answers.specs.Contents.{IsContent}
-use Rattle.command_answers.proofs.Judged.{can_run}
 use Rattle.command_images.proofs.Charted.{bad_drawn, drawn_over}
 use Rattle.command_images.proofs.charting.chart_act.Goals as goal
-
-pub put_drawn-requires : goal.put_drawn-requires
-put_drawn-requires c = can_run c.args.image.now c.in-Ok.script c.valid_images_can_be_run.ensures c.in-Ok.ensures.some
 
 pub returns-in-Ok-clause-due : goal.returns-in-Ok-clause-due
 returns-in-Ok-clause-due c =

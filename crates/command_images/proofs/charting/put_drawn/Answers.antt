@@ -6,6 +6,7 @@ use Rattle.command_due.specs.CommandsDue.{told}
 use Rattle.image.specs.Named.{NamedImage}
 use Rattle.machine_semantics.specs.Image.{Script}
 use Rattle.run_chart.specs.Chart.{chart_text}
+use Rattle.vm_releases.specs.Begin.{script_of}
 use Rattle.vm_watch.proofs.Running.{is_runnable, same_script}
 use Rattle.command_images.proofs.Timely.{runs_are_timely}
 use Rattle.command_images.proofs.charting.put_drawn.Goals as goal
@@ -33,5 +34,5 @@ returns-clause-told c =
     put_comes_to status.Done c.in_ok-text.text c.put.result c.put.ensures
     ∙ ap (λ (text : List ℕ). told 0 text)
     (c.in_ok-text.ensures
-    ∙ (ap (λ (n : NamedImage). chart_text n _ c.args.first c.args.end) c.image-image.ensures
+    ∙ (ap (λ (n : NamedImage). chart_text n (script_of c.args.script.now) c.args.first c.args.end) c.image-image.ensures
     ∙ ap (λ (run : Script). chart_text c.args.image.now run c.args.first c.args.end) (sym (same_script c.args.script.now))))

@@ -1,12 +1,9 @@
 use Rattle.std.proofs.Common.{[], None}
 use Rattle.script.specs.Scripts.{longest_text}
 use Rattle.command_answers.specs.Contents.{IsContent}
-use Rattle.command_answers.proofs.Judged.{can_run, bad_over}
+use Rattle.command_answers.proofs.Judged.{bad_over}
 use Rattle.command_answers.specs.Scripted.{is_run}
 use Rattle.command_images.proofs.running.run_act.Goals as goal
-
-pub run_image-requires : goal.run_image-requires
-run_image-requires c = can_run c.args.image c.in-Ok.script c.valid_images_can_be_run.ensures c.in-Ok.ensures.some
 
 pub returns-in-Ok-clause-due : goal.returns-in-Ok-clause-due
 returns-in-Ok-clause-due c = λ text is. is_run c.in-Ok.script.lines c.in-Ok.script.end (c.in-Ok.ensures.script text is) c.run_image.ensures.outcome

@@ -1,11 +1,7 @@
 use Rattle.script.specs.Scripts.{longest_text}
 use Rattle.command_answers.specs.Contents.{IsContent}
-use Rattle.command_answers.proofs.Judged.{can_run}
 use Rattle.command_images.proofs.Watched.{bad_seen, seen_over}
 use Rattle.command_images.proofs.watching.watch_act.Goals as goal
-
-pub put_seen-requires : goal.put_seen-requires
-put_seen-requires c = can_run c.args.image.now c.in-Ok.script c.valid_images_can_be_run.ensures c.in-Ok.ensures.some
 
 pub returns-in-Ok-clause-due : goal.returns-in-Ok-clause-due
 returns-in-Ok-clause-due c =

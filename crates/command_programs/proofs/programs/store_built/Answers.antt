@@ -9,5 +9,5 @@ use Rattle.command_programs.proofs.programs.store_built.Goals as goal
 pub returns-clause-due : goal.returns-clause-due
 returns-clause-due c =
     λ over text image. compiled_text over text c.args.built _ image
-    (stored_outcome c.in_ok-report_and_image.text (report_on c.args.built) c.in_ok-bytes.bytes.items (stored (named_of c.args.built.image))
-    c.in_ok-report_and_image.ensures.report (c.in_ok-bytes.ensures.items ∙ (c.bytes.ensures ∙ ap (λ (n : NamedImage). stored n) c.in_ok-report_and_image.ensures.image)))
+    (stored_outcome c.in_ok-text.text (report_on c.args.built) c.in_ok-bytes.bytes.items (stored (named_of c.args.built.image))
+    c.in_ok-text.ensures.report (c.in_ok-bytes.ensures.items ∙ (c.bytes.ensures ∙ ap (λ (n : NamedImage). stored n) c.in_ok-text.ensures.image)))
