@@ -9,7 +9,6 @@
 
 ghost use Rattle.std.specs.Prelude.{IfErr, IfOk, List, length, ℕ, [], ◌++◌, ◌∷◌, ◌<◌, ◌^◌, ◌≡◌};
 ghost use Rattle.base.specs.declared.event.Event.{Event as Event_spec};
-ghost use Rattle.event_log.specs.Logs.{longest_text};
 ghost use Rattle.event_log.specs.Reader.{HasRead, IsReader, names_of};
 ghost use Rattle.event_log.specs.declared.fault.LogFault.TheVariants as fault;
 ghost use Rattle.replay.specs.Judging.{IsFaultOf, IsFoundOf};

@@ -1,5 +1,4 @@
-use Rattle.std.proofs.Common.{[], ◌∷◌, ◌++◌, ◌∙◌, sym}
-use Rattle.event_log.specs.Reader.{names_of}
+use Rattle.std.proofs.Common.{[], ◌∷◌, ◌++◌, ◌∙◌}
 use Rattle.replay_state.specs.View.{config_of}
 use Rattle.replay_script.specs.Cursors.{script_in}
 use Rattle.replay_accept.specs.Running.{program_of}
