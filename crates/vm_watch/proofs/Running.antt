@@ -14,7 +14,9 @@ use Rattle.machine_semantics.specs.Image.{Image, Line, Script}
 use Rattle.machine_semantics.specs.Run.{events, events_from, state_at}
 use Rattle.vm_run.specs.Coming.{coming}
 use Rattle.vm_run.proofs.Rest.{lines_now}
+use Rattle.vm_runner.specs.ByRanks.{by_ranks}
 use Rattle.vm_runner.specs.Runnable.{IsRunnable}
+use Rattle.vm_runner.proofs.ByRanks.{cut}
 use Rattle.vm_runner.specs.Standing.{events_between}
 use Rattle.vm_law.proofs.Runnable.{valid_runs_are_runnable}
 use Rattle.script.specs.declared.script.ScriptLine.{ScriptLine}
@@ -47,7 +49,7 @@ is_runnable n script can = valid_runs_are_runnable n.image (script_of script) ca
 
 -- ---- the lines
 
-all_coming : (image : Image) (script : Script) → events image script ≡ coming image script 0
+all_coming : (image : Image) (script : Script) → events image script ≡ coming (by_ranks image script) 0
 unfolding events state_at
 all_coming image script =
     let all : script.end_tick ≡ script.end_tick - 0 = omega arith in
@@ -65,7 +67,7 @@ recent_lines n read t can within =
     let image : Image = n.image in
     let script : Script = script_of read in
     let lines : All (AreIn n.names) (events image script) = valid_runs_have_lines n.names image script can.limits can.valid can.names can.script.end in
-    let come : All (AreIn n.names) (coming image script 0) = subst (λ (es : List Event). All (AreIn n.names) es) (all_coming image script) lines in
-    let before : All (AreIn n.names) (events_between image script 0 t) = lines_now image script n.names 0 t (omega arith) within come in
+    let come : All (AreIn n.names) (coming (by_ranks image script) 0) = subst (λ (es : List Event). All (AreIn n.names) es) (all_coming image script) lines in
+    let before : All (AreIn n.names) (events_between image script 0 t) = lines_now (by_ranks image script) (cut image script) n.names 0 t (omega arith) within come in
     let all : All (AreIn n.names) (events_before image script t) = subst (λ (es : List Event). All (AreIn n.names) es) (from_start image script t) before in
     All-drop (AreIn n.names) (length (events_before image script t) - 16) (events_before image script t) all
