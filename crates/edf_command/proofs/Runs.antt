@@ -17,7 +17,7 @@ use Rattle.edf_semantics.specs.Run.{events}
 use Rattle.command_due.specs.Tasks.{IsAnswer}
 use Rattle.edf_machine.specs.Runnable.{IsRunnable}
 use Rattle.edf_correct.specs.Ready.{EdfImagesAreReady}
-use Rattle.edf_correct.proofs.EdfReadyJoined.{same_run}
+use Rattle.built_image_law.proofs.Suiting.{same_run}
 use Rattle.edf_command.specs.declared.judging.Subject.{Subject}
 use Rattle.edf_command.specs.Judged.{IsMet, IsSubject}
 
