@@ -3,12 +3,12 @@
 ghost use Rattle.std.specs.Prelude.{◌∷◌, [], ◌≡◌, ℕ, List, None, IfErr, IfOk, IsSomeAnd};
 ghost use Rattle.std.specs.Bool.{OnTrue};
 ghost use Rattle.command_answers.specs.Acts.{outcome_of};
-ghost use Rattle.outside.specs.Outside.{AllStay, NoneFell};
 ghost use Rattle.script.specs.Scripts.{longest_text};
 ghost use Rattle.command_words.specs.Calls as call;
 ghost use Rattle.command_answers.specs.Acting.{CanBeDone};
 ghost use Rattle.command_answers.specs.Contents.{IsContent};
 ghost use Rattle.command_answers.specs.Prepared.{IsReadError, Prepares};
+ghost use Rattle.command_answers.specs.OnlyReads.{OnlyReads};
 ghost use Rattle.command_answers.specs.Tried.{HasTried, status_of};
 ghost use Rattle.command_answers.specs.Runnable.{IsRunnable, RunsRaw};
 ghost use Rattle.command_images.specs.Scripted.{IsRawRunDue, raw_run};
@@ -82,13 +82,9 @@ fn run_on<'a, F: Files>(
     ensures done { IfOk result (CanBeDone None) }
     ensures failed { IfErr result
         (IsReadError script.now (F.state files.old) (F.state files.new)) }
-    ensures files { AllStay (F.state files.old).held (F.state files.new).held }
-    ensures read_counts { NoneFell (F.state files.old).read_faults (F.state files.new).read_faults }
-    ensures write_counts { NoneFell (F.state files.old).write_faults
-        (F.state files.new).write_faults }
+    ensures only_reads { OnlyReads (F.state files.old) (F.state files.new) }
     ensures reads { HasTried (script.now ∷ []) (F.state files.old).reads
         (F.state files.new).reads (status_of result) }
-    ensures writes { (F.state files.new).writes ≡ (F.state files.old).writes }
     ensures told { IfOk result (λ act. OnTrue F.tells
         (IsSomeAnd ((F.state files.old).held script.now) (λ text. Explains
         (IsScriptTold raw.names script.now text (outcome_of act) message.new) act))) }
@@ -101,7 +97,7 @@ fn run_on<'a, F: Files>(
 }
 
 /// `run`: the image is read and judged, and the script only where the image is valid.
-#[tactic(auto, using(command_answers::proofs::Held::first_unread, command_answers::proofs::Trying::tried_first, command_answers::proofs::Trying::tried_on, command_answers::proofs::Trying::tried_alone))]
+#[tactic(auto, using(command_answers::proofs::Held::first_unread, command_answers::proofs::Trying::tried_first, command_answers::proofs::Trying::tried_on, command_answers::proofs::Trying::tried_alone, command_answers::proofs::OnlyReads::reads_on))]
 pub fn prepare_run<'a, F: Files>(
     alloc: Global,
     message: &mut Text,
@@ -111,13 +107,9 @@ pub fn prepare_run<'a, F: Files>(
 ) -> Result<PreparedCall<'a>, PrepareError<'a>>
     ensures prepared { Prepares F.tells (call.run image.now script.now) (F.state files.old)
         (F.state files.new) result }
-    ensures files { AllStay (F.state files.old).held (F.state files.new).held }
-    ensures read_counts { NoneFell (F.state files.old).read_faults (F.state files.new).read_faults }
-    ensures write_counts { NoneFell (F.state files.old).write_faults
-        (F.state files.new).write_faults }
+    ensures only_reads { OnlyReads (F.state files.old) (F.state files.new) }
     ensures reads { HasTried (image.now ∷ script.now ∷ []) (F.state files.old).reads
         (F.state files.new).reads (status_of result) }
-    ensures writes { (F.state files.new).writes ≡ (F.state files.old).writes }
     ensures told { IfOk result (IsExplained F.tells (call.run image.now script.now)
         (F.state files.old).held message.new) }
 {

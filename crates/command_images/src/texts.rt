@@ -8,6 +8,7 @@ ghost use Rattle.command_due.specs.CommandsDue.{told};
 ghost use Rattle.command_answers.specs.Acting.{CanBeDone, IsQuiet};
 ghost use Rattle.command_answers.specs.Contents.{IsContent};
 ghost use Rattle.command_answers.specs.Prepared.{Prepares};
+ghost use Rattle.command_answers.specs.OnlyReads.{OnlyReads};
 ghost use Rattle.command_answers.specs.Tried.{HasTried, status_of};
 ghost use Rattle.image.specs.InRange.{IsInRange};
 ghost use Rattle.image.specs.Raw.{named_of};
@@ -15,7 +16,6 @@ ghost use Rattle.command_images.specs.Telling.{LoadsText};
 ghost use Rattle.image_reader.specs.Answer.{Tells};
 ghost use Rattle.image_reader.specs.File.{longest};
 ghost use Rattle.asm_format.specs.Text.{text_of};
-ghost use Rattle.outside.specs.Outside.{AllStay, NoneFell};
 ghost use Rattle.command_words.specs.Calls as call;
 ghost use Rattle.command_images.specs.Held.{HasNames};
 ghost use Rattle.command_refusals.specs.Refusals.{Explains, IsExplained};
@@ -166,13 +166,9 @@ pub fn prepare_asm<'a, F: Files>(
 ) -> Result<PreparedCall<'a>, PrepareError<'a>>
     ensures prepared { Prepares F.tells (call.asm text.now image.now) (F.state files.old)
         (F.state files.new) result }
-    ensures files { AllStay (F.state files.old).held (F.state files.new).held }
-    ensures read_counts { NoneFell (F.state files.old).read_faults (F.state files.new).read_faults }
-    ensures write_counts { NoneFell (F.state files.old).write_faults
-        (F.state files.new).write_faults }
+    ensures only_reads { OnlyReads (F.state files.old) (F.state files.new) }
     ensures reads { HasTried (text.now ∷ []) (F.state files.old).reads
         (F.state files.new).reads (status_of result) }
-    ensures writes { (F.state files.new).writes ≡ (F.state files.old).writes }
     ensures told { IfOk result (IsExplained F.tells (call.asm text.now image.now)
         (F.state files.old).held message.new) }
 {
@@ -303,13 +299,9 @@ pub fn prepare_dis<'a, F: Files>(
 ) -> Result<PreparedCall<'a>, PrepareError<'a>>
     ensures prepared { Prepares F.tells (call.dis image.now text.now) (F.state files.old)
         (F.state files.new) result }
-    ensures files { AllStay (F.state files.old).held (F.state files.new).held }
-    ensures read_counts { NoneFell (F.state files.old).read_faults (F.state files.new).read_faults }
-    ensures write_counts { NoneFell (F.state files.old).write_faults
-        (F.state files.new).write_faults }
+    ensures only_reads { OnlyReads (F.state files.old) (F.state files.new) }
     ensures reads { HasTried (image.now ∷ []) (F.state files.old).reads
         (F.state files.new).reads (status_of result) }
-    ensures writes { (F.state files.new).writes ≡ (F.state files.old).writes }
     ensures told { IfOk result (IsExplained F.tells (call.dis image.now text.now)
         (F.state files.old).held message.new) }
 {

@@ -6,7 +6,6 @@ ghost use Rattle.command_due.specs.CommandsDue.{IsRefused, IsReportDue, IsPrintD
 ghost use Rattle.command_due.specs.SpareDue.{IsSlackDue};
 ghost use Rattle.compile.specs.Compile.{Compiles};
 ghost use Rattle.command_answers.specs.Acts.{number_of, outcome_of};
-ghost use Rattle.outside.specs.Outside.{AllStay, NoneFell};
 ghost use Rattle.command_words.specs.Calls as call;
 ghost use Rattle.command_answers.specs.Acting.{CanBeDone, IsQuiet, puts};
 ghost use Rattle.command_answers.specs.Contents.{IsContent};
@@ -14,6 +13,7 @@ ghost use Rattle.command_programs.specs.Formats.{shown, report_call};
 ghost use Rattle.command_refusals.specs.Refusals.{Explains, IsExplained};
 ghost use Rattle.command_refusals.specs.Told.{IsProgramTold, IsTextTold};
 ghost use Rattle.command_answers.specs.Prepared.{Prepares};
+ghost use Rattle.command_answers.specs.OnlyReads.{OnlyReads};
 ghost use Rattle.command_answers.specs.Tried.{HasTried, status_of};
 ghost use Rattle.command_programs.specs.Runnable.{CanBeShown, IsRunnableBuilt, Readies};
 
@@ -239,13 +239,9 @@ pub fn prepare_report<'a, F: Files>(
     requires { over ≤ 1000 }
     ensures prepared { Prepares F.tells (report_call format program.now over) (F.state files.old)
         (F.state files.new) result }
-    ensures files { AllStay (F.state files.old).held (F.state files.new).held }
-    ensures read_counts { NoneFell (F.state files.old).read_faults (F.state files.new).read_faults }
-    ensures write_counts { NoneFell (F.state files.old).write_faults
-        (F.state files.new).write_faults }
+    ensures only_reads { OnlyReads (F.state files.old) (F.state files.new) }
     ensures reads { HasTried (program.now ∷ []) (F.state files.old).reads
         (F.state files.new).reads (status_of result) }
-    ensures writes { (F.state files.new).writes ≡ (F.state files.old).writes }
     ensures told { IfOk result (IsExplained F.tells (report_call format program.now over)
         (F.state files.old).held message.new) }
 {
@@ -268,13 +264,9 @@ pub fn prepare_slack<'a, F: Files>(
     requires { over ≤ 1000 }
     ensures prepared { Prepares F.tells (call.slack program.now over) (F.state files.old)
         (F.state files.new) result }
-    ensures files { AllStay (F.state files.old).held (F.state files.new).held }
-    ensures read_counts { NoneFell (F.state files.old).read_faults (F.state files.new).read_faults }
-    ensures write_counts { NoneFell (F.state files.old).write_faults
-        (F.state files.new).write_faults }
+    ensures only_reads { OnlyReads (F.state files.old) (F.state files.new) }
     ensures reads { HasTried (program.now ∷ []) (F.state files.old).reads
         (F.state files.new).reads (status_of result) }
-    ensures writes { (F.state files.new).writes ≡ (F.state files.old).writes }
     ensures told { IfOk result (IsExplained F.tells (call.slack program.now over)
         (F.state files.old).held message.new) }
 {
@@ -295,13 +287,9 @@ pub fn prepare_print<'a, F: Files>(
 ) -> Result<PreparedCall<'a>, PrepareError<'a>>
     ensures prepared { Prepares F.tells (call.print program.now) (F.state files.old)
         (F.state files.new) result }
-    ensures files { AllStay (F.state files.old).held (F.state files.new).held }
-    ensures read_counts { NoneFell (F.state files.old).read_faults (F.state files.new).read_faults }
-    ensures write_counts { NoneFell (F.state files.old).write_faults
-        (F.state files.new).write_faults }
+    ensures only_reads { OnlyReads (F.state files.old) (F.state files.new) }
     ensures reads { HasTried (program.now ∷ []) (F.state files.old).reads
         (F.state files.new).reads (status_of result) }
-    ensures writes { (F.state files.new).writes ≡ (F.state files.old).writes }
     ensures told { IfOk result (IsExplained F.tells (call.print program.now)
         (F.state files.old).held message.new) }
 {
@@ -325,13 +313,9 @@ pub fn prepare_compile<'a, F: Files>(
     requires { over ≤ 1000 }
     ensures prepared { Prepares F.tells (call.compile program.now image.now over)
         (F.state files.old) (F.state files.new) result }
-    ensures files { AllStay (F.state files.old).held (F.state files.new).held }
-    ensures read_counts { NoneFell (F.state files.old).read_faults (F.state files.new).read_faults }
-    ensures write_counts { NoneFell (F.state files.old).write_faults
-        (F.state files.new).write_faults }
+    ensures only_reads { OnlyReads (F.state files.old) (F.state files.new) }
     ensures reads { HasTried (program.now ∷ []) (F.state files.old).reads
         (F.state files.new).reads (status_of result) }
-    ensures writes { (F.state files.new).writes ≡ (F.state files.old).writes }
     ensures told { IfOk result (IsExplained F.tells (call.compile program.now image.now over)
         (F.state files.old).held message.new) }
 {
