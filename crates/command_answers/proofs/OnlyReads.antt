@@ -1,11 +1,7 @@
 -- Files that are only read, one after the other.
-use Rattle.std.proofs.Common.{◌∙◌, refl, arith}
+use Rattle.std.proofs.Common.{◌∙◌, arith}
 use Rattle.outside.specs.Outside.{FilesState}
 use Rattle.command_answers.specs.OnlyReads.{OnlyReads}
-
--- none is read
-pub reads_none : (s : FilesState) → OnlyReads s s
-reads_none s = record { files = λ name. refl; read_counts = λ name. omega arith; write_counts = λ name. omega arith; writes = refl }
 
 -- some are read, and then others
 pub reads_on : (before mid now : FilesState) → OnlyReads before mid → OnlyReads mid now → OnlyReads before now
