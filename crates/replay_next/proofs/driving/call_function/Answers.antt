@@ -16,7 +16,6 @@ use Rattle.replay_next.specs.declared.remains.Beside.{Beside}
 use Rattle.replay_next.specs.declared.remains.Caller.TheVariants as caller_is
 use Rattle.replay_next.specs.declared.remains.FunctionCaller.{FunctionCaller}
 use Rattle.replay_next.proofs.Deeper as deeper
-use Rattle.replay_next.proofs.Guarding.{others_at}
 use Rattle.replay_next.proofs.Stack as stack
 use Rattle.replay_next.proofs.Waiting as waiting
 use Rattle.replay_next.proofs.Weighing as weighing
@@ -60,7 +59,7 @@ returns-clause-run c =
     let answer = deeper.call_ran g q d f its (run.with_own m vs) m1 o b r1 c.if-depth-eq0.false c.home_in-callee.ensures c.answering-result.ensures body same refl in
     let none : rest_of c.replace-rest.new.dest.items ≡ [] = ap (λ (l : Vec Item). rest_of l.items) c.replace-rest.ensures.after ∙ ap rest_of c.new.ensures.items in
     let items = ap (λ (l : Vec Item). rest_of l.items) c.replace-rest.ensures.value in
-    let now : Others = others_at m in
+    let now : Others = others_of None c.args.memory.now in
     let fresh : others_in c.replace-kept.new.dest now ≡ now = ap (λ (k : Option Beside). others_in k now) c.replace-kept.ensures.after in
     let outside : others_in c.replace-kept.result now ≡ others_of p.kept c.args.memory.now = ap (λ (k : Option Beside). others_in k now) c.replace-kept.ensures.value in
     let here : memory_in (vars_of c.replace-own.result.items) now ≡ m = ap (λ (own : Vec code_slot.Slot). memory_in (vars_of own.items) now) c.replace-own.ensures.value in
