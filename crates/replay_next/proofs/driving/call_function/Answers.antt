@@ -1,14 +1,13 @@
-use Rattle.std.specs.Prelude.{[], ◌≢◌, List, None, Option, option_map}
-use Rattle.std.proofs.Common.{◌≡◌, ◌∙◌, ◌+◌, ◌-◌, ◌<◌, ◌∷◌, ◌++◌, ap, ap₂, sym, refl, arith}
+use Rattle.std.specs.Prelude.{[], None, Option, option_map}
+use Rattle.std.proofs.Common.{◌≡◌, ◌∙◌, ◌+◌, ◌-◌, ap, refl, arith}
 use Rattle.std.specs.Global.{Vec}
 use Rattle.syntax_tree.specs.Placed.{placed, placed_process, plain, plain_process}
-use Rattle.source_semantics.specs.Next.{answer_after}
 use Rattle.source_semantics.specs.Run as run
 use Rattle.replay_state.specs.View.{answers_of, home_of, vars_of}
 use Rattle.replay_state.specs.declared.call.Item.{Item}
 use Rattle.replay_state.specs.declared.variables.Slot as code_slot
 use Rattle.replay_calls.specs.Lookups.{found_of}
-use Rattle.replay_calls.specs.Reach.{area_of, memory_of}
+use Rattle.replay_calls.specs.Reach.{memory_of}
 use Rattle.replay_next.specs.Driving.{Others, callers_run, callers_weight, caller_weight, memory_in, others_in, others_of, rest_of, then_items}
 use Rattle.replay_next.specs.Remains.{stmts_of, told}
 use Rattle.replay_next.specs.Weights.{answers_weight, costs, items_weight, stmts_weight}
