@@ -5,7 +5,6 @@ pub mod Handing
 pub mod Texts
 pub mod Stepping
 pub mod Stack
-pub mod Guarding
 pub mod Weighing
 pub mod Arguments
 pub mod Waiting

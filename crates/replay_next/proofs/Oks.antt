@@ -1,6 +1,6 @@
 -- What is known of a call's result, in other words.
 use Rattle.std.specs.Prelude.{◌≡◌, IfOk, Result, Ok, Err}
-use Rattle.std.proofs.Common.{◌∙◌, subst}
+use Rattle.std.proofs.Common.{subst}
 
 pub ok_told : {A B E : Type 0} (r : Result A E) (f : A → B) (x y : B) → x ≡ y → IfOk r (λ a. f a ≡ x) → IfOk r (λ a. f a ≡ y)
 ok_told r f x y same h = subst (λ z. IfOk r (λ a. f a ≡ z)) same h

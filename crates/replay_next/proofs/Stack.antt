@@ -1,6 +1,6 @@
 -- Callers that wait, and the last of them.
-use Rattle.std.specs.Prelude.{◌≡◌, ℕ, ◌+◌, List, [], ◌∷◌, ◌++◌, Option, Some, option_to_list}
-use Rattle.std.proofs.Common.{refl, sym, ◌∙◌, ap, arith}
+use Rattle.std.specs.Prelude.{◌≡◌, ◌+◌, List, [], ◌∷◌, ◌++◌, Option, Some, option_to_list}
+use Rattle.std.proofs.Common.{refl, ◌∙◌, ap, arith}
 use Rattle.source_semantics.specs.Run as run
 use Rattle.replay_calls.specs.declared.lookup.EvalContext as code_scope
 use Rattle.replay_state.specs.declared.call.Item.{Item}

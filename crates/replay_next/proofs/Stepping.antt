@@ -3,7 +3,6 @@ use Rattle.std.specs.Prelude.{◌≡◌, ◌≢◌, ℕ, zero, suc, ◌-◌, Lis
 use Rattle.std.proofs.Common.{refl, sym, ◌∙◌, ap, arith}
 use Rattle.std.proofs.lemmas.List.{append-nil, reverse-append, reverse-reverse}
 use Rattle.syntax_tree.specs.Plain.{Name, Stmts}
-use Rattle.source_semantics.specs.Next.{leave_loop, run_items}
 use Rattle.source_semantics.specs.Run as run
 use Rattle.replay_state.specs.View.{item_of}
 use Rattle.replay_state.specs.declared.call.Item.{Item}

@@ -1,5 +1,5 @@
 -- What an expression or a statement is, by its form in the code.
-use Rattle.std.specs.Prelude.{◌≡◌, ℕ, List, ◌∷◌, Option, Some, None, Box, true, false}
+use Rattle.std.specs.Prelude.{◌≡◌, ℕ, List, Option, Some, None, Box, true, false}
 use Rattle.std.specs.Global.{Global}
 use Rattle.std.proofs.Common.{◌∙◌, ap, sym}
 use Rattle.syntax_tree.specs.Plain as plain
@@ -15,7 +15,7 @@ use Rattle.syntax_tree.specs.declared.stmt.Stmt.{Stmt}
 use Rattle.syntax_tree.specs.declared.stmt.Stmt.TheVariants as s_is
 use Rattle.syntax_tree.proofs.Views as e_views
 use Rattle.syntax_tree.proofs.StmtViews as s_views
-use Rattle.replay_next.specs.Remains.{else_of, expr_of, exprs_of, operands_of, stmts_of}
+use Rattle.replay_next.specs.Remains.{expr_of, exprs_of, operands_of, stmts_of}
 
 -- ---- expressions
 

@@ -1,7 +1,7 @@
 -- Calls that begin, and callers that go on.
-use Rattle.std.specs.Prelude.{◌≡◌, ℕ, ◌-◌, List, [], ◌∷◌, ◌++◌, Option, Some, None, option_map}
-use Rattle.std.proofs.Common.{refl, sym, ◌∙◌, ap}
-use Rattle.base.specs.Words.{Answer, word, raised, with_word}
+use Rattle.std.specs.Prelude.{◌≡◌, ◌-◌, List, [], ◌∷◌, ◌++◌, Option, None, option_map}
+use Rattle.std.proofs.Common.{refl, ◌∙◌, ap}
+use Rattle.base.specs.Words.{Answer, word, raised}
 use Rattle.source_semantics.specs.Next.{answer_after}
 use Rattle.source_semantics.specs.Store.{Vars}
 use Rattle.source_semantics.specs.Run as run

@@ -1,5 +1,5 @@
 -- The call that runs, and the callers that wait for it, the outermost first.
-use Rattle.std.specs.Prelude.{◌≡◌, true, is_some, ℕ, suc, ◌+◌, ◌-◌, ◌<◌, List, [], ◌∷◌, ◌++◌, map, option_map, reverse, Option, Some, None}
+use Rattle.std.specs.Prelude.{◌≡◌, true, is_some, ℕ, suc, ◌+◌, ◌-◌, ◌<◌, List, [], ◌∷◌, map, option_map, reverse, Option, Some, None}
 use Rattle.source_semantics.specs.Next.{answer_after, leave_loop, run_items}
 use Rattle.source_semantics.specs.Store.{Vars, slot_named}
 use Rattle.syntax_tree.specs.Plain.{Name}

@@ -1,5 +1,5 @@
 -- What remains of an expression and of its statement, once the value of a part has come.
-use Rattle.std.specs.Prelude.{◌++◌, ℕ, List, [], ◌∷◌, Option, Some, None, map, option_map, cond}
+use Rattle.std.specs.Prelude.{◌++◌, List, [], ◌∷◌, Option, Some, None, map, option_map, cond}
 use Rattle.syntax_tree.specs.Plain.{Expr as PlainExpr, Exprs, Operands, Param as PlainParam, Stmts, no_stmts}
 use Rattle.syntax_tree.specs.Placed.{op_of, placed_expr, placed_exprs, placed_operands, placed_param, placed_scalar, placed_stmts, plain_expr, plain_exprs, plain_operands, plain_param, plain_scalar, plain_stmts}
 use Rattle.syntax_tree.specs.declared.expr.Op.{Op}

@@ -1,16 +1,15 @@
 -- How much is left to do, the routines that are called included: it falls with each step, so that
 -- calls come to their end.
-use Rattle.std.specs.Prelude.{ℕ, zero, suc, ◌+◌, ◌*◌, ◌-◌, ◌-ℤ◌, List, [], ◌∷◌, map, option_map, Option, Some, None}
+use Rattle.std.specs.Prelude.{ℕ, zero, suc, ◌+◌, ◌*◌, ◌-ℤ◌, List, [], ◌∷◌, Option, Some, None}
 use Rattle.syntax_tree.specs.Placed.{placed, placed_process, plain, plain_process}
-use Rattle.syntax_tree.specs.Plain.{Name, Expr, literal, truth, variable, element, call, minus, negation, paren, row, Exprs, no_exprs, exprs, Operands, no_operands, operand, Ref, whole, part, Stmt, assign, assign_entry, assign_empty, perform, perform_entry, when, when_else, loop, exit_when, get, put, wait, signal, broadcast, except, assert, Stmts, no_stmts, stmts, Answers, Process, Program}
+use Rattle.syntax_tree.specs.Plain.{Name, Expr, literal, truth, variable, element, call, minus, negation, paren, row, Exprs, no_exprs, exprs, Operands, no_operands, operand, Ref, whole, part, Stmt, assign, assign_entry, assign_empty, perform, perform_entry, when, when_else, loop, exit_when, get, put, assert, Stmts, no_stmts, stmts, Answers, Process, Program}
 use Rattle.source_semantics.specs.Names.{constant_value}
 use Rattle.source_semantics.specs.Store.{up_to}
 use Rattle.source_semantics.specs.Run as run
-use Rattle.replay_state.specs.View.{answers_of, item_of}
+use Rattle.replay_state.specs.View.{item_of}
 use Rattle.replay_calls.specs.declared.lookup.EvalContext as code_scope
 use Rattle.replay_calls.specs.Lookups.{found_of}
 use Rattle.replay_next.specs.Remains.{expr_of, exprs_of, operands_of, stmts_of}
-use Rattle.replay_next.specs.declared.remains.Binding as code_binding
 use Rattle.replay_next.specs.declared.remains.BoundSoFar as code_bound
 use Rattle.replay_next.specs.declared.remains.BoundSoFar.TheVariants as bound_is
 use Rattle.replay_next.specs.declared.remains.ExprItem as code_expr

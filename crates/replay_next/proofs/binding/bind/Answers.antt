@@ -1,4 +1,4 @@
-use Rattle.std.proofs.Common.{◌≡◌, ◌∙◌}
+use Rattle.std.proofs.Common.{◌∙◌}
 use Rattle.syntax_tree.specs.Placed.{placed, plain}
 use Rattle.source_semantics.specs.Run as run
 use Rattle.replay_state.specs.View.{vars_of}

@@ -1,4 +1,3 @@
-use Rattle.std.proofs.Common.{◌≡◌, ◌∙◌, ap}
 use Rattle.replay_calls.specs.Reach.{area_of}
 use Rattle.replay_calls.specs.Seen.{answer_of}
 use Rattle.replay_next.specs.Driving.{others_of}

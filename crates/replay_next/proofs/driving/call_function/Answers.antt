@@ -1,14 +1,13 @@
-use Rattle.std.specs.Prelude.{[], ◌≢◌, List, None, Option, option_map}
-use Rattle.std.proofs.Common.{◌≡◌, ◌∙◌, ◌+◌, ◌-◌, ◌<◌, ◌∷◌, ◌++◌, ap, ap₂, sym, refl, arith}
+use Rattle.std.specs.Prelude.{[], None, Option, option_map}
+use Rattle.std.proofs.Common.{◌≡◌, ◌∙◌, ◌+◌, ◌-◌, ap, refl, arith}
 use Rattle.std.specs.Global.{Vec}
 use Rattle.syntax_tree.specs.Placed.{placed, placed_process, plain, plain_process}
-use Rattle.source_semantics.specs.Next.{answer_after}
 use Rattle.source_semantics.specs.Run as run
 use Rattle.replay_state.specs.View.{answers_of, home_of, vars_of}
 use Rattle.replay_state.specs.declared.call.Item.{Item}
 use Rattle.replay_state.specs.declared.variables.Slot as code_slot
 use Rattle.replay_calls.specs.Lookups.{found_of}
-use Rattle.replay_calls.specs.Reach.{area_of, memory_of}
+use Rattle.replay_calls.specs.Reach.{memory_of}
 use Rattle.replay_next.specs.Driving.{Others, callers_run, callers_weight, caller_weight, memory_in, others_in, others_of, rest_of, then_items}
 use Rattle.replay_next.specs.Remains.{stmts_of, told}
 use Rattle.replay_next.specs.Weights.{answers_weight, costs, items_weight, stmts_weight}
@@ -16,7 +15,6 @@ use Rattle.replay_next.specs.declared.remains.Beside.{Beside}
 use Rattle.replay_next.specs.declared.remains.Caller.TheVariants as caller_is
 use Rattle.replay_next.specs.declared.remains.FunctionCaller.{FunctionCaller}
 use Rattle.replay_next.proofs.Deeper as deeper
-use Rattle.replay_next.proofs.Guarding.{others_at}
 use Rattle.replay_next.proofs.Stack as stack
 use Rattle.replay_next.proofs.Waiting as waiting
 use Rattle.replay_next.proofs.Weighing as weighing
@@ -60,7 +58,7 @@ returns-clause-run c =
     let answer = deeper.call_ran g q d f its (run.with_own m vs) m1 o b r1 c.if-depth-eq0.false c.home_in-callee.ensures c.answering-result.ensures body same refl in
     let none : rest_of c.replace-rest.new.dest.items ≡ [] = ap (λ (l : Vec Item). rest_of l.items) c.replace-rest.ensures.after ∙ ap rest_of c.new.ensures.items in
     let items = ap (λ (l : Vec Item). rest_of l.items) c.replace-rest.ensures.value in
-    let now : Others = others_at m in
+    let now : Others = others_of None c.args.memory.now in
     let fresh : others_in c.replace-kept.new.dest now ≡ now = ap (λ (k : Option Beside). others_in k now) c.replace-kept.ensures.after in
     let outside : others_in c.replace-kept.result now ≡ others_of p.kept c.args.memory.now = ap (λ (k : Option Beside). others_in k now) c.replace-kept.ensures.value in
     let here : memory_in (vars_of c.replace-own.result.items) now ≡ m = ap (λ (own : Vec code_slot.Slot). memory_in (vars_of own.items) now) c.replace-own.ensures.value in

@@ -1,5 +1,5 @@
-use Rattle.std.specs.Prelude.{[], ◌≢◌, List}
-use Rattle.std.proofs.Common.{◌≡◌, ◌∙◌, ◌+◌, ◌-◌, ◌<◌, ◌∷◌, ◌++◌, ap, sym, refl, arith}
+use Rattle.std.specs.Prelude.{[]}
+use Rattle.std.proofs.Common.{◌≡◌, ◌∙◌, ◌+◌, ◌-◌, ap, refl, arith}
 use Rattle.std.specs.Global.{Vec}
 use Rattle.syntax_tree.specs.Placed.{placed, placed_process, plain, plain_process}
 use Rattle.source_semantics.specs.Run as run
@@ -7,7 +7,7 @@ use Rattle.replay_state.specs.View.{home_of, vars_of}
 use Rattle.replay_state.specs.declared.call.Item.{Item}
 use Rattle.replay_state.specs.declared.variables.Slot as code_slot
 use Rattle.replay_calls.specs.Lookups.{found_of}
-use Rattle.replay_calls.specs.Reach.{area_of, memory_of}
+use Rattle.replay_calls.specs.Reach.{memory_of}
 use Rattle.replay_next.specs.Driving.{callers_run, callers_weight, caller_weight, others_of, rest_of, then_items}
 use Rattle.replay_next.specs.Remains.{stmts_of}
 use Rattle.replay_next.specs.Weights.{costs, items_weight, stmts_weight}

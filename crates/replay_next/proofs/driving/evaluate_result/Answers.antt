@@ -1,16 +1,13 @@
-use Rattle.std.specs.Prelude.{[], List, None, Some, Option, option_map}
-use Rattle.std.proofs.Common.{◌≡◌, ◌∙◌, ◌+◌, ◌-◌, ◌<◌, ◌∷◌, ◌++◌, ap, sym, refl, arith, ℕ}
+use Rattle.std.specs.Prelude.{None}
+use Rattle.std.proofs.Common.{◌≡◌, ◌∙◌, ◌+◌, ◌-◌, ap, sym, refl, arith, ℕ}
 use Rattle.source_semantics.specs.Run as run
-use Rattle.replay_calls.specs.declared.lookup.EvalContext as code_scope
-use Rattle.replay_state.specs.View.{answers_of}
 use Rattle.replay_calls.specs.Reach.{memory_of, site_of}
-use Rattle.replay_next.specs.Driving.{answer_within, callers_run, callers_weight, caller_weight, others_in, others_of, rest_of, then_items}
-use Rattle.replay_next.specs.Remains.{expr_of, in_type, stmt_told, step_of}
+use Rattle.replay_next.specs.Driving.{callers_run, callers_weight, caller_weight, others_in, others_of, rest_of, then_items}
+use Rattle.replay_next.specs.Remains.{expr_of, in_type, step_of}
 use Rattle.replay_next.specs.Weights.{costs, items_weight}
 use Rattle.replay_next.specs.declared.remains.Caller.TheVariants as caller_is
 use Rattle.replay_next.specs.declared.remains.FunctionCaller.{FunctionCaller}
 use Rattle.replay_next.proofs.Stack as stack
-use Rattle.replay_next.proofs.Stepping.{then_none}
 use Rattle.replay_next.proofs.Waiting as waiting
 use Rattle.replay_next.proofs.driving.evaluate_result.Goals as goal
 

@@ -1,6 +1,5 @@
-use Rattle.std.specs.Prelude.{◌-◌, Some, option_map}
-use Rattle.std.proofs.Common.{◌≡◌, ◌∙◌, ◌+◌, ◌<◌, ap, sym, arith}
-use Rattle.source_semantics.specs.Run as run
+use Rattle.std.specs.Prelude.{◌-◌}
+use Rattle.std.proofs.Common.{◌∙◌, ap, sym, arith}
 use Rattle.replay_calls.specs.Reach.{memory_of, site_of}
 use Rattle.replay_next.specs.Driving.{answer_within, callers_run, end_answer, end_weight, others_in, others_of}
 use Rattle.replay_next.specs.Weights.{costs}

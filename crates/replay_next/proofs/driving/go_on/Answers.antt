@@ -1,5 +1,5 @@
 use Rattle.std.specs.Prelude.{[], ◌∷◌, ◌++◌, List}
-use Rattle.std.proofs.Common.{◌≡◌, ◌∙◌, ◌+◌, ◌<◌, ap, sym, arith}
+use Rattle.std.proofs.Common.{◌≡◌, ◌∙◌, ap, sym, arith}
 use Rattle.source_semantics.specs.Run as run
 use Rattle.replay_calls.specs.Reach.{memory_of, site_of}
 use Rattle.replay_next.specs.Driving.{Others, callers_run, others_of, rest_of, then_items}

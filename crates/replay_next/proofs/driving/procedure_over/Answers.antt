@@ -1,4 +1,4 @@
-use Rattle.std.proofs.Common.{◌≡◌, ◌∙◌, ap}
+use Rattle.std.proofs.Common.{◌∙◌, ap}
 use Rattle.source_semantics.specs.Run as run
 use Rattle.replay_state.specs.View.{home_of, vars_of}
 use Rattle.replay_calls.specs.Reach.{memory_of, site_of}

@@ -1,5 +1,5 @@
 use Rattle.std.specs.Prelude.{[], ◌∷◌, ◌++◌, List, Some}
-use Rattle.std.proofs.Common.{◌≡◌, ◌∙◌, ◌+◌, ◌<◌, ap, sym, arith}
+use Rattle.std.proofs.Common.{◌≡◌, ◌∙◌, ◌+◌, ap, sym, arith}
 use Rattle.replay_calls.specs.Reach.{memory_of}
 use Rattle.replay_next.specs.Driving.{callers_run, callers_weight, caller_weight, others_of}
 use Rattle.replay_next.specs.Remains.{came_of}

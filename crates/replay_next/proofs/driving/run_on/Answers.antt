@@ -1,4 +1,4 @@
-use Rattle.std.proofs.Common.{◌≡◌, ◌∙◌, ap, sym}
+use Rattle.std.proofs.Common.{◌∙◌, ap, sym}
 use Rattle.replay_next.specs.Driving.{driven_run}
 use Rattle.replay_next.specs.declared.remains.Driven.{Driven}
 use Rattle.replay_next.proofs.driving.run_on.Goals as goal

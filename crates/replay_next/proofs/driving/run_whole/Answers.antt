@@ -1,5 +1,5 @@
-use Rattle.std.specs.Prelude.{[], List, None, reverse, map}
-use Rattle.std.proofs.Common.{◌≡◌, ◌∙◌, ap}
+use Rattle.std.specs.Prelude.{List, None, reverse}
+use Rattle.std.proofs.Common.{◌∙◌, ap}
 use Rattle.source_semantics.specs.Run as run
 use Rattle.source_semantics.specs.Next.{run_items}
 use Rattle.replay_calls.specs.Reach.{memory_of, site_of}

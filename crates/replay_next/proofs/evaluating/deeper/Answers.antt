@@ -1,5 +1,5 @@
 use Rattle.std.specs.Prelude.{List}
-use Rattle.std.proofs.Common.{◌≡◌, ◌∙◌, ap, arith}
+use Rattle.std.proofs.Common.{◌∙◌, ap, arith}
 use Rattle.source_semantics.specs.Run as run
 use Rattle.replay_next.specs.Remains.{expr_of, exprs_told, stmt_told}
 use Rattle.replay_next.specs.Weights.{expr_items_weight}

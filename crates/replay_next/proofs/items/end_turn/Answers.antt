@@ -1,4 +1,4 @@
-use Rattle.std.proofs.Common.{◌≡◌, sym}
+use Rattle.std.proofs.Common.{sym}
 use Rattle.replay_calls.specs.Reach.{memory_of}
 use Rattle.replay_next.proofs.items.end_turn.Goals as goal
 

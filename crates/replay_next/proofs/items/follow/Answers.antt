@@ -1,6 +1,5 @@
 use Rattle.std.specs.Prelude.{◌∷◌, map}
-use Rattle.std.proofs.Common.{◌≡◌, ◌∙◌, ap, sym}
-use Rattle.source_semantics.specs.Run as run
+use Rattle.std.proofs.Common.{◌∙◌, ap, sym}
 use Rattle.replay_state.specs.View.{action_of, calls_of, item_of}
 use Rattle.replay_calls.specs.Reach.{memory_of, site_of}
 use Rattle.replay_next.specs.Driving.{then_items}

@@ -1,4 +1,4 @@
-use Rattle.std.proofs.Common.{◌≡◌, ◌∙◌, ap, sym}
+use Rattle.std.proofs.Common.{◌∙◌, ap, sym}
 use Rattle.source_semantics.specs.Run as run
 use Rattle.replay_next.specs.Ran.{tested_run}
 use Rattle.replay_next.specs.Remains.{stmts_of}

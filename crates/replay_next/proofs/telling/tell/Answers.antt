@@ -1,5 +1,5 @@
 use Rattle.std.specs.Prelude.{[], ◌∷◌, ◌++◌, List, Option, option_to_list}
-use Rattle.std.proofs.Common.{◌≡◌, ◌∙◌, ◌+◌, ◌<◌, ap, sym, arith}
+use Rattle.std.proofs.Common.{◌≡◌, ◌∙◌, ap, sym, arith}
 use Rattle.replay_calls.specs.Reach.{memory_of, site_of}
 use Rattle.replay_calls.specs.Seen.{answer_of}
 use Rattle.replay_next.specs.Remains.{exprs_told, stmt_told}
