@@ -1,4 +1,4 @@
-use Rattle.std.proofs.Common.{◌≡◌, ◌∙◌, ◌∷◌, ℕ, List, ap, sym, refl, drop, ◌+◌}
+use Rattle.std.proofs.Common.{◌≡◌, ◌∙◌, ◌∷◌, ℕ, List, ap, sym, refl, drop, ◌+◌, arith}
 use Rattle.std.specs.Borrow.{Bor}
 use Rattle.syntax_tree.specs.Plain.{Name, Program}
 use Rattle.syntax_tree.specs.Placed.{placed, plain}
@@ -18,8 +18,8 @@ listed g base l = monitor_tables g base (seen_monitors l)
 same_table : (t : Table) (names : List Name) (spots : List VarLocation) → t.names ≡ names → t.spots ≡ spots → t ≡ record { names = names; spots = spots }
 same_table t names spots e f = ap (λ (n : List Name). record { names = n; spots = t.spots }) e ∙ ap (λ (s : List VarLocation). record { names = names; spots = s }) f
 
-pub loop-monitor-preserved-told : goal.loop-monitor-preserved-told
-loop-monitor-preserved-told c =
+pub loop-monitor-preserved : goal.loop-monitor-preserved
+loop-monitor-preserved c =
     let g = plain (placed c.args.values.now) in
     let items = c.args.monitors.now in
     let at = c.loop-monitor.monitor-index in
@@ -32,9 +32,12 @@ loop-monitor-preserved-told c =
     let next : listed g c.behind.result rest ≡ listed g c.in_ok-laid.laid.word rest =
     ap (λ w. listed g w rest) c.behind.ensures ∙ behind_same g c.in_ok-laid.laid.word (seen_monitors rest)
     in
-    turn (listed g base) (listed g c.behind.result) c.loop-monitor.tables.items c.push.new.self.items items at c.monitor-item.result table (listed g 0 items)
-    (ap (λ t. t ∷ listed g (base + words_of g (monitor_vars (monitor_of c.monitor-item.result))) rest) (sym told) ∙ ap (λ b. table ∷ listed g b rest) (sym c.in_ok-laid.ensures.words) ∙ ap (λ (ts : List Table). table ∷ ts) (sym next))
-    c.in_ok-push.ensures.items c.monitor-item.is c.loop-monitor-test.true c.loop-monitor.invariant.told
+    record {
+      told = turn (listed g base) (listed g c.behind.result) c.loop-monitor.tables.items c.push.new.self.items items at c.monitor-item.result table (listed g 0 items)
+          (ap (λ t. t ∷ listed g (base + words_of g (monitor_vars (monitor_of c.monitor-item.result))) rest) (sym told) ∙ ap (λ b. table ∷ listed g b rest) (sym c.in_ok-laid.ensures.words) ∙ ap (λ (ts : List Table). table ∷ ts) (sym next))
+          c.in_ok-push.ensures.items c.monitor-item.is c.loop-monitor-test.true c.loop-monitor.invariant.told;
+      low = omega (arith, c.behind.ensures);
+    }
 
 pub returns : goal.returns
 returns c =
