@@ -1,6 +1,6 @@
 #!/usr/bin/env python3
 """tries.py CLONE [NAME..]: each of the dear edits once, by its function alone; results in results.json"""
-import sys, json, subprocess, pathlib, re, time
+import os, sys, json, subprocess, pathlib, re, time
 clone=pathlib.Path(sys.argv[1]); want=set(sys.argv[2:])
 T=[
 ('rte/flush_fault_ignored','command','src/whole.rt','        Err(_) => (Status::Unput, sink),','        Err(_) => (status, sink),',['settle']),
@@ -24,7 +24,7 @@ T=[
 ('rte_prepare_programs/late_is_done','command_programs','src/programs.rt','            Ok(put(Status::Late, text))','            Ok(put(Status::Done, text))',[]),
 ('rte_prepare_programs/script_one_byte_short','command_programs','src/going.rt','read(files, script, LONGEST_SCRIPT)','read(files, script, LONGEST_SCRIPT - 1)',[]),
 ('rte_prepare_replay/refused_log_is_memory','replay','src/judge_log.rt','            Ok(put(Status::Log, refused_line(alloc, *line)?))','            let _line = refused_line(alloc, *line)?;\n            Err(std::alloc::AllocError)',['put_verdict']),
-('rte_replay/missing_start_told_a_line_early','replay','src/judge_events.rt','        line: count + 1,','        line: count,',['refuse']),
+('rte_replay/missing_start_told_a_line_early','replay','src/judge_events.rt','        line: count + 1,','        line: count,',['judge_end']),
 ('rte_replay_program/judges_no_program','replay','src/replaying.rt','    judged(alloc, &declarations, ranks, script, reader)','    let _judged = judged(alloc, &declarations, ranks, script, reader)?;\n    Err(LogFault::Memory)',['replay']),
 ('rte_report/deadline_for_the_bound','sched_table','src/lines.rt','add_optional(text, " bound ", row.bound)','add_optional(text, " bound ", Some(row.deadline))',['add_times']),
 ('rte_run/an_empty_put_a_line','vm_run','src/put_log.rt','    match out.put(text.as_slice()) {','    let _ = out.put(b"");\n    match out.put(text.as_slice()) {',['put_line']),
