@@ -11,9 +11,9 @@ use Rattle.image.specs.declared.raw.RawImage.{RawImage}
 use Rattle.image.specs.Raw.{image_of, process_of}
 use Rattle.valid_image.specs.Tasks.{tasks_of}
 use Rattle.static_semantics.specs.Static.{IsChecked}
-use Rattle.sched_slack.specs.Overhead.{with_overhead}
-use Rattle.sched_slack.specs.declared.rows.ProcessFit.{ProcessFit}
-use Rattle.sched_slack.specs.Rows.{IsFitOf}
+use Rattle.sched_sensitivity.specs.Overhead.{with_overhead}
+use Rattle.sched_sensitivity.specs.declared.rows.ProcessFit.{ProcessFit}
+use Rattle.sched_sensitivity.specs.Rows.{IsFitOf}
 use Rattle.sched_program.specs.Tasks.{AreTasksOf}
 use Rattle.sched_program.specs.Once.{TasksAreOne}
 use Rattle.sched_program.specs.Fits.{IsFitText}

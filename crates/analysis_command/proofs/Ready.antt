@@ -12,7 +12,7 @@ use Rattle.valid_image_law.proofs.Ranking.{ranked}
 use Rattle.code_measures.proofs.Valid.{no_rank_fault}
 use Rattle.sched_response.specs.declared.tasks.Task.{Task}
 use Rattle.sched_response.specs.Demand.{AreTasks}
-use Rattle.sched_slack.specs.Overhead.{with_dispatches, with_overhead}
+use Rattle.sched_sensitivity.specs.Overhead.{with_dispatches, with_overhead}
 use Rattle.loader.proofs.InOrder.{are_tasks, tasks_long}
 use Rattle.analysis_command.specs.Fitted.{levels_of, CanFit}
 

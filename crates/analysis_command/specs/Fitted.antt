@@ -5,10 +5,10 @@ use Rattle.image.specs.declared.raw.RawImage.{RawImage}
 use Rattle.valid_image.specs.Tasks.{tasks_of}
 use Rattle.valid_image.specs.Valid.{HasLimits}
 use Rattle.code_measures.specs.Whole.{HasRanks}
-use Rattle.sched_slack.specs.Overhead.{with_overhead, IsOverheadFit}
-use Rattle.sched_slack.specs.declared.rows.ProcessFit.{ProcessFit}
-use Rattle.sched_slack.specs.Lines.{fits_text}
-use Rattle.sched_slack.specs.Rows.{AreFitsOf}
+use Rattle.sched_sensitivity.specs.Overhead.{with_overhead, IsOverheadFit}
+use Rattle.sched_sensitivity.specs.declared.rows.ProcessFit.{ProcessFit}
+use Rattle.sched_sensitivity.specs.Lines.{fits_text}
+use Rattle.sched_sensitivity.specs.Rows.{AreFitsOf}
 
 -- the level of each process, in the order of the text
 abbrev pub levels_of : RawImage → List ℕ

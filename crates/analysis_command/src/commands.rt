@@ -1,9 +1,9 @@
 //! `why` and `fit`.
 
-ghost use Rattle.std.specs.Prelude.{◌∷◌, [], ◌≡◌, ◌≤◌, IfOk};
-ghost use Rattle.outside.specs.Outside.{AllStay, NoneFell};
+ghost use Rattle.std.specs.Prelude.{◌∷◌, [], ◌≤◌, IfOk};
 ghost use Rattle.command_words.specs.Calls as call;
 ghost use Rattle.command_answers.specs.Prepared.{Prepares};
+ghost use Rattle.command_answers.specs.OnlyReads.{OnlyReads};
 ghost use Rattle.command_answers.specs.Tried.{HasTried, status_of};
 ghost use Rattle.command_refusals.specs.Refusals.{IsExplained};
 
@@ -25,13 +25,9 @@ pub fn prepare_why<'a, F: Files>(
     requires { over ≤ 1000 }
     ensures prepared { Prepares F.tells (call.why program.now over) (F.state files.old)
         (F.state files.new) result }
-    ensures files { AllStay (F.state files.old).held (F.state files.new).held }
-    ensures read_counts { NoneFell (F.state files.old).read_faults (F.state files.new).read_faults }
-    ensures write_counts { NoneFell (F.state files.old).write_faults
-        (F.state files.new).write_faults }
+    ensures only_reads { OnlyReads (F.state files.old) (F.state files.new) }
     ensures reads { HasTried (program.now ∷ []) (F.state files.old).reads
         (F.state files.new).reads (status_of result) }
-    ensures writes { (F.state files.new).writes ≡ (F.state files.old).writes }
     ensures told { IfOk result (IsExplained F.tells (call.why program.now over)
         (F.state files.old).held message.new) }
 {
@@ -54,13 +50,9 @@ pub fn prepare_fit<'a, F: Files>(
     requires { over ≤ 1000 }
     ensures prepared { Prepares F.tells (call.fit program.now over) (F.state files.old)
         (F.state files.new) result }
-    ensures files { AllStay (F.state files.old).held (F.state files.new).held }
-    ensures read_counts { NoneFell (F.state files.old).read_faults (F.state files.new).read_faults }
-    ensures write_counts { NoneFell (F.state files.old).write_faults
-        (F.state files.new).write_faults }
+    ensures only_reads { OnlyReads (F.state files.old) (F.state files.new) }
     ensures reads { HasTried (program.now ∷ []) (F.state files.old).reads
         (F.state files.new).reads (status_of result) }
-    ensures writes { (F.state files.new).writes ≡ (F.state files.old).writes }
     ensures told { IfOk result (IsExplained F.tells (call.fit program.now over)
         (F.state files.old).held message.new) }
 {

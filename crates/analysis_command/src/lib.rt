@@ -4,7 +4,7 @@
 //! tells what fits (`IsFitText`), both by its text alone. `prepare_why` and `prepare_fit` read a
 //! text, judge it, and make the act that puts these: the levels of the program by its image, the
 //! entry and the process that make each block (`code_names` finds the first goal that calls come
-//! to), and what fits by `sched_slack`. Of a text that is refused, and of a program that `why`
+//! to), and what fits by `sched_sensitivity`. Of a text that is refused, and of a program that `why`
 //! finds late, a person is told the message that `command_refusals` says.
 #![tactic(auto)]
 

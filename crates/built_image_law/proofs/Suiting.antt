@@ -1,21 +1,18 @@
 -- From the lines of a text to the lines of a run.
-use Rattle.std.proofs.Common.{◌≡◌, ◌≤◌, ◌<◌, ◌+◌, ◌∙◌, inl, inr, ℕ, zero, suc, List, [], ◌∷◌, length, map, Some, arith, refl, ap, subst}
-use Rattle.std.specs.Prelude.{AllPairs, slice_get, slice_index_or}
-use Rattle.std.proofs.lemmas.Bool.{cases_lt}
-use Rattle.image.specs.declared.names.ImageNames.{ImageNames}
-use Rattle.machine_semantics.specs.Image.{Image, Line, Occurs}
+use Rattle.std.proofs.Common.{◌≡◌, ◌≤◌, ℕ, suc, List, [], ◌∷◌, map, arith, refl, ap, sym, subst}
+use Rattle.std.specs.Prelude.{AllPairs}
 use Rattle.code_lifting.specs.Compiled as lifted
-use Rattle.code_lifting.specs.Compiled.{IsFrom, line_of}
-use Rattle.sched_timing.specs.Timed.{RespectsFrames}
+use Rattle.code_lifting.specs.Compiled.{IsFrom}
 use Rattle.script.specs.declared.script.ScriptLine.{ScriptLine}
 use Rattle.script.specs.declared.script.ScriptLine.TheVariants.{Set, Occur}
-use Rattle.script.specs.Scripts.{IsApart, IsLater, frame_of, tick_of}
+use Rattle.script.specs.Scripts.{IsLater, tick_of}
 use Rattle.script.specs.Meaning.{line_said}
 use Rattle.command_due.specs.Script.{run_of}
 use Rattle.built_image.specs.Named.{names_of}
-use Rattle.vm_law.specs.Suits.{HasFrames}
-use Rattle.built_image_law.specs.Suits.{NamesHaveFrames, ScriptsForTheNamesSuit}
-use Rattle.vm_law.proofs.Suiting.{some_line}
+use Rattle.vm_releases.specs.Begin.{lines_of}
+use Rattle.vm_law.specs.Suits.{Suits}
+use Rattle.vm_law.specs.ScriptSuits.{ScriptsSuit, script_with}
+use Rattle.built_image_law.specs.Suits.{NamesHaveFrames, ScriptsAreInOrder, ScriptsForTheNamesSuit}
 
 -- ---- the order
 
@@ -51,60 +48,20 @@ from_zero : (lines : List ScriptLine) → NotBefore 0 lines
 from_zero [] = tt
 from_zero (x ∷ xs) = omega arith
 
--- ---- the frames
+pub scripts_are_in_order : ScriptsAreInOrder
+scripts_are_in_order names text lines end script = in_order 0 lines script.begun.respects.order (from_zero lines)
 
--- a line of the run is that of a line of the text
-record Is (lines : List ScriptLine) (i : ℕ) (l : Line) : Type 0 where
-  line : ScriptLine
-  same : line_of (line_said line) ≡ l
-  there : slice_index_or lines i some_line ≡ line
-  within : i < length lines
+-- ---- the run
 
-one_line : (lines : List ScriptLine) (i : ℕ) (l : Line) → slice_get (map line_of (map line_said lines)) i ≡ Some l → Is lines i l
-one_line [] i l at = absurd cc
-one_line (x ∷ xs) zero l at = record { line = x; same = (let is : line_of (line_said x) ≡ l = cc in is); there = refl; within = omega arith }
-one_line (x ∷ xs) (suc i) l at =
-    let rest = one_line xs i l at in
-    record { line = rest.line; same = rest.same; there = rest.there; within = (let low = rest.within in omega (arith, low)) }
+same_lines : (lines : List ScriptLine) → map lifted.line_of (map line_said lines) ≡ lines_of lines
+same_lines [] = refl
+same_lines (Set tick dev value ∷ lines) = ap (λ ls. lifted.line_of (line_said (Set tick dev value)) ∷ ls) (same_lines lines)
+same_lines (Occur tick event ∷ lines) = ap (λ ls. lifted.line_of (line_said (Occur tick event)) ∷ ls) (same_lines lines)
 
--- what holds of each two lines of the text, the first before the second
-pair : (R : ScriptLine → ScriptLine → Type 0) (lines : List ScriptLine) (i j : ℕ) (l m : Line) (a : Is lines i l) (b : Is lines j m)
-    → AllPairs R lines → i < j → R a.line b.line
-pair R lines i j l m a b all before =
-    subst (λ (y : ScriptLine). R a.line y) b.there (subst (λ (x : ScriptLine). R x (slice_index_or lines j some_line)) a.there (all i j some_line before b.within))
+-- the run of a script is one to the meaning of programs and to the machine
+pub same_run : (lines : List ScriptLine) (end : ℕ) → run_of lines end ≡ script_with lines end
+same_run lines end = ap (λ ls. record { lines = ls; end_tick = end }) (same_lines lines)
 
-occurs : (x : ScriptLine) (t e : ℕ) → line_of (line_said x) ≡ Occurs t e → x ≡ Occur t e
-occurs (Set tick dev value) t e is = absurd cc
-occurs (Occur tick event) t e is =
-    let at : tick ≡ t = cc in
-    let of : event ≡ e = cc in
-    ap (λ (u : ℕ). Occur u event) at ∙ ap (λ (f : ℕ). Occur t f) of
-
-apart : (names : ImageNames) (lines : List ScriptLine) (i j t u e : ℕ) → AllPairs (IsApart names) lines → i < j
-    → slice_get (map line_of (map line_said lines)) i ≡ Some (Occurs t e) → slice_get (map line_of (map line_said lines)) j ≡ Some (Occurs u e)
-    → t + frame_of names e ≤ u
-apart names lines i j t u e all before at_l at_m =
-    let a = one_line lines i (Occurs t e) at_l in
-    let b = one_line lines j (Occurs u e) at_m in
-    let p : IsApart names a.line b.line = pair (IsApart names) lines i j (Occurs t e) (Occurs u e) a b all before in
-    let q : IsApart names (Occur t e) b.line = subst (λ (x : ScriptLine). IsApart names x b.line) (occurs a.line t e a.same) p in
-    let r : IsApart names (Occur t e) (Occur u e) = subst (λ (x : ScriptLine). IsApart names (Occur t e) x) (occurs b.line u e b.same) q in
-    r refl
-
-respects : (names : ImageNames) (m : Image) (lines : List ScriptLine) (end : ℕ) → HasFrames names m → AllPairs (IsApart names) lines
-    → RespectsFrames m (run_of lines end)
-respects names m lines end frames all k p at kind i j t u differ at_l at_m =
-    let frame : frame_of names p.event ≡ p.frame = frames k p at kind in
-    elim (cases_lt i j) [
-      | inl before ↦ inl (let far = apart names lines i j t u p.event all before at_l at_m in omega (arith, far, frame))
-      | inr not_before ↦ elim (cases_lt j i) [
-        | inl after ↦ inr (let far = apart names lines j i u t p.event all after at_m at_l in omega (arith, far, frame))
-        | inr not_after ↦ absurd (differ (omega (arith, not_before, not_after)))
-      ]
-    ]
-
-pub scripts_suit : NamesHaveFrames → ScriptsForTheNamesSuit
-scripts_suit names g m text lines end formed code script = record {
-  order = in_order 0 lines script.begun.respects.order (from_zero lines);
-  frames = respects (names_of g) m lines end (names g m formed code) script.begun.respects.frames;
-}
+pub scripts_suit : NamesHaveFrames → ScriptsSuit → ScriptsForTheNamesSuit
+scripts_suit frames suit g m text lines end formed code script =
+    subst (Suits m) (sym (same_run lines end)) (suit (names_of g) m text lines end (frames g m formed code) script)

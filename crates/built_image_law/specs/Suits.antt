@@ -5,10 +5,10 @@ use Rattle.machine_semantics.specs.Image.{Image}
 use Rattle.code_spec.specs.Compiled.{IsCodeOf}
 use Rattle.static_semantics.specs.WellFormed.{IsWellFormed}
 use Rattle.code_lifting.specs.Compiled.{IsFrom}
-use Rattle.sched_timing.specs.Timed.{RespectsFrames}
+use Rattle.image.specs.declared.names.ImageNames.{ImageNames}
 use Rattle.script.specs.declared.script.ScriptLine.{ScriptLine}
 use Rattle.script.specs.Scripts.{IsScript}
-use Rattle.vm_law.specs.Suits.{HasFrames}
+use Rattle.vm_law.specs.Suits.{HasFrames, Suits}
 use Rattle.built_image.specs.Named.{names_of}
 use Rattle.script.specs.Meaning.{said}
 use Rattle.command_due.specs.Script.{run_of}
@@ -18,12 +18,11 @@ use Rattle.command_due.specs.Script.{run_of}
 abbrev pub NamesHaveFrames : Type 0
 NamesHaveFrames = (g : Program) (m : Image) → IsWellFormed g → IsCodeOf g m → HasFrames (names_of g) m
 
--- the lines are in order, and the events respect the frames of the image's processes
-pub record Suits (m : Image) (lines : List ScriptLine) (end : ℕ) : Type 0 where
-  pub order : IsFrom 0 (said lines end).lines
-  pub frames : RespectsFrames m (run_of lines end)
-
 -- The law: each script for the names of a well-formed program suits the image of the program.
 abbrev pub ScriptsForTheNamesSuit : Type 0
 ScriptsForTheNamesSuit = (g : Program) (m : Image) (text : List ℕ) (lines : List ScriptLine) (end : ℕ)
-    → IsWellFormed g → IsCodeOf g m → IsScript (names_of g) text lines end → Suits m lines end
+    → IsWellFormed g → IsCodeOf g m → IsScript (names_of g) text lines end → Suits m (run_of lines end)
+
+-- The law: the lines of a script are in order to the meaning of programs, too.
+abbrev pub ScriptsAreInOrder : Type 0
+ScriptsAreInOrder = (names : ImageNames) (text : List ℕ) (lines : List ScriptLine) (end : ℕ) → IsScript names text lines end → IsFrom 0 (said lines end).lines

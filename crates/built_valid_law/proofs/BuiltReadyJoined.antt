@@ -4,7 +4,7 @@ use Rattle.syntax_tree.specs.Placed.{plain}
 use Rattle.syntax_tree.specs.Plain.{Program}
 use Rattle.machine_semantics.specs.Image.{Image}
 use Rattle.image.specs.Named.{NamedImage}
-use Rattle.valid_image.specs.Valid.{HasLimits, IsValid, Sizes}
+use Rattle.valid_image.specs.Valid.{HasLimits, IsValid, Shape, Sizes}
 use Rattle.valid_image_law.specs.ValidLaw.{ValidMeetsPremises}
 use Rattle.vm_law.specs.Operands.{ValidOperandsAreThere}
 use Rattle.code_cost_spec.specs.Levels.{code_length}
@@ -52,7 +52,7 @@ built_images_are_ready ready_law small_law made_law limits_law valid_law operand
       valid = valid;
       plan = has_plan p m counts made.code limits (valid Sizes) (operands_law m limits valid) (standing m (premises_law m limits valid));
       names = are_names p m counts names;
-      range = in_range p m ready.formed made.code valid short counts names;
+      range = in_range p m ready.formed made.code (valid Shape) short counts names;
       frames = frames;
       devices = omega (arith, counts.device_names, counts.devices);
       events = omega (arith, counts.events);

@@ -13,7 +13,7 @@ use Rattle.image.specs.InRange.{AreCounted, IsInRange, IsProcessInRange, IsSmall
 use Rattle.image_format.specs.TreeBytes.{segments}
 use Rattle.code_spec.specs.Compiled.{EmitsHandler, IsCodeOf, ascending}
 use Rattle.valid_image.specs.Tables.{handler_found, handler_start, known}
-use Rattle.valid_image.specs.Valid.{IsValid, Shape}
+use Rattle.valid_image.specs.Valid.{Shape, fault_of_part}
 use Rattle.valid_image_law.proofs.Shapes.{ProcessShaped, RoutineShaped, process_shaped, routine_shaped}
 use Rattle.static_semantics.specs.WellFormed.{IsWellFormed, OptionalFits, ProcessFits}
 use Rattle.built_image_law.specs.Short.{NamesAreShort}
@@ -39,16 +39,16 @@ numbers_low g code k t (Some x) a b p h fits =
     let are : length p.numbers ≡ length (ascending (map (λ (n : Constant). count_value g n) x.numbers)) = ap (λ (ns : List ℕ). length ns) h.4 in
     omega (arith, are, few_numbers g x.numbers fits.numbers fits.once)
 
-module _ (g : Program) (m : Image) (formed : IsWellFormed g) (code : IsCodeOf g m) (valid : IsValid m) (short : length m.code ≤ 65535) where
+module _ (g : Program) (m : Image) (formed : IsWellFormed g) (code : IsCodeOf g m) (shape : fault_of_part m Shape ≡ None) (short : length m.code ≤ 65535) where
   routine_small : (r : ℕ) (x : Routine) → slice_get m.routines r ≡ Some x → IsSmall x.tree
   routine_small r x at =
-      let s : RoutineShaped m r x = routine_shaped m (valid Shape) r x at in
+      let s : RoutineShaped m r x = routine_shaped m shape r x at in
       let low : segments x.tree < length m.code = routine_low m.code (take r (known m)) x (s.f, s.is) in
       omega (arith, low, short)
 
   process_in_range : (k : ℕ) (p : Process) → slice_get m.processes k ≡ Some p → IsProcessInRange p
   process_in_range k p at =
-      let s : ProcessShaped m k p = process_shaped m (valid Shape) k p at in
+      let s : ProcessShaped m k p = process_shaped m shape k p at in
       let e : Emitted g m.code (processes g) k p = emitted g m.code 0 code.between (length m.code) (processes g) m.processes code.process_code k p at in
       let fits : ProcessFits g e.text =
       subst (ProcessFits g) (get_or_from_slice_get (processes g) k e.text e.text e.there) (formed.processes_fit k e.text (slice_get_within (processes g) k e.text e.there)) in

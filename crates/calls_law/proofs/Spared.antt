@@ -9,9 +9,9 @@ use Rattle.machine_semantics.specs.Image.{Process}
 use Rattle.image.specs.Named.{NamedImage}
 use Rattle.sched_response.specs.declared.tasks.Task.{Task}
 use Rattle.sched_response.specs.Demand.{task_at, deadline_at, AreTasks, IsTask, Solves}
-use Rattle.sched_slack.specs.Slack.{with_more, IsTimely}
-use Rattle.sched_slack.proofs.Lighter.{nobody, run_within}
-use Rattle.sched_slack.proofs.More.{length_more}
+use Rattle.sched_sensitivity.specs.Slack.{with_more, IsTimely}
+use Rattle.sched_sensitivity.proofs.Lighter.{nobody, run_within}
+use Rattle.sched_sensitivity.proofs.More.{length_more}
 use Rattle.sched_theorem.specs.Stretches.{Trace}
 use Rattle.sched_theorem.specs.Ranked.{EndsWithin}
 use Rattle.sched_theorem.specs.Dispatched.{Dispatch, IsDispatched}

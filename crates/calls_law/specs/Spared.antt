@@ -2,7 +2,7 @@
 use Rattle.std.specs.Prelude.{◌≡◌, ◌≤◌, ◌+◌, ◌-◌, ℕ, true, List, length, slice_get, Some}
 use Rattle.std.specs.List.{concat}
 use Rattle.machine_semantics.specs.Image.{Process}
-use Rattle.sched_slack.specs.Slack.{with_more}
+use Rattle.sched_sensitivity.specs.Slack.{with_more}
 use Rattle.sched_theorem.specs.Stretches.{Trace}
 use Rattle.sched_theorem.specs.Ranked.{EndsWithin}
 use Rattle.sched_theorem.specs.Dispatched.{Dispatch, IsDispatched}

@@ -5,7 +5,7 @@ use Rattle.script.specs.declared.script.Script.{Script}
 use Rattle.script.specs.Scripts.{IsScript}
 use Rattle.command_due.specs.Source.{IsTimelyText}
 use Rattle.compile.specs.declared.built.Built.{Built}
-use Rattle.command_answers.specs.Runnable.{RunsRaw}
+use Rattle.command_answers.specs.Acts.{CanRunByRanks}
 use Rattle.command_programs.specs.Runnable.{IsRunnableBuilt}
 use Rattle.load.specs.Program.{program_text}
 use Rattle.load.specs.Script.{script_text}
@@ -37,7 +37,7 @@ pub record IsScriptText (built : Built) (text : List ℕ) : Type 0 where
 -- the script of the text, over which the image can be run
 pub record IsReadOf (built : Built) (text : List ℕ) (script : Script) : Type 0 where
   pub is : IsScript built.image.names text script.lines script.end
-  pub runs : RunsRaw built.image script
+  pub runs : CanRunByRanks (named_of built.image) script
 
 -- the texts of the load, and the line that tells of its run
 pub record AreTextsOf (key count : ℕ) (texts : LoadTexts) : Type 0 where

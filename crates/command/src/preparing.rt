@@ -5,12 +5,12 @@
 //! what each answer of `prepare` means (`Prepares`): an act that comes to what is due, and that the
 //! machine can run; or a read that failed. Nothing is stored or put here.
 
-ghost use Rattle.std.specs.Prelude.{◌≡◌, ◌≤◌, IfOk};
-ghost use Rattle.outside.specs.Outside.{AllStay, NoneFell};
+ghost use Rattle.std.specs.Prelude.{◌≤◌, IfOk};
 ghost use Rattle.command_words.specs.Calls.{over_of};
 ghost use Rattle.command_words.specs.Words.{call_of};
 ghost use Rattle.command_answers.specs.Files.{sources_of};
 ghost use Rattle.command_answers.specs.Prepared.{Prepares};
+ghost use Rattle.command_answers.specs.OnlyReads.{OnlyReads};
 ghost use Rattle.command_answers.specs.Tried.{HasTried, status_of};
 ghost use Rattle.command_refusals.specs.Refusals.{IsExplained};
 
@@ -48,13 +48,9 @@ pub fn prepare<'a, F: Files>(
     requires overhead { over_of (call_of command.now) ≤ 1000 }
     ensures prepared { Prepares F.tells (call_of command.now) (F.state files.old)
         (F.state files.new) result }
-    ensures files { AllStay (F.state files.old).held (F.state files.new).held }
-    ensures read_counts { NoneFell (F.state files.old).read_faults (F.state files.new).read_faults }
-    ensures write_counts { NoneFell (F.state files.old).write_faults
-        (F.state files.new).write_faults }
+    ensures only_reads { OnlyReads (F.state files.old) (F.state files.new) }
     ensures reads { HasTried (sources_of (call_of command.now)) (F.state files.old).reads
         (F.state files.new).reads (status_of result) }
-    ensures writes { (F.state files.new).writes ≡ (F.state files.old).writes }
     ensures told { IfOk result (IsExplained F.tells (call_of command.now)
         (F.state files.old).held message.new) }
 {

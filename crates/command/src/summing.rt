@@ -8,8 +8,9 @@ ghost use Rattle.command.specs.Texts.{AreTextsOf, IsMadeOf, IsReadOf};
 
 use crate::log::log_of;
 use crate::texts::{compile_load, read_load};
-use command_answers::{Dispatch, PreparedRun};
+use command_answers::{PreparedRun, RunnableImage};
 use compile::Built;
+use image_loaded::Image;
 use load::{make_program, make_script, mark_after, summary_line};
 use load_law::load_texts;
 use script::Script;
@@ -53,10 +54,10 @@ fn summary_of(
 {
     load_texts();
     let code = built.image.code.len() as u32;
+    let image = Image::of_valid(alloc, built.image)?;
     let run = PreparedRun {
-        image: built.image,
+        image: RunnableImage::Ranks(image),
         script,
-        dispatch: Dispatch::Ranks,
     };
     let log = log_of(alloc, &run)?;
     let bytes = log.as_slice();

@@ -1,7 +1,6 @@
 -- What is due of scripts, by what was answered of them; runs that can be made.
 use Rattle.std.proofs.Common.{◌≡◌, ◌≢◌, ℕ, List, Option, Ok, Err, ◌⊎◌, inl, inr, sym, subst}
 use Rattle.std.specs.Prelude.{Result, IfOk}
-use Rattle.image.specs.declared.raw.RawImage.{RawImage}
 use Rattle.script.specs.declared.fault.ScriptFault.{ScriptFault}
 use Rattle.script.specs.declared.fault.ScriptFault.TheVariants as script_fault
 use Rattle.script.specs.declared.script.Script.{Script}
@@ -11,11 +10,11 @@ use Rattle.image.specs.Named.{NamedImage}
 use Rattle.command_due.specs.Script.{script_fault_line}
 use Rattle.command_answers.specs.declared.act.PreparedCall.{PreparedCall}
 use Rattle.command_answers.specs.declared.status.Status.TheVariants as status
-use Rattle.command_answers.specs.Acts.{outcome_of}
+use Rattle.command_answers.specs.Acts.{CanRunByRanks, outcome_of}
 use Rattle.command_answers.specs.Acting.{puts}
 use Rattle.command_answers.specs.Scripted.{IsRunOver, misspelled, is_run, ran}
 use Rattle.command_answers.proofs.Coming.{put_comes_to}
-use Rattle.command_answers.specs.Runnable.{IsRunnable, RunsRaw}
+use Rattle.command_answers.specs.Runnable.{IsRunnable}
 
 -- what is known of what was made
 pub of_made : {A E : Type 0} (made : Result A E) (it : A) (P : A → Type 0) → IfOk made (λ x. x ≡ it) → P it → IfOk made P
@@ -42,5 +41,5 @@ bad_over front image n why P (Err e) answer is other = tt
 
 -- ---- over a script
 
-pub can_run : (raw : RawImage) (script : Script) → IsRunnable raw → (text : List ℕ) × IsScript raw.names text script.lines script.end → RunsRaw raw script
-can_run raw script r (text, is) = record { limits = r.limits; valid = r.valid; plan = r.plan; names = r.names; script = r.suits text script.lines script.end is }
+pub can_run : (n : NamedImage) (script : Script) → IsRunnable n → (text : List ℕ) × IsScript n.names text script.lines script.end → CanRunByRanks n script
+can_run n script r (text, is) = record { limits = r.limits; valid = r.valid; plan = r.plan; names = r.names; script = r.suits text script.lines script.end is }

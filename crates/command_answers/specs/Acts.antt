@@ -1,8 +1,6 @@
 -- What an act comes to, and when its run can be made.
 use Rattle.std.specs.Prelude.{◌≡◌, ◌++◌, ℕ, List, [], Option, Some, None, IfSome, All, option_map}
 use Rattle.image.specs.Named.{NamedImage}
-use Rattle.image.specs.Raw.{image_of, named_of}
-use Rattle.image.specs.declared.raw.RawImage.{RawImage}
 use Rattle.valid_image.specs.Valid.{HasLimits, IsValid}
 use Rattle.vm_plan.specs.HasPlan.{HasPlan}
 use Rattle.vm_law.specs.Logged.{AreNamesOf}
@@ -18,8 +16,8 @@ use Rattle.command_due.specs.EdfDue.{edf_log}
 use Rattle.command_words.specs.Calls.{Call}
 use Rattle.command_answers.specs.declared.status.Status.{Status}
 use Rattle.command_answers.specs.declared.status.Status.TheVariants as status
-use Rattle.command_answers.specs.declared.act.Dispatch.{Dispatch}
-use Rattle.command_answers.specs.declared.act.Dispatch.TheVariants as dispatch
+use Rattle.command_answers.specs.declared.act.RunnableImage.{RunnableImage}
+use Rattle.command_answers.specs.declared.act.RunnableImage.TheVariants as by
 use Rattle.command_answers.specs.declared.act.Store.{Store}
 use Rattle.command_answers.specs.declared.act.PreparedRun.{PreparedRun}
 use Rattle.command_answers.specs.declared.act.PreparedCall.{PreparedCall}
@@ -38,15 +36,20 @@ number_of status.Unput = 7
 number_of status.Memory = 8
 number_of status.Log = 9
 
--- the log of an image over a script
-abbrev pub log_by : Dispatch → NamedImage → List ScriptLine → ℕ → List ℕ
-log_by dispatch.Ranks n lines end = log n lines end
-log_by dispatch.Deadlines n lines end = edf_log n lines end
+-- the image that is run
+abbrev pub image_in : RunnableImage → NamedImage
+image_in (by.Ranks n) = n
+image_in (by.Deadlines n) = n
+
+-- its log over a script
+abbrev pub log_by : RunnableImage → List ScriptLine → ℕ → List ℕ
+log_by (by.Ranks n) lines end = log n lines end
+log_by (by.Deadlines n) lines end = edf_log n lines end
 
 -- the log of a run, if there is one
 abbrev pub log_due : Option PreparedRun → List ℕ
 log_due None = []
-log_due (Some run) = log_by run.dispatch (named_of run.image) run.script.lines run.script.end
+log_due (Some run) = log_by run.image run.script.lines run.script.end
 
 -- the bytes that are stored, if any are
 abbrev pub bytes_due : Option Store → Option (List ℕ)
@@ -60,28 +63,31 @@ outcome_of act = record { status = number_of act.status; text = act.text ++ log_
 abbrev pub IsAtTarget : Call → Option Store → Type 0
 IsAtTarget call store = IfSome store (λ s. target_of call ≡ Some s.name.now)
 
--- an image that is run by ranks
-abbrev pub by_ranks : RawImage → Script → PreparedRun
-by_ranks image script = record { image = image; script = script; dispatch = dispatch.Ranks }
+-- a run by ranks, and one under earliest deadline first
+abbrev pub by_ranks : NamedImage → Script → PreparedRun
+by_ranks n script = record { image = by.Ranks n; script = script }
+
+abbrev pub by_deadlines : NamedImage → Script → PreparedRun
+by_deadlines n script = record { image = by.Deadlines n; script = script }
 
 -- the machine can run the image over the script
-pub record CanRunByRanks (run : PreparedRun) : Type 0 where
-  pub limits : HasLimits (image_of run.image)
-  pub valid : IsValid (image_of run.image)
-  pub plan : HasPlan (image_of run.image)
-  pub names : AreNamesOf run.image.names (image_of run.image)
-  pub script : Suits (image_of run.image) (script_of run.script)
+pub record CanRunByRanks (n : NamedImage) (s : Script) : Type 0 where
+  pub limits : HasLimits n.image
+  pub valid : IsValid n.image
+  pub plan : HasPlan n.image
+  pub names : AreNamesOf n.names n.image
+  pub script : Suits n.image (script_of s)
 
 -- under earliest deadline first: the run is one that the machine takes, and each of its events has
 -- a line
-pub record CanRunByDeadlines (run : PreparedRun) : Type 0 where
-  pub plan : HasPlan (image_of run.image)
-  pub runnable : IsRunnable (image_of run.image) (script_of run.script)
-  pub lines : All (AreIn run.image.names) (events (image_of run.image) (script_of run.script))
+pub record CanRunByDeadlines (n : NamedImage) (script : Script) : Type 0 where
+  pub plan : HasPlan n.image
+  pub runnable : IsRunnable n.image (script_of script)
+  pub lines : All (AreIn n.names) (events n.image (script_of script))
 
-abbrev pub CanRunBy : Dispatch → PreparedRun → Type 0
-CanRunBy dispatch.Ranks run = CanRunByRanks run
-CanRunBy dispatch.Deadlines run = CanRunByDeadlines run
+abbrev pub CanRunBy : RunnableImage → Script → Type 0
+CanRunBy (by.Ranks n) script = CanRunByRanks n script
+CanRunBy (by.Deadlines n) script = CanRunByDeadlines n script
 
 abbrev pub CanRun : PreparedRun → Type 0
-CanRun run = CanRunBy run.dispatch run
+CanRun run = CanRunBy run.image run.script

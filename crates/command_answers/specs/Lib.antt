@@ -8,5 +8,6 @@ pub mod Contents
 pub mod Acting
 pub mod Runnable
 pub mod Scripted
+pub mod OnlyReads
 pub mod Tried
 pub mod Causes

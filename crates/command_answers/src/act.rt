@@ -1,7 +1,11 @@
 //! What is left of a call.
 
+ghost use Rattle.std.specs.Prelude.{◌≡◌};
+ghost use Rattle.command_answers.specs.Acts.{image_in};
+
 use crate::status::Status;
-use image::RawImage;
+use image_bytes::ImageBytes;
+use image_loaded::Image;
 use script::Script;
 use syntax_tree::Text;
 
@@ -12,21 +16,32 @@ pub struct Store<'a> {
     pub bytes: Vec<u8>,
 }
 
-/// Which of the ready processes runs.
-#[derive(Clone, Copy)]
-pub enum Dispatch {
+/// An image that is to be run, by which of its ready processes runs.
+#[derive(Drop)]
+pub enum RunnableImage {
     /// The one of the highest active rank.
-    Ranks,
+    Ranks(Image),
     /// The one with the earliest deadline, as far as the ceilings let it.
-    Deadlines,
+    Deadlines(ImageBytes),
+}
+
+impl RunnableImage {
+    /// The image as it stands in its bytes.
+    pub fn image(&self) -> &ImageBytes
+        ensures { result.now ≡ image_in self.now }
+    {
+        match self {
+            RunnableImage::Ranks(image) => image.image(),
+            RunnableImage::Deadlines(image) => image,
+        }
+    }
 }
 
 /// A run whose log is to be put.
 #[derive(Drop)]
 pub struct PreparedRun {
-    pub image: RawImage,
+    pub image: RunnableImage,
     pub script: Script,
-    pub dispatch: Dispatch,
 }
 
 /// What is left of a call when all is read and judged: an image is stored, a text is put, and then

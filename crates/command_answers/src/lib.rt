@@ -11,6 +11,9 @@
 //! The calls read files, judge scripts, and write the lines of faults. What is promised of a
 //! content (`specs/Contents.antt`) holds for each text that it can be, so for the one in the file.
 //! `specs/Prepared.antt` says what it means that an act is prepared, or that a read failed.
+//!
+//! What is run by ranks is an `Image` of `image_loaded`, so valid by its type; such a one can be run
+//! over each script for its names (`valid_images_can_be_run`).
 #![tactic(auto)]
 
 mod act;
@@ -18,10 +21,11 @@ mod acts;
 mod lines;
 mod prepare_error;
 mod reading;
+mod runnable_images;
 mod scripts;
 mod status;
 
-pub use act::{Dispatch, PreparedCall, PreparedRun, Store};
+pub use act::{PreparedCall, PreparedRun, RunnableImage, Store};
 pub use acts::{put, put_fault};
 pub use lines::{
     fault_line, image_fault_line, log_fault_line, refused_line, run_line, script_fault_line,
@@ -31,5 +35,6 @@ pub use prepare_error::PrepareError;
 pub use reading::{
     Content, LONGEST_IMAGE, LONGEST_IMAGE_TEXT, LONGEST_LOG, LONGEST_PROGRAM, LONGEST_SCRIPT, read,
 };
+pub use runnable_images::valid_images_can_be_run;
 pub use scripts::{judge_script, refuse_script};
 pub use status::Status;

@@ -1,10 +1,11 @@
 //! Reading files.
 
-ghost use Rattle.std.specs.Prelude.{◌≡◌, ◌∷◌, [], IfErr, IfOk, IsSomeAnd, OnOk};
+ghost use Rattle.std.specs.Prelude.{◌∷◌, [], IfErr, IfOk, IsSomeAnd, OnOk};
 ghost use Rattle.std.specs.Bool.{OnTrue};
-ghost use Rattle.outside.specs.Outside.{AllStay, IsAdded, NoneFell};
+ghost use Rattle.outside.specs.Outside.{IsAdded};
 ghost use Rattle.command_answers.specs.Contents.{IsContent};
 ghost use Rattle.command_answers.specs.Prepared.{IsReadError};
+ghost use Rattle.command_answers.specs.OnlyReads.{OnlyReads};
 ghost use Rattle.command_answers.specs.Tried.{HasTried, error_status};
 
 use crate::prepare_error::PrepareError;
@@ -49,15 +50,11 @@ pub fn read<'a, F: Files>(
     ensures content { IfOk result (λ content.
         OnTrue F.tells (IsSomeAnd ((F.state files.old).held name.now) (IsContent most content))) }
     ensures failed { IfErr result (IsReadError name.now (F.state files.old) (F.state files.new)) }
-    ensures files { AllStay (F.state files.old).held (F.state files.new).held }
-    ensures read_counts { NoneFell (F.state files.old).read_faults (F.state files.new).read_faults }
-    ensures write_counts { NoneFell (F.state files.old).write_faults
-        (F.state files.new).write_faults }
+    ensures only_reads { OnlyReads (F.state files.old) (F.state files.new) }
     ensures read { OnOk result
         (IsAdded (F.state files.old).reads (F.state files.new).reads name.now) }
     ensures tried { IfErr result (λ why. HasTried (name.now ∷ [])
         (F.state files.old).reads (F.state files.new).reads (error_status why)) }
-    ensures writes { (F.state files.new).writes ≡ (F.state files.old).writes }
 {
     match files.read(name, most) {
         Ok(bytes) => Ok(Content::Bytes(bytes)),

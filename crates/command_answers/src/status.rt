@@ -21,7 +21,7 @@ pub enum Status<'a> {
     Unwritten(&'a str),
     /// 7: a put failed.
     Unput,
-    /// 8: there was not enough memory, or `replay` met functions that nest too deep for it.
+    /// 8: there was not enough memory.
     Memory,
     /// 9: the text is no log, or its events are no run of the program.
     Log,

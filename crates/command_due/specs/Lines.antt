@@ -6,8 +6,8 @@ use Rattle.sched_response.specs.Demand.{IsBound}
 use Rattle.machine_semantics.specs.Image.{Process}
 use Rattle.valid_image.specs.Tasks.{process_at, tasks_of}
 use Rattle.image.specs.Named.{NamedImage}
-use Rattle.sched_slack.specs.declared.spare.Spare.{Spare}
-use Rattle.sched_slack.specs.Slack.{with_more, IsSpare}
+use Rattle.sched_sensitivity.specs.declared.spare.Spare.{Spare}
+use Rattle.sched_sensitivity.specs.Slack.{with_more, IsSpare}
 
 -- ---- how a line is written
 

@@ -9,7 +9,7 @@ use Rattle.machine_semantics.specs.Image.{Process}
 use Rattle.image.specs.Named.{NamedImage}
 use Rattle.sched_response.specs.declared.tasks.Task.{Task}
 use Rattle.valid_image.specs.Tasks.{process_at, tasks_of}
-use Rattle.sched_slack.specs.Slack.{with_more, IsFirstFailing, IsSlack}
+use Rattle.sched_sensitivity.specs.Slack.{with_more, IsFirstFailing, IsSlack}
 use Rattle.command_due.specs.Lines.{name_at, slack_line, AreLeastBounds, IsSlackLine, IsSlackText}
 use Rattle.command_due_law.specs.DueOnce.{SlackTextsAreOne}
 use Rattle.built_image_law.proofs.Bounds.{one_bound}

@@ -1,30 +1,33 @@
 -- What a text tells, judged and loaded.
 use Rattle.std.proofs.Common.{ℕ, List, Ok, Err, sym, subst}
 use Rattle.std.specs.Prelude.{Result}
+use Rattle.image.specs.Named.{NamedImage}
 use Rattle.image.specs.Raw.{named_of}
 use Rattle.image.specs.declared.raw.RawImage.{RawImage}
-use Rattle.image_reader_law.specs.ValidLimits.{ImagesReadHaveFewMonitors, ImagesReadHaveLimits}
-use Rattle.command_due.specs.CommandsDue.{stored}
+use Rattle.valid_image.specs.Valid.{IsValid}
+use Rattle.image_loaded.specs.Answers.{Verifies}
+use Rattle.image_loaded.specs.declared.fault.ValidFault.{ValidFault}
+use Rattle.image_loaded.specs.declared.fault.ValidFault.TheVariants as valid
 use Rattle.assembler.specs.Answer.{Tells}
 use Rattle.assembler.specs.declared.fault.AssemblyFault.{AssemblyFault}
 use Rattle.assembler.specs.declared.fault.AssemblyFault.TheVariants as asm
-use Rattle.asm_law.specs.AsmLaws.{ImagesToldAreHeld, TextsReadAreOfImages}
-use Rattle.command_images.specs.Telling.{IsInvalidText, IsTold, IsValidText, JudgesTold, LoadsText, TellsImage}
-use Rattle.command_images.specs.declared.telling.ImageTextFault.{ImageTextFault}
-use Rattle.command_images.specs.declared.telling.ImageTextFault.TheVariants as fault
+use Rattle.asm_law.specs.AsmLaws.{TextsReadAreOfImages}
+use Rattle.command_due.specs.Texts.{IsTextOf}
+use Rattle.command_images.specs.Telling.{IsInvalidText, IsValidText, LoadsText, TellsImage, of_lines, of_numbers}
 
-pub tells : (text : List ℕ) → TextsReadAreOfImages → ImagesToldAreHeld → ImagesReadHaveLimits → ImagesReadHaveFewMonitors → (answer : Result RawImage AssemblyFault) → Tells text answer → TellsImage text answer
-tells text read held limits monitors (Ok raw) t =
-    let is = read text raw t.short t.is_read t.image in
-    let bytes = held text raw is in
-    record { told = is; ranges = record { limits = limits (stored (named_of raw)) raw bytes; monitors = monitors (stored (named_of raw)) raw bytes } }
-tells text read held limits monitors (Err (asm.Bad number line)) t = t
-tells text read held limits monitors (Err asm.Memory) t = tt
+pub tells : (text : List ℕ) → TextsReadAreOfImages → (answer : Result RawImage AssemblyFault) → Tells text answer → TellsImage text answer
+tells text read (Ok raw) t = read text raw t.short t.is_read t.image
+tells text read (Err (asm.Bad number line)) t = t
+tells text read (Err asm.Memory) t = tt
 
-pub loads_text : (text : List ℕ) (raw : RawImage) → ImagesToldAreHeld → IsTold text raw → (answer : Result RawImage ImageTextFault) → JudgesTold raw answer → LoadsText text answer
-loads_text text raw held is (Ok same) h =
-    subst (λ (x : RawImage). IsValidText text x) (sym h.0)
-    (let valid : IsValidText text raw = record { told = is.told; file = record { held = held text raw is.told; valid = h.1 } } in valid)
-loads_text text raw held is (Err (fault.Text number line)) h = absurd h
-loads_text text raw held is (Err (fault.Invalid same found)) h = subst (λ (x : RawImage). IsInvalidText text x found) (sym h.0) (let told : IsInvalidText text raw found = record { told = is.told; first = h.1 } in told)
-loads_text text raw held is (Err fault.Memory) h = tt
+pub untold : (text : List ℕ) (why : AssemblyFault) → TellsImage text (Err why) → LoadsText text (Err (of_lines why))
+untold text (asm.Bad number line) h = h
+untold text asm.Memory h = tt
+
+pub loads_text : (text : List ℕ) (raw : RawImage) (n : NamedImage) → IsTextOf text raw → Verifies raw (Ok n) → LoadsText text (Ok n)
+loads_text text raw n is h = record { raw = raw; told = is; image = h.0; valid = subst (λ (x : NamedImage). IsValid x.image) (sym h.0) h.1 }
+
+pub loads_no_text : (text : List ℕ) (raw : RawImage) (why : ValidFault) → IsTextOf text raw → Verifies raw (Err why) → LoadsText text (Err (of_numbers why))
+loads_no_text text raw (valid.Invalid same found) is h =
+    subst (λ (x : RawImage). IsInvalidText text x found) (sym h.0) (let told : IsInvalidText text raw found = record { told = is; first = h.1 } in told)
+loads_no_text text raw valid.Memory is h = tt

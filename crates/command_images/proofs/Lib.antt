@@ -1,8 +1,8 @@
-pub mod Loaded
+pub mod Files
+pub mod Named
 pub mod ImageFileTold
 pub mod Read
 pub mod Refused
-pub mod Ready
 pub mod PrepareImagesTold
 pub mod Watched
 pub mod Charted

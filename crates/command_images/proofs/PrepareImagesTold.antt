@@ -2,21 +2,20 @@
 use Rattle.std.proofs.Common.{◌≡◌, ◌<◌, ◌∙◌, ℕ, List, length, map, Ok, Err, inl, inr, refl, sym, subst, ap}
 use Rattle.std.specs.Prelude.{Result, IfOk}
 use Rattle.std.proofs.lemmas.List.{length-map}
-use Rattle.image.specs.InRange.{IsInRange}
 use Rattle.image.specs.Named.{NamedImage}
 use Rattle.image.specs.Raw.{monitor_of, named_of, process_of}
 use Rattle.image.specs.declared.raw.RawImage.{RawImage}
-use Rattle.image_reader_law.specs.ImageRanges.{ImagesReadCanBeWritten}
 use Rattle.image_reader.specs.Answer.{Tells, parts_of}
 use Rattle.image_reader.specs.declared.fault.ImageFault.{ImageFault}
 use Rattle.image_reader.specs.declared.fault.ImageFault.TheVariants as image_fault
 use Rattle.asm_format.specs.Text.{text_of}
 use Rattle.faulty_part.specs.declared.part.PartFault.{PartFault}
 use Rattle.faulty_part.specs.Law.{shown_part}
+use Rattle.valid_image.specs.Valid.{IsValid}
 use Rattle.message_log.specs.Image.{valid_message}
 use Rattle.command_refusals.specs.Told.{IsImageTextTold}
 use Rattle.command_images.proofs.Refused.{same_fault}
-use Rattle.command_images.specs.Telling.{IsInvalidText, LoadsText}
+use Rattle.command_images.specs.Telling.{IsInvalidText, IsValidText, LoadsText}
 use Rattle.command_images.specs.declared.telling.ImageTextFault.{ImageTextFault}
 use Rattle.command_images.specs.declared.telling.ImageTextFault.TheVariants as text_fault
 use Rattle.command_due.specs.CommandsDue.{Outcome, told, stored, image_fault_line, valid_fault_line}
@@ -30,10 +29,6 @@ use Rattle.command_answers.proofs.Coming.{outcome_of_puts}
 use Rattle.command_images.specs.Held.{HasNames}
 
 -- ---- `asm`
-
-pub loaded_range : ImagesReadCanBeWritten → (text : List ℕ) (answer : Result RawImage ImageTextFault) → LoadsText text answer → IfOk answer (λ raw. IsInRange (named_of raw))
-loaded_range law text (Ok raw) is = law (stored (named_of raw)) raw is.file.held
-loaded_range law text (Err why) is = tt
 
 pub long_text : (text : List ℕ) → longest_text < length text → LoadsText text (Err (text_fault.Text 3 0))
 long_text text long = inl (record { long = long; is = refl; nowhere = refl })
@@ -57,10 +52,12 @@ invalid_text_told why raw found is file message text made answer =
 pub refused_text_line : (line : List ℕ) (text : List ℕ) → IsAsmDue text (told 4 line) → IsAsmDue text (outcome_of (puts status.Image line))
 refused_text_line line text is = subst (λ (o : Outcome). IsAsmDue text o) (sym (outcome_of_puts status.Image line)) is
 
-pub assembled_image : {E : Type 0} (raw : RawImage) (P : List ℕ → Type 0) (made : Result PreparedCall E) → ((text : List ℕ) → P text → LoadsText text (Ok raw))
-    → IfOk made (λ act. outcome_of act ≡ keeps (stored (named_of raw))) → IfOk made (λ act. (text : List ℕ) → P text → IsAsmDue text (outcome_of act))
-assembled_image raw P (Ok act) loads is = λ text p. assembled raw (loads text p).told (loads text p).file.valid is
-assembled_image raw P (Err e) loads is = tt
+pub assembled_image : {E : Type 0} (n : NamedImage) (P : List ℕ → Type 0) (made : Result PreparedCall E) → ((text : List ℕ) → P text → LoadsText text (Ok n))
+    → IfOk made (λ act. outcome_of act ≡ keeps (stored n)) → IfOk made (λ act. (text : List ℕ) → P text → IsAsmDue text (outcome_of act))
+assembled_image n P (Ok act) loads is = λ text p. (
+    let t : IsValidText text n = loads text p in
+    assembled t.raw t.told (subst (λ (x : NamedImage). IsValid x.image) t.image t.valid) (is ∙ ap (λ (x : NamedImage). keeps (stored x)) t.image))
+assembled_image n P (Err e) loads is = tt
 
 pub refused_asm : {E : Type 0} (why : ImageTextFault) (P : List ℕ → Type 0) (made : Result PreparedCall E) → ((text : List ℕ) → P text → LoadsText text (Err why))
     → IfOk made (λ act. (text : List ℕ) → LoadsText text (Err why) → IsAsmDue text (outcome_of act)) → IfOk made (λ act. (text : List ℕ) → P text → IsAsmDue text (outcome_of act))

@@ -2,6 +2,7 @@
 use Rattle.std.proofs.Common.{◌≡◌, ◌<◌, ◌-◌, inr, ℕ, List, length, Some, Ok, Err, Bool, true, refl, sym, subst, ap, ◌∙◌, arith}
 use Rattle.std.specs.Prelude.{Result, IfOk, cond, nat_lt}
 use Rattle.std.proofs.lemmas.Bool.Decides.{nat_tests}
+use Rattle.image.specs.Named.{NamedImage}
 use Rattle.image.specs.Raw.{image_of, named_of}
 use Rattle.image.specs.declared.raw.RawImage.{RawImage}
 use Rattle.image.specs.Bytes.{Version}
@@ -15,10 +16,12 @@ use Rattle.faulty_part.specs.Parts.{part_fault}
 use Rattle.faulty_part.proofs.Whole.{whole}
 use Rattle.message_log.specs.Image.{valid_message}
 use Rattle.command_refusals.specs.Told.{IsImageTold}
-use Rattle.command_images.specs.Loading.{IsInvalid, Loads}
-use Rattle.command_images.specs.declared.loading.FileFault.{FileFault}
-use Rattle.command_images.specs.declared.loading.FileFault.TheVariants as file_fault
-use Rattle.command_due.specs.CommandsDue.{Outcome, told, image_fault_line, valid_fault_line, IsImageFile, IsImageRefused, misread, invalid, IsMigrateDue, migrate_refused, migrated, stored}
+use Rattle.image_loaded.specs.Answers.{IsInvalid, Loads}
+use Rattle.image_loaded.specs.Shape.{AreOfValid}
+use Rattle.image_loaded.specs.declared.fault.FileFault.{FileFault}
+use Rattle.image_loaded.specs.declared.fault.FileFault.TheVariants as file_fault
+use Rattle.command_images.proofs.Files.{image_file}
+use Rattle.command_due.specs.CommandsDue.{Outcome, told, image_fault_line, valid_fault_line, IsImageRefused, misread, invalid, IsMigrateDue, migrate_refused, migrated, stored}
 use Rattle.command_answers.specs.declared.act.PreparedCall.{PreparedCall}
 use Rattle.command_answers.specs.declared.status.Status.TheVariants as status
 use Rattle.command_answers.specs.Acts.{outcome_of}
@@ -61,10 +64,10 @@ invalid_told why raw found is file message bytes made answer =
 pub refused_line : (line : List ℕ) (bytes : List ℕ) → IsImageRefused bytes (told 4 line) → IsImageRefused bytes (outcome_of (puts status.Image line))
 refused_line line bytes is = subst (λ (o : Outcome). IsImageRefused bytes o) (sym (outcome_of_puts status.Image line)) is
 
-pub migrated_image : {E : Type 0} (raw : RawImage) (P : List ℕ → Type 0) (made : Result PreparedCall E) → ((bytes : List ℕ) → P bytes → IsImageFile bytes raw)
-    → IfOk made (λ act. outcome_of act ≡ keeps (stored (named_of raw))) → IfOk made (λ act. (bytes : List ℕ) → P bytes → IsMigrateDue bytes (outcome_of act))
-migrated_image raw P (Ok act) loads is = λ bytes p. migrated raw (loads bytes p) is
-migrated_image raw P (Err e) loads is = tt
+pub migrated_image : {E : Type 0} (n : NamedImage) (P : List ℕ → Type 0) (made : Result PreparedCall E) → ((bytes : List ℕ) → P bytes → AreOfValid bytes n)
+    → IfOk made (λ act. outcome_of act ≡ keeps (stored n)) → IfOk made (λ act. (bytes : List ℕ) → P bytes → IsMigrateDue bytes (outcome_of act))
+migrated_image n P (Ok act) loads is = λ bytes p. (let file = loads bytes p in migrated file.file.raw (image_file bytes n file) (is ∙ ap (λ (x : NamedImage). keeps (stored x)) file.file.image))
+migrated_image n P (Err e) loads is = tt
 
 pub refused_migrate : {E : Type 0} (why : FileFault) (P : List ℕ → Type 0) (made : Result PreparedCall E) → ((bytes : List ℕ) → P bytes → Loads bytes (Err why))
     → IfOk made (λ act. (bytes : List ℕ) → Loads bytes (Err why) → IsImageRefused bytes (outcome_of act)) → IfOk made (λ act. (bytes : List ℕ) → P bytes → IsMigrateDue bytes (outcome_of act))

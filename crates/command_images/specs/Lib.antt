@@ -1,4 +1,3 @@
-pub mod Loading
 pub mod Telling
 pub mod Scripted
 pub mod Held

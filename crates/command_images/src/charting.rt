@@ -1,48 +1,49 @@
 //! `chart`.
 
-ghost use Rattle.std.specs.Prelude.{◌∷◌, [], ◌≡◌, ℕ, List, None, IfErr, IfOk, IsSomeAnd};
+ghost use Rattle.std.specs.Prelude.{◌∷◌, [], ℕ, List, None, IfErr, IfOk, IsSomeAnd};
 ghost use Rattle.std.specs.Bool.{OnTrue};
 ghost use Rattle.command_answers.specs.Acts.{outcome_of};
-ghost use Rattle.outside.specs.Outside.{AllStay, NoneFell};
 ghost use Rattle.script.specs.Scripts.{longest_text};
 ghost use Rattle.command_words.specs.Calls as call;
 ghost use Rattle.command_answers.specs.Acting.{IsQuiet};
 ghost use Rattle.command_answers.specs.Contents.{IsContent};
 ghost use Rattle.command_answers.specs.Prepared.{IsReadError, Prepares};
+ghost use Rattle.command_answers.specs.OnlyReads.{OnlyReads};
 ghost use Rattle.command_answers.specs.Tried.{HasTried, status_of};
-ghost use Rattle.command_answers.specs.Runnable.{IsRunnable, RunsRaw};
+ghost use Rattle.command_answers.specs.Acts.{CanRunByRanks};
 ghost use Rattle.command_images.specs.Charted.{IsDrawnDue, IsDrawnOver};
 ghost use Rattle.command_refusals.specs.Refusals.{Explains, IsExplained};
 ghost use Rattle.command_refusals.specs.Told.{IsScriptTold};
 
 use crate::images::{load_content, refuse_image};
+use crate::scripts::script_for;
 use command_answers::{
-    Content, LONGEST_IMAGE, LONGEST_SCRIPT, PrepareError, PreparedCall, Status, judge_script, put,
-    read,
+    Content, LONGEST_IMAGE, LONGEST_SCRIPT, PrepareError, PreparedCall, Status, put, read,
 };
 use command_refusals::refuse_script;
-use image::RawImage;
+use image_loaded::Image;
 use outside::Files;
 use script::Script;
 use std::alloc::{AllocError, Global};
 use syntax_tree::Text;
 use vm_chart::chart;
-use vm_plan::plan::plan_of;
+use vm_plan::plan_of;
 
 /// The act that puts the chart of the run of an image over a script.
 fn put_drawn<'a>(
     alloc: Global,
-    raw: &RawImage,
+    image: &Image,
     script: &Script,
     first: u64,
     end: u64,
 ) -> Result<PreparedCall<'a>, AllocError>
-    requires { RunsRaw raw.now script.now }
-    ensures told { IfOk result (λ act. IsDrawnOver first end raw.now script.now (outcome_of act)) }
+    requires { CanRunByRanks image.now script.now }
+    ensures told { IfOk result (λ act. IsDrawnOver first end image.now script.now (outcome_of act)) }
     ensures quiet { IfOk result IsQuiet }
 {
-    let plan = plan_of(alloc, raw)?;
-    let text = chart(alloc, raw, &plan, script, first, end)?;
+    let image = image.image();
+    let plan = plan_of(alloc, image)?;
+    let text = chart(alloc, image, &plan, script, first, end)?;
     Ok(put(Status::Done, text))
 }
 
@@ -51,21 +52,20 @@ fn chart_act<'a>(
     alloc: Global,
     message: &mut Text,
     file: &str,
-    raw: &RawImage,
+    image: &Image,
     content: &Content,
     first: u64,
     end: u64,
 ) -> Result<PreparedCall<'a>, AllocError>
-    requires { IsRunnable raw.now }
     ensures due { IfOk result (λ act. (text : List ℕ) → IsContent longest_text content.now text →
-        IsDrawnDue first end raw.now text (outcome_of act)) }
+        IsDrawnDue first end image.now text (outcome_of act)) }
     ensures quiet { IfOk result IsQuiet }
     ensures told { IfOk result (λ act. (text : List ℕ) → IsContent longest_text content.now text →
-        Explains (IsScriptTold raw.now.names file.now text (outcome_of act) message.new) act) }
+        Explains (IsScriptTold image.now.names file.now text (outcome_of act) message.new) act) }
 {
-    match judge_script(alloc, content, &raw.names) {
-        Ok(script) => put_drawn(alloc, raw, &script, first, end),
-        Err(fault) => refuse_script(alloc, message, file, content, &raw.names, &fault),
+    match script_for(alloc, content, image) {
+        Ok(script) => put_drawn(alloc, image, &script, first, end),
+        Err(fault) => refuse_script(alloc, message, file, content, image.names(), &fault),
     }
 }
 
@@ -74,39 +74,34 @@ fn chart_act<'a>(
 fn chart_on<'a, F: Files>(
     alloc: Global,
     message: &mut Text,
-    raw: &RawImage,
+    image: &Image,
     script: &'a str,
     first: u64,
     end: u64,
     files: &mut F,
 ) -> Result<PreparedCall<'a>, PrepareError<'a>>
-    requires { IsRunnable raw.now }
     ensures due { IfOk result (λ act. OnTrue F.tells
         (IsSomeAnd ((F.state files.old).held script.now)
-        (λ text. IsDrawnDue first end raw.now text (outcome_of act)))) }
+        (λ text. IsDrawnDue first end image.now text (outcome_of act)))) }
     ensures quiet { IfOk result IsQuiet }
     ensures failed { IfErr result
         (IsReadError script.now (F.state files.old) (F.state files.new)) }
-    ensures files { AllStay (F.state files.old).held (F.state files.new).held }
-    ensures read_counts { NoneFell (F.state files.old).read_faults (F.state files.new).read_faults }
-    ensures write_counts { NoneFell (F.state files.old).write_faults
-        (F.state files.new).write_faults }
+    ensures only_reads { OnlyReads (F.state files.old) (F.state files.new) }
     ensures reads { HasTried (script.now ∷ []) (F.state files.old).reads
         (F.state files.new).reads (status_of result) }
-    ensures writes { (F.state files.new).writes ≡ (F.state files.old).writes }
     ensures told { IfOk result (λ act. OnTrue F.tells
         (IsSomeAnd ((F.state files.old).held script.now) (λ text. Explains
-        (IsScriptTold raw.now.names script.now text (outcome_of act) message.new) act))) }
+        (IsScriptTold image.now.names script.now text (outcome_of act) message.new) act))) }
 {
     let content = read(files, script, LONGEST_SCRIPT)?;
-    match chart_act(alloc, message, script, raw, &content, first, end) {
+    match chart_act(alloc, message, script, image, &content, first, end) {
         Ok(act) => Ok(act),
         Err(_) => Err(PrepareError::Memory),
     }
 }
 
 /// `chart`: the image is read and judged, and the script only where the image is valid.
-#[tactic(auto, using(command_answers::proofs::Held::first_unread, command_answers::proofs::Trying::tried_first, command_answers::proofs::Trying::tried_on, command_answers::proofs::Trying::tried_alone))]
+#[tactic(auto, using(command_answers::proofs::Held::first_unread, command_answers::proofs::Trying::tried_first, command_answers::proofs::Trying::tried_on, command_answers::proofs::Trying::tried_alone, command_answers::proofs::OnlyReads::reads_on))]
 pub fn prepare_chart<'a, F: Files>(
     alloc: Global,
     message: &mut Text,
@@ -118,19 +113,15 @@ pub fn prepare_chart<'a, F: Files>(
 ) -> Result<PreparedCall<'a>, PrepareError<'a>>
     ensures prepared { Prepares F.tells (call.chart image.now script.now first end)
         (F.state files.old) (F.state files.new) result }
-    ensures files { AllStay (F.state files.old).held (F.state files.new).held }
-    ensures read_counts { NoneFell (F.state files.old).read_faults (F.state files.new).read_faults }
-    ensures write_counts { NoneFell (F.state files.old).write_faults
-        (F.state files.new).write_faults }
+    ensures only_reads { OnlyReads (F.state files.old) (F.state files.new) }
     ensures reads { HasTried (image.now ∷ script.now ∷ []) (F.state files.old).reads
         (F.state files.new).reads (status_of result) }
-    ensures writes { (F.state files.new).writes ≡ (F.state files.old).writes }
     ensures told { IfOk result (IsExplained F.tells (call.chart image.now script.now first end)
         (F.state files.old).held message.new) }
 {
     let content = read(files, image, LONGEST_IMAGE)?;
-    match load_content(alloc, &content) {
-        Ok(raw) => chart_on(alloc, message, &raw, script, first, end, files),
+    match load_content(alloc, content) {
+        Ok(loaded) => chart_on(alloc, message, &loaded, script, first, end, files),
         Err(fault) => match refuse_image(alloc, message, image, fault) {
             Ok(act) => Ok(act),
             Err(_) => Err(PrepareError::Memory),

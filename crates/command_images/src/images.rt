@@ -4,58 +4,39 @@ ghost use Rattle.std.specs.Prelude.{◌∷◌, [], ◌≢◌, ◌≡◌, ℕ, Li
 ghost use Rattle.command_answers.specs.Acts.{number_of, outcome_of};
 ghost use Rattle.command_due.specs.AsmDue.{keeps};
 ghost use Rattle.command_due.specs.CommandsDue.{IsImageRefused, IsMigrateDue, stored, told};
-ghost use Rattle.image.specs.InRange.{IsInRange};
-ghost use Rattle.image.specs.Raw.{named_of};
-ghost use Rattle.command_images.specs.Loading.{Loads};
+ghost use Rattle.image_loaded.specs.Answers.{Loads};
 ghost use Rattle.image_reader.specs.File.{longest};
-ghost use Rattle.outside.specs.Outside.{AllStay, NoneFell};
 ghost use Rattle.command_words.specs.Calls as call;
 ghost use Rattle.command_answers.specs.Acting.{CanBeDone, IsQuiet};
 ghost use Rattle.command_answers.specs.Contents.{IsContent};
 ghost use Rattle.command_answers.specs.Prepared.{Prepares};
+ghost use Rattle.command_answers.specs.OnlyReads.{OnlyReads};
 ghost use Rattle.command_answers.specs.Tried.{HasTried, status_of};
-ghost use Rattle.command_answers.specs.Runnable.{IsRunnable};
 ghost use Rattle.command_refusals.specs.Refusals.{Explains, IsExplained};
 ghost use Rattle.command_refusals.specs.Told.{IsImageTold};
 
-use crate::{FileFault, load};
 use command_answers::{
     Content, LONGEST_IMAGE, PrepareError, PreparedCall, Status, Store, image_fault_line, put, read,
     valid_fault_line,
 };
-use image::{RawImage, write_image};
 use image_format::refusal;
-use image_reader_law::images_read_can_be_written;
+use image_loaded::{FileFault, Image};
 use message_log::{image_message, test_number, valid_message};
 use outside::Files;
 use std::alloc::{AllocError, Global};
 use syntax_tree::Text;
-use vm_law::suitable_scripts::scripts_suit;
-use vm_plan::runnable_images::valid_images_read_are_ready;
 
-/// The valid image that bytes are, which can be run and stored.
-fn load_bytes(alloc: Global, bytes: &[u8]) -> Result<RawImage, FileFault>
-    ensures loads { Loads bytes.now result }
-    ensures ready { IfOk result IsRunnable }
-{
-    valid_images_read_are_ready();
-    images_read_can_be_written();
-    scripts_suit();
-    load(alloc, bytes)
-}
-
-/// The valid image that a file holds, which can be run and stored.
+/// The valid image that a file holds.
 ///
 /// # Errors
 ///
-/// As those of `load`; the fault of a file that is too long is 9, behind the most bytes of an
-/// image.
-pub fn load_content(alloc: Global, content: &Content) -> Result<RawImage, FileFault>
-    ensures loads { (bytes : List ℕ) → IsContent longest content.now bytes → Loads bytes result }
-    ensures ready { IfOk result IsRunnable }
+/// As those of `Image::load`; the fault of a file that is too long is 9, behind the most bytes of
+/// an image.
+pub fn load_content(alloc: Global, content: Content) -> Result<Image, FileFault>
+    ensures { (bytes : List ℕ) → IsContent longest content bytes → Loads bytes result }
 {
     match content {
-        Content::Bytes(bytes) => load_bytes(alloc, bytes.as_slice()),
+        Content::Bytes(bytes) => Image::load(alloc, bytes),
         Content::TooLong => Err(FileFault::Image {
             number: refusal::LONG,
             offset: LONGEST_IMAGE as u32,
@@ -107,17 +88,16 @@ pub fn refuse_image<'a>(
     Ok(put(Status::Image, line))
 }
 
-/// The act that stores an image under the name `target`.
+/// The act that stores an image under the name `target`: its bytes.
 pub fn store_image<'a>(
     alloc: Global,
-    raw: &RawImage,
+    image: &Image,
     target: &'a str,
 ) -> Result<PreparedCall<'a>, AllocError>
-    requires { IsInRange (named_of raw.now) }
-    ensures outcome { IfOk result (λ act. outcome_of act ≡ keeps (stored (named_of raw.now))) }
+    ensures outcome { IfOk result (λ act. outcome_of act ≡ keeps (stored image.now)) }
     ensures done { IfOk result (CanBeDone (Some target.now)) }
 {
-    let bytes = write_image(alloc, raw)?;
+    let bytes = Vec::from_slice(alloc, image.bytes())?;
     Ok(PreparedCall {
         status: Status::Done,
         text: Text::new(alloc),
@@ -133,19 +113,19 @@ pub fn store_image<'a>(
 fn migrate_act<'a>(
     alloc: Global,
     message: &mut Text,
-    image: &str,
-    content: &Content,
+    file: &str,
+    content: Content,
     target: &'a str,
 ) -> Result<PreparedCall<'a>, AllocError>
-    ensures due { IfOk result (λ act. (bytes : List ℕ) → IsContent longest content.now bytes →
+    ensures due { IfOk result (λ act. (bytes : List ℕ) → IsContent longest content bytes →
         IsMigrateDue bytes (outcome_of act)) }
     ensures done { IfOk result (CanBeDone (Some target.now)) }
-    ensures told { IfOk result (λ act. (bytes : List ℕ) → IsContent longest content.now bytes →
-        Explains (IsImageTold image.now bytes (outcome_of act) message.new) act) }
+    ensures told { IfOk result (λ act. (bytes : List ℕ) → IsContent longest content bytes →
+        Explains (IsImageTold file.now bytes (outcome_of act) message.new) act) }
 {
     match load_content(alloc, content) {
-        Ok(raw) => store_image(alloc, &raw, target),
-        Err(fault) => refuse_image(alloc, message, image, fault),
+        Ok(image) => store_image(alloc, &image, target),
+        Err(fault) => refuse_image(alloc, message, file, fault),
     }
 }
 
@@ -160,18 +140,14 @@ pub fn prepare_migrate<'a, F: Files>(
 ) -> Result<PreparedCall<'a>, PrepareError<'a>>
     ensures prepared { Prepares F.tells (call.migrate image.now target.now) (F.state files.old)
         (F.state files.new) result }
-    ensures files { AllStay (F.state files.old).held (F.state files.new).held }
-    ensures read_counts { NoneFell (F.state files.old).read_faults (F.state files.new).read_faults }
-    ensures write_counts { NoneFell (F.state files.old).write_faults
-        (F.state files.new).write_faults }
+    ensures only_reads { OnlyReads (F.state files.old) (F.state files.new) }
     ensures reads { HasTried (image.now ∷ []) (F.state files.old).reads
         (F.state files.new).reads (status_of result) }
-    ensures writes { (F.state files.new).writes ≡ (F.state files.old).writes }
     ensures told { IfOk result (IsExplained F.tells (call.migrate image.now target.now)
         (F.state files.old).held message.new) }
 {
     let content = read(files, image, LONGEST_IMAGE)?;
-    match migrate_act(alloc, message, image, &content, target) {
+    match migrate_act(alloc, message, image, content, target) {
         Ok(act) => Ok(act),
         Err(_) => Err(PrepareError::Memory),
     }

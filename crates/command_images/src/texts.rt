@@ -8,14 +8,13 @@ ghost use Rattle.command_due.specs.CommandsDue.{told};
 ghost use Rattle.command_answers.specs.Acting.{CanBeDone, IsQuiet};
 ghost use Rattle.command_answers.specs.Contents.{IsContent};
 ghost use Rattle.command_answers.specs.Prepared.{Prepares};
+ghost use Rattle.command_answers.specs.OnlyReads.{OnlyReads};
 ghost use Rattle.command_answers.specs.Tried.{HasTried, status_of};
-ghost use Rattle.image.specs.InRange.{IsInRange};
 ghost use Rattle.image.specs.Raw.{named_of};
 ghost use Rattle.command_images.specs.Telling.{LoadsText};
 ghost use Rattle.image_reader.specs.Answer.{Tells};
 ghost use Rattle.image_reader.specs.File.{longest};
 ghost use Rattle.asm_format.specs.Text.{text_of};
-ghost use Rattle.outside.specs.Outside.{AllStay, NoneFell};
 ghost use Rattle.command_words.specs.Calls as call;
 ghost use Rattle.command_images.specs.Held.{HasNames};
 ghost use Rattle.command_refusals.specs.Refusals.{Explains, IsExplained};
@@ -32,8 +31,8 @@ use command_answers::{
 };
 use image::RawImage;
 use image_format::refusal;
+use image_loaded::Image;
 use image_reader::{ImageFault, read_image};
-use image_reader_law::images_read_can_be_written;
 use message_log::{
     image_message, image_text_message, long_text_message, test_number, valid_message,
 };
@@ -43,27 +42,16 @@ use syntax_tree::Text;
 
 // ---- `asm`
 
-/// The valid image that a text tells, which can be stored.
-fn load_lines(alloc: Global, text: &[u8]) -> Result<RawImage, ImageTextFault>
-    ensures loads { LoadsText text.now result }
-    ensures range { IfOk result (λ raw. IsInRange (named_of raw)) }
-{
-    images_read_can_be_written();
-    load_text(alloc, text)
-}
-
-/// The valid image that the text of a file tells, which can be stored.
+/// The valid image that the text of a file tells.
 ///
 /// # Errors
 ///
 /// As those of `load_text`; the fault of a text that is too long is 3, on line 0.
-fn load_content(alloc: Global, content: &Content) -> Result<RawImage, ImageTextFault>
-    ensures loads { (text : List ℕ) → IsContent longest_text content.now text →
-        LoadsText text result }
-    ensures range { IfOk result (λ raw. IsInRange (named_of raw)) }
+fn load_content(alloc: Global, content: &Content) -> Result<Image, ImageTextFault>
+    ensures { (text : List ℕ) → IsContent longest_text content.now text → LoadsText text result }
 {
     match content {
-        Content::Bytes(text) => load_lines(alloc, text.as_slice()),
+        Content::Bytes(text) => load_text(alloc, text.as_slice()),
         Content::TooLong => Err(ImageTextFault::Text {
             number: LONG_TEXT,
             line: 0,
@@ -140,17 +128,17 @@ fn asm_act<'a>(
     message: &mut Text,
     text: &str,
     content: &Content,
-    image: &'a str,
+    target: &'a str,
 ) -> Result<PreparedCall<'a>, AllocError>
     ensures due { IfOk result (λ act. (lines : List ℕ) →
         IsContent longest_text content.now lines → IsAsmDue lines (outcome_of act)) }
-    ensures done { IfOk result (CanBeDone (Some image.now)) }
+    ensures done { IfOk result (CanBeDone (Some target.now)) }
     ensures told { IfOk result (λ act. (lines : List ℕ) →
         IsContent longest_text content.now lines →
         Explains (IsImageTextTold text.now lines (outcome_of act) message.new) act) }
 {
     match load_content(alloc, content) {
-        Ok(raw) => store_image(alloc, &raw, image),
+        Ok(image) => store_image(alloc, &image, target),
         Err(fault) => refuse_text(alloc, message, text, content, fault),
     }
 }
@@ -166,13 +154,9 @@ pub fn prepare_asm<'a, F: Files>(
 ) -> Result<PreparedCall<'a>, PrepareError<'a>>
     ensures prepared { Prepares F.tells (call.asm text.now image.now) (F.state files.old)
         (F.state files.new) result }
-    ensures files { AllStay (F.state files.old).held (F.state files.new).held }
-    ensures read_counts { NoneFell (F.state files.old).read_faults (F.state files.new).read_faults }
-    ensures write_counts { NoneFell (F.state files.old).write_faults
-        (F.state files.new).write_faults }
+    ensures only_reads { OnlyReads (F.state files.old) (F.state files.new) }
     ensures reads { HasTried (text.now ∷ []) (F.state files.old).reads
         (F.state files.new).reads (status_of result) }
-    ensures writes { (F.state files.new).writes ≡ (F.state files.old).writes }
     ensures told { IfOk result (IsExplained F.tells (call.asm text.now image.now)
         (F.state files.old).held message.new) }
 {
@@ -303,13 +287,9 @@ pub fn prepare_dis<'a, F: Files>(
 ) -> Result<PreparedCall<'a>, PrepareError<'a>>
     ensures prepared { Prepares F.tells (call.dis image.now text.now) (F.state files.old)
         (F.state files.new) result }
-    ensures files { AllStay (F.state files.old).held (F.state files.new).held }
-    ensures read_counts { NoneFell (F.state files.old).read_faults (F.state files.new).read_faults }
-    ensures write_counts { NoneFell (F.state files.old).write_faults
-        (F.state files.new).write_faults }
+    ensures only_reads { OnlyReads (F.state files.old) (F.state files.new) }
     ensures reads { HasTried (image.now ∷ []) (F.state files.old).reads
         (F.state files.new).reads (status_of result) }
-    ensures writes { (F.state files.new).writes ≡ (F.state files.old).writes }
     ensures told { IfOk result (IsExplained F.tells (call.dis image.now text.now)
         (F.state files.old).held message.new) }
 {

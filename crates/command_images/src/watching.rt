@@ -1,28 +1,28 @@
 //! `watch`.
 
-ghost use Rattle.std.specs.Prelude.{◌∷◌, [], ◌≡◌, ℕ, List, None, IfErr, IfOk, IsSomeAnd};
+ghost use Rattle.std.specs.Prelude.{◌∷◌, [], ℕ, List, None, IfErr, IfOk, IsSomeAnd};
 ghost use Rattle.std.specs.Bool.{OnTrue};
 ghost use Rattle.command_answers.specs.Acts.{outcome_of};
-ghost use Rattle.outside.specs.Outside.{AllStay, NoneFell};
 ghost use Rattle.script.specs.Scripts.{longest_text};
 ghost use Rattle.command_words.specs.Calls as call;
 ghost use Rattle.command_answers.specs.Acting.{IsQuiet};
 ghost use Rattle.command_answers.specs.Contents.{IsContent};
 ghost use Rattle.command_answers.specs.Prepared.{IsReadError, Prepares};
+ghost use Rattle.command_answers.specs.OnlyReads.{OnlyReads};
 ghost use Rattle.command_answers.specs.Tried.{HasTried, status_of};
-ghost use Rattle.command_answers.specs.Runnable.{IsRunnable, RunsRaw};
+ghost use Rattle.command_answers.specs.Acts.{CanRunByRanks};
 ghost use Rattle.command_images.specs.Watched.{IsSeenDue, IsTold};
 ghost use Rattle.command_refusals.specs.Refusals.{Explains, IsExplained};
 ghost use Rattle.command_refusals.specs.Told.{IsScriptTold};
 
 use crate::images::{load_content, refuse_image};
+use crate::scripts::script_for;
 use command_answers::{
-    Content, LONGEST_IMAGE, LONGEST_SCRIPT, PrepareError, PreparedCall, Status, judge_script, put,
-    read,
+    Content, LONGEST_IMAGE, LONGEST_SCRIPT, PrepareError, PreparedCall, Status, put, read,
 };
 use command_refusals::refuse_script;
 use command_words::Breakpoint;
-use image::RawImage;
+use image_loaded::Image;
 use outside::Files;
 use script::Script;
 use std::alloc::{AllocError, Global};
@@ -32,15 +32,15 @@ use vm_watch::watch;
 /// The act that puts the state of the run of an image over a script where it stops.
 fn put_seen<'a>(
     alloc: Global,
-    raw: &RawImage,
+    image: &Image,
     script: &Script,
     stop: Breakpoint,
 ) -> Result<PreparedCall<'a>, AllocError>
-    requires { RunsRaw raw.now script.now }
-    ensures told { IfOk result (λ act. IsTold stop raw.now script.now (outcome_of act)) }
+    requires { CanRunByRanks image.now script.now }
+    ensures told { IfOk result (λ act. IsTold stop image.now script.now (outcome_of act)) }
     ensures quiet { IfOk result IsQuiet }
 {
-    let text = watch(alloc, raw, script, stop)?;
+    let text = watch(alloc, image.image(), script, stop)?;
     Ok(put(Status::Done, text))
 }
 
@@ -49,20 +49,19 @@ fn watch_act<'a>(
     alloc: Global,
     message: &mut Text,
     file: &str,
-    raw: &RawImage,
+    image: &Image,
     content: &Content,
     stop: Breakpoint,
 ) -> Result<PreparedCall<'a>, AllocError>
-    requires { IsRunnable raw.now }
     ensures due { IfOk result (λ act. (text : List ℕ) → IsContent longest_text content.now text →
-        IsSeenDue stop raw.now text (outcome_of act)) }
+        IsSeenDue stop image.now text (outcome_of act)) }
     ensures quiet { IfOk result IsQuiet }
     ensures told { IfOk result (λ act. (text : List ℕ) → IsContent longest_text content.now text →
-        Explains (IsScriptTold raw.now.names file.now text (outcome_of act) message.new) act) }
+        Explains (IsScriptTold image.now.names file.now text (outcome_of act) message.new) act) }
 {
-    match judge_script(alloc, content, &raw.names) {
-        Ok(script) => put_seen(alloc, raw, &script, stop),
-        Err(fault) => refuse_script(alloc, message, file, content, &raw.names, &fault),
+    match script_for(alloc, content, image) {
+        Ok(script) => put_seen(alloc, image, &script, stop),
+        Err(fault) => refuse_script(alloc, message, file, content, image.names(), &fault),
     }
 }
 
@@ -71,38 +70,33 @@ fn watch_act<'a>(
 fn watch_on<'a, F: Files>(
     alloc: Global,
     message: &mut Text,
-    raw: &RawImage,
+    image: &Image,
     script: &'a str,
     stop: Breakpoint,
     files: &mut F,
 ) -> Result<PreparedCall<'a>, PrepareError<'a>>
-    requires { IsRunnable raw.now }
     ensures due { IfOk result (λ act. OnTrue F.tells
         (IsSomeAnd ((F.state files.old).held script.now)
-        (λ text. IsSeenDue stop raw.now text (outcome_of act)))) }
+        (λ text. IsSeenDue stop image.now text (outcome_of act)))) }
     ensures quiet { IfOk result IsQuiet }
     ensures failed { IfErr result
         (IsReadError script.now (F.state files.old) (F.state files.new)) }
-    ensures files { AllStay (F.state files.old).held (F.state files.new).held }
-    ensures read_counts { NoneFell (F.state files.old).read_faults (F.state files.new).read_faults }
-    ensures write_counts { NoneFell (F.state files.old).write_faults
-        (F.state files.new).write_faults }
+    ensures only_reads { OnlyReads (F.state files.old) (F.state files.new) }
     ensures reads { HasTried (script.now ∷ []) (F.state files.old).reads
         (F.state files.new).reads (status_of result) }
-    ensures writes { (F.state files.new).writes ≡ (F.state files.old).writes }
     ensures told { IfOk result (λ act. OnTrue F.tells
         (IsSomeAnd ((F.state files.old).held script.now) (λ text. Explains
-        (IsScriptTold raw.now.names script.now text (outcome_of act) message.new) act))) }
+        (IsScriptTold image.now.names script.now text (outcome_of act) message.new) act))) }
 {
     let content = read(files, script, LONGEST_SCRIPT)?;
-    match watch_act(alloc, message, script, raw, &content, stop) {
+    match watch_act(alloc, message, script, image, &content, stop) {
         Ok(act) => Ok(act),
         Err(_) => Err(PrepareError::Memory),
     }
 }
 
 /// `watch`: the image is read and judged, and the script only where the image is valid.
-#[tactic(auto, using(command_answers::proofs::Held::first_unread, command_answers::proofs::Trying::tried_first, command_answers::proofs::Trying::tried_on, command_answers::proofs::Trying::tried_alone))]
+#[tactic(auto, using(command_answers::proofs::Held::first_unread, command_answers::proofs::Trying::tried_first, command_answers::proofs::Trying::tried_on, command_answers::proofs::Trying::tried_alone, command_answers::proofs::OnlyReads::reads_on))]
 pub fn prepare_watch<'a, F: Files>(
     alloc: Global,
     message: &mut Text,
@@ -113,19 +107,15 @@ pub fn prepare_watch<'a, F: Files>(
 ) -> Result<PreparedCall<'a>, PrepareError<'a>>
     ensures prepared { Prepares F.tells (call.watch image.now script.now stop)
         (F.state files.old) (F.state files.new) result }
-    ensures files { AllStay (F.state files.old).held (F.state files.new).held }
-    ensures read_counts { NoneFell (F.state files.old).read_faults (F.state files.new).read_faults }
-    ensures write_counts { NoneFell (F.state files.old).write_faults
-        (F.state files.new).write_faults }
+    ensures only_reads { OnlyReads (F.state files.old) (F.state files.new) }
     ensures reads { HasTried (image.now ∷ script.now ∷ []) (F.state files.old).reads
         (F.state files.new).reads (status_of result) }
-    ensures writes { (F.state files.new).writes ≡ (F.state files.old).writes }
     ensures told { IfOk result (IsExplained F.tells (call.watch image.now script.now stop)
         (F.state files.old).held message.new) }
 {
     let content = read(files, image, LONGEST_IMAGE)?;
-    match load_content(alloc, &content) {
-        Ok(raw) => watch_on(alloc, message, &raw, script, stop, files),
+    match load_content(alloc, content) {
+        Ok(loaded) => watch_on(alloc, message, &loaded, script, stop, files),
         Err(fault) => match refuse_image(alloc, message, image, fault) {
             Ok(act) => Ok(act),
             Err(_) => Err(PrepareError::Memory),

@@ -1,50 +1,54 @@
 //! Machines by the dispatch of a run.
 
 ghost use Rattle.std.specs.Prelude.{◌≡◌, ◌≢◌, [], Some, IfOk, OnOk, OnErr, map};
-ghost use Rattle.command_answers.specs.Acts.{CanRun, log_due};
-ghost use Rattle.image.specs.Raw.{image_of};
+ghost use Rattle.command_answers.specs.Acts.{CanRun, image_in, log_due};
 ghost use Rattle.outside.specs.Outside.{Appends, AppendsFront, Rose};
 ghost use Rattle.machine_semantics.specs.Image.{Image};
 ghost use Rattle.vm_state.specs.Plan.{IsOf};
 ghost use Rattle.command_perform.specs.Ready.{IsByDeadlines, IsByRanks, IsCourseOf};
 
-use command_answers::{Dispatch, PreparedRun};
-use edf_machine::EdfMachine;
-use image::RawProcess;
+use command_answers::{PreparedRun, RunnableImage};
+use edf_machine::{Deadlines, machine_by_deadlines};
+use image_bytes::ImageBytes;
 use outside::Sink;
 use std::alloc::{AllocError, Global};
 use vm_run::OutputCut;
-use vm_runner::Machine;
+use vm_runner::{Machine, Ranking};
 use vm_state::DecodedImage;
 
 /// The machine of a run, by its dispatch.
 #[derive(Drop)]
 pub(crate) enum AnyMachine {
     /// By ranks.
-    Ranks(Machine),
+    Ranks(Machine<Ranking>),
     /// Under earliest deadline first.
-    Deadlines(EdfMachine),
+    Deadlines(Machine<Deadlines>),
 }
 
 /// The machine by ranks before tick 0 of the run; an error says that memory is short.
-fn by_ranks(alloc: Global, plan: &DecodedImage, run: &PreparedRun) -> Result<Machine, AllocError>
+fn by_ranks(
+    alloc: Global,
+    plan: &DecodedImage,
+    run: &PreparedRun,
+) -> Result<Machine<Ranking>, AllocError>
     ghost image: { Image }
-    requires image { image ≡ image_of run.now.image }
+    requires image { image ≡ (image_in run.now.image).image }
     requires plan { IsOf image plan.now }
-    requires dispatch { run.now.dispatch ≡ Dispatch.Ranks }
+    requires dispatch { run.now.image ≡ RunnableImage.Ranks (image_in run.now.image) }
     requires can { CanRun run.now }
     ensures { IfOk result (λ machine. IsByRanks run.now machine) }
 {
-    Machine::new(alloc, plan, &run.script)
+    Machine::by_ranks(alloc, plan, &run.script)
 }
 
 /// The deadline of each process in ticks; an error says that memory is short.
-fn deadlines_of(alloc: Global, processes: &[RawProcess]) -> Result<Vec<u32>, AllocError>
-    ensures { IfOk result (λ deadlines. deadlines.items ≡ map (λ p. p.deadline) processes.now) }
+fn deadlines_of(alloc: Global, image: &ImageBytes) -> Result<Vec<u32>, AllocError>
+    ensures { IfOk result (λ deadlines.
+        deadlines.items ≡ map (λ p. p.deadline) image.now.image.processes) }
 {
-    let mut deadlines = Vec::with_capacity(alloc, processes.len())?;
-    for process in processes {
-        deadlines.push(process.deadline)?;
+    let mut deadlines = Vec::with_capacity(alloc, usize::from(image.processes()))?;
+    for number in 0..image.processes() {
+        deadlines.push(image.process(number).deadline)?;
     }
     Ok(deadlines)
 }
@@ -55,28 +59,28 @@ fn by_deadlines(
     alloc: Global,
     plan: &DecodedImage,
     run: &PreparedRun,
-) -> Result<EdfMachine, AllocError>
+) -> Result<Machine<Deadlines>, AllocError>
     ghost image: { Image }
-    requires image { image ≡ image_of run.now.image }
+    requires image { image ≡ (image_in run.now.image).image }
     requires plan { IsOf image plan.now }
-    requires dispatch { run.now.dispatch ≡ Dispatch.Deadlines }
+    requires dispatch { run.now.image ≡ RunnableImage.Deadlines (image_in run.now.image) }
     requires can { CanRun run.now }
     ensures { IfOk result (λ machine. IsByDeadlines run.now machine) }
 {
-    let deadlines = deadlines_of(alloc, run.image.processes.as_slice())?;
-    EdfMachine::new(alloc, plan, deadlines.as_slice(), &run.script)
+    let deadlines = deadlines_of(alloc, run.image.image())?;
+    machine_by_deadlines(alloc, plan, deadlines.as_slice(), &run.script)
 }
 
 /// Runs by ranks to the end of the script, and puts the log, one put a line. After a failed put
 /// nothing more is put.
 fn put_by_ranks<O: Sink>(
-    machine: &mut Machine,
+    machine: &mut Machine<Ranking>,
     plan: &DecodedImage,
     run: &PreparedRun,
     out: &mut O,
 ) -> Result<(), OutputCut>
     ghost image: { Image }
-    requires image { image ≡ image_of run.now.image }
+    requires image { image ≡ (image_in run.now.image).image }
     requires plan { IsOf image plan.now }
     requires ready { IsByRanks run.now machine.old }
     ensures whole { OnOk result (Appends (O.state out.old).taken (O.state out.new).taken
@@ -87,19 +91,19 @@ fn put_by_ranks<O: Sink>(
     ensures failed { OnErr result (Rose (O.state out.old).faults (O.state out.new).faults) }
     ensures quiet { OnOk result ((O.state out.new).faults ≡ (O.state out.old).faults) }
 {
-    vm_run::run(machine, plan, &run.script, &run.image.names, out)
+    vm_run::run(machine, plan, &run.script, run.image.image().names(), out)
 }
 
 /// Runs under earliest deadline first to the end of the script, and puts the log, one put a line.
 /// After a failed put nothing more is put.
 fn put_by_deadlines<O: Sink>(
-    machine: &mut EdfMachine,
+    machine: &mut Machine<Deadlines>,
     plan: &DecodedImage,
     run: &PreparedRun,
     out: &mut O,
 ) -> Result<(), OutputCut>
     ghost image: { Image }
-    requires image { image ≡ image_of run.now.image }
+    requires image { image ≡ (image_in run.now.image).image }
     requires plan { IsOf image plan.now }
     requires ready { IsByDeadlines run.now machine.old }
     ensures whole { OnOk result (Appends (O.state out.old).taken (O.state out.new).taken
@@ -110,7 +114,7 @@ fn put_by_deadlines<O: Sink>(
     ensures failed { OnErr result (Rose (O.state out.old).faults (O.state out.new).faults) }
     ensures quiet { OnOk result ((O.state out.new).faults ≡ (O.state out.old).faults) }
 {
-    edf_machine::run(machine, plan, &run.script, &run.image.names, out)
+    vm_run::run(machine, plan, &run.script, run.image.image().names(), out)
 }
 
 impl AnyMachine {
@@ -121,14 +125,16 @@ impl AnyMachine {
         run: &PreparedRun,
     ) -> Result<AnyMachine, AllocError>
         ghost image: { Image }
-        requires image { image ≡ image_of run.now.image }
+        requires image { image ≡ (image_in run.now.image).image }
         requires plan { IsOf image plan.now }
         requires can { CanRun run.now }
         ensures { IfOk result (λ course. IsCourseOf run.now course) }
     {
-        match run.dispatch {
-            Dispatch::Ranks => Ok(AnyMachine::Ranks(by_ranks(alloc, plan, run)?)),
-            Dispatch::Deadlines => Ok(AnyMachine::Deadlines(by_deadlines(alloc, plan, run)?)),
+        match &run.image {
+            RunnableImage::Ranks(_) => Ok(AnyMachine::Ranks(by_ranks(alloc, plan, run)?)),
+            RunnableImage::Deadlines(_) => {
+                Ok(AnyMachine::Deadlines(by_deadlines(alloc, plan, run)?))
+            }
         }
     }
 
@@ -141,7 +147,7 @@ impl AnyMachine {
         out: &mut O,
     ) -> Result<(), OutputCut>
         ghost image: { Image }
-        requires image { image ≡ image_of run.now.image }
+        requires image { image ≡ (image_in run.now.image).image }
         requires plan { IsOf image plan.now }
         requires course { IsCourseOf run.now self.old }
         ensures whole { OnOk result (Appends (O.state out.old).taken (O.state out.new).taken

@@ -1,8 +1,7 @@
 //! Runs made ready.
 
 ghost use Rattle.std.specs.Prelude.{◌≡◌, ◌≢◌, [], Some, IfOk, OnOk, OnErr};
-ghost use Rattle.command_answers.specs.Acts.{CanRun, log_due};
-ghost use Rattle.image.specs.Raw.{image_of};
+ghost use Rattle.command_answers.specs.Acts.{CanRun, image_in, log_due};
 ghost use Rattle.outside.specs.Outside.{Appends, AppendsFront, Rose};
 ghost use Rattle.machine_semantics.specs.Image.{Image};
 ghost use Rattle.command_perform.specs.Ready.{IsReady};
@@ -11,7 +10,7 @@ use crate::any_machine::AnyMachine;
 use command_answers::PreparedRun;
 use outside::Sink;
 use std::alloc::{AllocError, Global};
-use vm_plan::plan::plan_of;
+use vm_plan::plan_of;
 use vm_run::OutputCut;
 use vm_state::DecodedImage;
 
@@ -28,12 +27,12 @@ impl<'a> Ready<'a> {
     /// Makes the plan of the image and the machine; an error says that memory is short.
     pub fn new(alloc: Global, run: &'a PreparedRun) -> Result<Ready<'a>, AllocError>
         ghost image: { Image }
-        requires image { image ≡ image_of run.now.image }
+        requires image { image ≡ (image_in run.now.image).image }
         requires can { CanRun run.now }
         ensures run { IfOk result (λ ready. ready.run.now ≡ run.now) }
         ensures ready { IfOk result (λ ready. IsReady ready) }
     {
-        let plan = plan_of(alloc, &run.image)?;
+        let plan = plan_of(alloc, run.image.image())?;
         let course = AnyMachine::new(alloc, &plan, run)?;
         Ok(Ready { run, plan, course })
     }
@@ -42,7 +41,7 @@ impl<'a> Ready<'a> {
     /// more is put.
     pub fn put_log<O: Sink>(&mut self, out: &mut O) -> Result<(), OutputCut>
         ghost image: { Image }
-        requires image { image ≡ image_of self.old.run.now.image }
+        requires image { image ≡ (image_in self.old.run.now.image).image }
         requires ready { IsReady self.old }
         ensures whole { OnOk result (Appends (O.state out.old).taken (O.state out.new).taken
             (log_due (Some self.old.run.now))) }

@@ -8,8 +8,8 @@ use Rattle.image.specs.Named.{NamedImage}
 use Rattle.image.specs.Raw.{image_of, named_of, process_of}
 use Rattle.image.specs.declared.raw.RawImage.{RawImage}
 use Rattle.image.specs.declared.raw.RawProcess.{RawProcess}
-use Rattle.sched_slack.specs.declared.spare.Spare.{Spare}
-use Rattle.sched_slack.specs.Slack.{with_more, IsSpare}
+use Rattle.sched_sensitivity.specs.declared.spare.Spare.{Spare}
+use Rattle.sched_sensitivity.specs.Slack.{with_more, IsSpare}
 use Rattle.valid_image.specs.Tasks.{process_at, tasks_of, with_rank}
 use Rattle.sched_response.specs.declared.tasks.Task.{Task}
 use Rattle.sched_response.specs.Demand.{IsBound}

@@ -11,9 +11,9 @@ use Rattle.image.specs.declared.raw.RawImage.{RawImage}
 use Rattle.image.specs.declared.raw.RawProcess.{RawProcess}
 use Rattle.sched_response.specs.declared.tasks.Task.{Task}
 use Rattle.sched_response.specs.Demand.{task_at, deadline_at, AreTasks, IsTask, Solves}
-use Rattle.sched_slack.specs.Slack.{with_more, IsTimely}
-use Rattle.sched_slack.proofs.Lighter.{nobody, run_within}
-use Rattle.sched_slack.proofs.More.{length_more}
+use Rattle.sched_sensitivity.specs.Slack.{with_more, IsTimely}
+use Rattle.sched_sensitivity.proofs.Lighter.{nobody, run_within}
+use Rattle.sched_sensitivity.proofs.More.{length_more}
 use Rattle.sched_table.proofs.Onto.{onto}
 use Rattle.valid_image.specs.Tasks.{tasks_of}
 use Rattle.valid_image.specs.Times.{rank_fault}

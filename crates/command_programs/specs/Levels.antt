@@ -5,7 +5,7 @@ use Rattle.sched_response.specs.declared.tasks.Task.{Task}
 use Rattle.sched_response.specs.Demand.{AreTasks}
 use Rattle.valid_image.specs.Tasks.{tasks_of}
 use Rattle.image.specs.Named.{NamedImage}
-use Rattle.sched_slack.specs.Slack.{IsTimely}
+use Rattle.sched_sensitivity.specs.Slack.{IsTimely}
 use Rattle.command_due.specs.Lines.{IsSlackLine}
 
 -- each process has its rank among the tasks

@@ -8,16 +8,21 @@ use Rattle.sched_table.specs.Late.{IsNamed}
 use Rattle.compile.specs.declared.built.Built.{Built}
 use Rattle.compile.specs.declared.compiling.CompileFault.{CompileFault}
 use Rattle.compile.specs.declared.compiling.CompileFault.TheVariants as fault
-use Rattle.command_answers.specs.Runnable.{IsRunnable, RunsRaw}
+use Rattle.command_answers.specs.Acts.{CanRunByRanks}
+use Rattle.command_answers.specs.Runnable.{IsRunnable}
+use Rattle.image.specs.Bytes.{Second, bytes_of}
+use Rattle.image.specs.Raw.{named_of}
+use Rattle.image_loaded.specs.Shape.{AreOfValid}
 
 -- the report has a name for each row, and strings can hold the names
 pub record CanBeShown (names : ImageNames) (program : List ℕ) (table : Table) : Type 0 where
   pub named : IsNamed names table
   pub strings : AreStrings names program
 
--- the image can be run and stored, and the report can be shown
+-- the image can be run, its bytes are a file of it, and the report can be shown
 pub record IsRunnableBuilt (b : Built) : Type 0 where
-  pub image : IsRunnable b.image
+  pub image : IsRunnable (named_of b.image)
+  pub held : AreOfValid (bytes_of Second (named_of b.image)) (named_of b.image)
   pub shown : CanBeShown b.image.names b.image.program b.table
 
 -- the answers of `compile` have what is asked for what comes next
@@ -28,4 +33,4 @@ Readies (Err (fault.Untimely l)) = CanBeShown l.names l.program l.table
 Readies (Err fault.Memory) = Unit {0}
 
 abbrev pub RunsBuilt : Built → Script → Type 0
-RunsBuilt b script = RunsRaw b.image script
+RunsBuilt b script = CanRunByRanks (named_of b.image) script

@@ -3,13 +3,13 @@
 ghost use Rattle.std.specs.Prelude.{◌≡◌, ◌<◌, ◌≤◌, ◌+◌, ◌-◌, length, map, IfOk};
 ghost use Rattle.image.specs.Raw.{process_of};
 ghost use Rattle.sched_response.specs.Demand.{task_at, IsBound};
-ghost use Rattle.sched_slack.specs.Slack.{with_more, IsTimely, IsSpare};
+ghost use Rattle.sched_sensitivity.specs.Slack.{with_more, IsTimely, IsSpare};
 ghost use Rattle.command_due.specs.Lines.{AreLeastBounds};
 ghost use Rattle.command_programs.specs.Levels.{HaveLevels};
 
 use image::RawProcess;
 use sched_response::{TaskSet, bound_of};
-use sched_slack::{Spare, slack_of};
+use sched_sensitivity::{Spare, slack_of};
 use std::alloc::{AllocError, Global};
 use syntax_tree::List;
 

@@ -3,12 +3,12 @@
 ghost use Rattle.std.specs.Prelude.{◌∷◌, [], ◌≡◌, ◌≤◌, ℕ, List, Some, IfErr, IfOk, IsSomeAnd};
 ghost use Rattle.std.specs.Bool.{OnTrue};
 ghost use Rattle.command_answers.specs.Acts.{outcome_of};
-ghost use Rattle.outside.specs.Outside.{AllStay, NoneFell};
 ghost use Rattle.script.specs.Scripts.{longest_text};
 ghost use Rattle.command_words.specs.Calls as call;
 ghost use Rattle.command_answers.specs.Acting.{CanBeDone};
 ghost use Rattle.command_answers.specs.Contents.{IsContent};
 ghost use Rattle.command_answers.specs.Prepared.{IsReadError, Prepares};
+ghost use Rattle.command_answers.specs.OnlyReads.{OnlyReads};
 ghost use Rattle.command_answers.specs.Tried.{HasTried, status_of};
 ghost use Rattle.command_programs.specs.Runnable.{IsRunnableBuilt, RunsBuilt};
 ghost use Rattle.command_programs.specs.Scripted.{IsBuiltRunDue, built_run};
@@ -16,14 +16,13 @@ ghost use Rattle.command_refusals.specs.Refusals.{Explains, IsExplained};
 ghost use Rattle.command_refusals.specs.Told.{IsScriptTold};
 
 use crate::compile_content;
-use crate::programs::{Format, refuse};
+use crate::programs::{Format, refuse, report_and_image};
 use command_answers::{
-    Content, Dispatch, LONGEST_PROGRAM, LONGEST_SCRIPT, PrepareError, PreparedCall, PreparedRun,
-    Status, Store, judge_script, read,
+    Content, LONGEST_PROGRAM, LONGEST_SCRIPT, PrepareError, PreparedCall, PreparedRun,
+    RunnableImage, Status, Store, judge_script, read,
 };
 use command_refusals::refuse_script;
 use compile::Built;
-use image::write_image;
 use outside::Files;
 use script::Script;
 use std::alloc::{AllocError, Global};
@@ -35,24 +34,25 @@ fn run_built<'a>(
     alloc: Global,
     built: Built,
     script: Script,
-    image: &'a str,
+    target: &'a str,
 ) -> Result<PreparedCall<'a>, AllocError>
     requires ready { IsRunnableBuilt built }
     requires runs { RunsBuilt built script }
     ensures outcome { IfOk result (λ act. outcome_of act ≡ built_run built script) }
-    ensures done { IfOk result (CanBeDone (Some image.now)) }
+    ensures done { IfOk result (CanBeDone (Some target.now)) }
 {
-    let Built { image: raw, table } = built;
-    let text = sched_table::report(alloc, &raw.names, &raw.program, &table)?;
-    let bytes = write_image(alloc, &raw)?;
+    let (text, image) = report_and_image(alloc, built)?;
+    let bytes = Vec::from_slice(alloc, image.bytes())?;
     Ok(PreparedCall {
         status: Status::Done,
         text,
-        store: Some(Store { name: image, bytes }),
+        store: Some(Store {
+            name: target,
+            bytes,
+        }),
         run: Some(PreparedRun {
-            image: raw,
+            image: RunnableImage::Ranks(image),
             script,
-            dispatch: Dispatch::Ranks,
         }),
     })
 }
@@ -96,13 +96,9 @@ fn go_on<'a, F: Files>(
     ensures done { IfOk result (CanBeDone (Some image.now)) }
     ensures failed { IfErr result
         (IsReadError script.now (F.state files.old) (F.state files.new)) }
-    ensures files { AllStay (F.state files.old).held (F.state files.new).held }
-    ensures read_counts { NoneFell (F.state files.old).read_faults (F.state files.new).read_faults }
-    ensures write_counts { NoneFell (F.state files.old).write_faults
-        (F.state files.new).write_faults }
+    ensures only_reads { OnlyReads (F.state files.old) (F.state files.new) }
     ensures reads { HasTried (script.now ∷ []) (F.state files.old).reads
         (F.state files.new).reads (status_of result) }
-    ensures writes { (F.state files.new).writes ≡ (F.state files.old).writes }
     ensures told { IfOk result (λ act. OnTrue F.tells
         (IsSomeAnd ((F.state files.old).held script.now) (λ text. Explains
         (IsScriptTold built.image.names script.now text (outcome_of act) message.new) act))) }
@@ -115,7 +111,7 @@ fn go_on<'a, F: Files>(
 }
 
 /// `go`: the program is read and judged, and the script only where the program is timely.
-#[tactic(auto, using(command_answers::proofs::Held::first_unread, command_answers::proofs::Trying::tried_first, command_answers::proofs::Trying::tried_on, command_answers::proofs::Trying::tried_alone))]
+#[tactic(auto, using(command_answers::proofs::Held::first_unread, command_answers::proofs::Trying::tried_first, command_answers::proofs::Trying::tried_on, command_answers::proofs::Trying::tried_alone, command_answers::proofs::OnlyReads::reads_on))]
 pub fn prepare_go<'a, F: Files>(
     alloc: Global,
     message: &mut Text,
@@ -128,13 +124,9 @@ pub fn prepare_go<'a, F: Files>(
     requires { over ≤ 1000 }
     ensures prepared { Prepares F.tells (call.go program.now image.now script.now over)
         (F.state files.old) (F.state files.new) result }
-    ensures files { AllStay (F.state files.old).held (F.state files.new).held }
-    ensures read_counts { NoneFell (F.state files.old).read_faults (F.state files.new).read_faults }
-    ensures write_counts { NoneFell (F.state files.old).write_faults
-        (F.state files.new).write_faults }
+    ensures only_reads { OnlyReads (F.state files.old) (F.state files.new) }
     ensures reads { HasTried (program.now ∷ script.now ∷ []) (F.state files.old).reads
         (F.state files.new).reads (status_of result) }
-    ensures writes { (F.state files.new).writes ≡ (F.state files.old).writes }
     ensures told { IfOk result (IsExplained F.tells
         (call.go program.now image.now script.now over) (F.state files.old).held message.new) }
 {

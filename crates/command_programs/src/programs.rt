@@ -6,7 +6,6 @@ ghost use Rattle.command_due.specs.CommandsDue.{IsRefused, IsReportDue, IsPrintD
 ghost use Rattle.command_due.specs.SpareDue.{IsSlackDue};
 ghost use Rattle.compile.specs.Compile.{Compiles};
 ghost use Rattle.command_answers.specs.Acts.{number_of, outcome_of};
-ghost use Rattle.outside.specs.Outside.{AllStay, NoneFell};
 ghost use Rattle.command_words.specs.Calls as call;
 ghost use Rattle.command_answers.specs.Acting.{CanBeDone, IsQuiet, puts};
 ghost use Rattle.command_answers.specs.Contents.{IsContent};
@@ -14,8 +13,11 @@ ghost use Rattle.command_programs.specs.Formats.{shown, report_call};
 ghost use Rattle.command_refusals.specs.Refusals.{Explains, IsExplained};
 ghost use Rattle.command_refusals.specs.Told.{IsProgramTold, IsTextTold};
 ghost use Rattle.command_answers.specs.Prepared.{Prepares};
+ghost use Rattle.command_answers.specs.OnlyReads.{OnlyReads};
 ghost use Rattle.command_answers.specs.Tried.{HasTried, status_of};
 ghost use Rattle.command_programs.specs.Runnable.{CanBeShown, IsRunnableBuilt, Readies};
+ghost use Rattle.command_programs.specs.Scripted.{report_on};
+ghost use Rattle.image.specs.Raw.{named_of};
 
 use crate::{compile_content, read_content, slack_text};
 use command_answers::{
@@ -23,7 +25,8 @@ use command_answers::{
 };
 use command_refusals::refuse_text;
 use compile::{Built, CompileFault, ProgramTextFault};
-use image::{ImageNames, write_image};
+use image::ImageNames;
+use image_loaded::Image;
 use message_program::late_message;
 use outside::Files;
 use sched_table::Table;
@@ -181,25 +184,39 @@ fn print_act<'a>(
     }
 }
 
+/// The report on a program that is timely, and its image.
+pub(crate) fn report_and_image(alloc: Global, built: Built) -> Result<(Text, Image), AllocError>
+    requires { IsRunnableBuilt built }
+    ensures report { IfOk result (λ made. made.0 ≡ report_on built) }
+    ensures image { IfOk result (λ made. made.1 ≡ named_of built.image) }
+{
+    let Built { image: raw, table } = built;
+    let text = sched_table::report(alloc, &raw.names, &raw.program, &table)?;
+    let image = Image::of_valid(alloc, raw)?;
+    Ok((text, image))
+}
+
 /// The act that stores the image of a program that is timely, and puts the report.
 fn store_built<'a>(
     alloc: Global,
-    built: &Built,
-    image: &'a str,
+    built: Built,
+    target: &'a str,
 ) -> Result<PreparedCall<'a>, AllocError>
-    requires { IsRunnableBuilt built.now }
+    requires { IsRunnableBuilt built }
     ensures due { IfOk result (λ act. (over : ℕ) (text : List ℕ) →
-        Compiles over text (Ok built.now) → IsCompileDue over text (outcome_of act)) }
-    ensures done { IfOk result (CanBeDone (Some image.now)) }
+        Compiles over text (Ok built) → IsCompileDue over text (outcome_of act)) }
+    ensures done { IfOk result (CanBeDone (Some target.now)) }
     ensures succeeds { IfOk result (λ act. number_of act.status ≡ 0) }
 {
-    let raw = &built.image;
-    let text = sched_table::report(alloc, &raw.names, &raw.program, &built.table)?;
-    let bytes = write_image(alloc, raw)?;
+    let (text, image) = report_and_image(alloc, built)?;
+    let bytes = Vec::from_slice(alloc, image.bytes())?;
     Ok(PreparedCall {
         status: Status::Done,
         text,
-        store: Some(Store { name: image, bytes }),
+        store: Some(Store {
+            name: target,
+            bytes,
+        }),
         run: None,
     })
 }
@@ -221,7 +238,7 @@ fn compile_act<'a>(
         Explains (IsProgramTold over file.now text (outcome_of act) message.new) act) }
 {
     match compile_content(alloc, content, over) {
-        Ok(built) => store_built(alloc, &built, image),
+        Ok(built) => store_built(alloc, built, image),
         Err(fault) => refuse(alloc, message, file, content, over, Format::Text, fault),
     }
 }
@@ -239,13 +256,9 @@ pub fn prepare_report<'a, F: Files>(
     requires { over ≤ 1000 }
     ensures prepared { Prepares F.tells (report_call format program.now over) (F.state files.old)
         (F.state files.new) result }
-    ensures files { AllStay (F.state files.old).held (F.state files.new).held }
-    ensures read_counts { NoneFell (F.state files.old).read_faults (F.state files.new).read_faults }
-    ensures write_counts { NoneFell (F.state files.old).write_faults
-        (F.state files.new).write_faults }
+    ensures only_reads { OnlyReads (F.state files.old) (F.state files.new) }
     ensures reads { HasTried (program.now ∷ []) (F.state files.old).reads
         (F.state files.new).reads (status_of result) }
-    ensures writes { (F.state files.new).writes ≡ (F.state files.old).writes }
     ensures told { IfOk result (IsExplained F.tells (report_call format program.now over)
         (F.state files.old).held message.new) }
 {
@@ -268,13 +281,9 @@ pub fn prepare_slack<'a, F: Files>(
     requires { over ≤ 1000 }
     ensures prepared { Prepares F.tells (call.slack program.now over) (F.state files.old)
         (F.state files.new) result }
-    ensures files { AllStay (F.state files.old).held (F.state files.new).held }
-    ensures read_counts { NoneFell (F.state files.old).read_faults (F.state files.new).read_faults }
-    ensures write_counts { NoneFell (F.state files.old).write_faults
-        (F.state files.new).write_faults }
+    ensures only_reads { OnlyReads (F.state files.old) (F.state files.new) }
     ensures reads { HasTried (program.now ∷ []) (F.state files.old).reads
         (F.state files.new).reads (status_of result) }
-    ensures writes { (F.state files.new).writes ≡ (F.state files.old).writes }
     ensures told { IfOk result (IsExplained F.tells (call.slack program.now over)
         (F.state files.old).held message.new) }
 {
@@ -295,13 +304,9 @@ pub fn prepare_print<'a, F: Files>(
 ) -> Result<PreparedCall<'a>, PrepareError<'a>>
     ensures prepared { Prepares F.tells (call.print program.now) (F.state files.old)
         (F.state files.new) result }
-    ensures files { AllStay (F.state files.old).held (F.state files.new).held }
-    ensures read_counts { NoneFell (F.state files.old).read_faults (F.state files.new).read_faults }
-    ensures write_counts { NoneFell (F.state files.old).write_faults
-        (F.state files.new).write_faults }
+    ensures only_reads { OnlyReads (F.state files.old) (F.state files.new) }
     ensures reads { HasTried (program.now ∷ []) (F.state files.old).reads
         (F.state files.new).reads (status_of result) }
-    ensures writes { (F.state files.new).writes ≡ (F.state files.old).writes }
     ensures told { IfOk result (IsExplained F.tells (call.print program.now)
         (F.state files.old).held message.new) }
 {
@@ -325,13 +330,9 @@ pub fn prepare_compile<'a, F: Files>(
     requires { over ≤ 1000 }
     ensures prepared { Prepares F.tells (call.compile program.now image.now over)
         (F.state files.old) (F.state files.new) result }
-    ensures files { AllStay (F.state files.old).held (F.state files.new).held }
-    ensures read_counts { NoneFell (F.state files.old).read_faults (F.state files.new).read_faults }
-    ensures write_counts { NoneFell (F.state files.old).write_faults
-        (F.state files.new).write_faults }
+    ensures only_reads { OnlyReads (F.state files.old) (F.state files.new) }
     ensures reads { HasTried (program.now ∷ []) (F.state files.old).reads
         (F.state files.new).reads (status_of result) }
-    ensures writes { (F.state files.new).writes ≡ (F.state files.old).writes }
     ensures told { IfOk result (IsExplained F.tells (call.compile program.now image.now over)
         (F.state files.old).held message.new) }
 {

@@ -16,6 +16,7 @@ use built_valid_law::runnable_image::built_images_are_ready;
 use command_answers::Content;
 use compile::{Built, CompileFault, ProgramTextFault, compile, read_written};
 use replay_law::names_are_words::names_of_texts_are_identifiers;
+use replay_law::stored_programs::built_images_are_held;
 use static_rule::rule;
 use static_semantics::Checked;
 use std::alloc::Global;
@@ -38,6 +39,7 @@ pub fn compile_text(alloc: Global, text: &[u8], over: u16) -> Result<Built, Comp
     built_images_are_ready();
     scripts_suit();
     names_of_texts_are_identifiers();
+    built_images_are_held();
     compile(alloc, text, over)
 }
 

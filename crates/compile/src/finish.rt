@@ -27,7 +27,7 @@ pub fn filled(
     requires code { length image.code ≤ 65535 }
     ensures { IfOk result (IsFilled image bounds.now) }
 {
-    let image = with_bounds(alloc, image, bounds)?;
+    let image = with_bounds(image, bounds);
     let table = table(alloc, &image, bounds)?;
     Ok(Built { image, table })
 }

@@ -1,8 +1,8 @@
 -- Bounds, one more of a list at a time.
-use Rattle.std.specs.Prelude.{◌≡◌, ◌<◌, ◌≤◌, ◌+◌, ◌-◌, ◌++◌, ℕ, List, [], ◌∷◌, Option, Some, None, IsSome, length, map, min, slice_get, unwrap_or}
-use Rattle.std.proofs.Common.{refl, sym, ap, subst, ◌∙◌, arith, take, get_or}
-use Rattle.std.proofs.lemmas.List.{take_all, length-map}
-use Rattle.std.proofs.lemmas.Option.{slice_get-get_or, slice_get_within, get_or_from_slice_get}
+use Rattle.std.specs.Prelude.{◌≡◌, ◌<◌, ◌≤◌, ◌+◌, ◌-◌, ◌++◌, ℕ, List, [], ◌∷◌, Option, Some, None, IsSome, length, map, min, slice_get}
+use Rattle.std.proofs.Common.{refl, sym, ap, subst, ◌∙◌, arith, get_or}
+use Rattle.std.proofs.lemmas.List.{length-map}
+use Rattle.std.proofs.lemmas.Option.{slice_get-get_or, slice_get_within}
 use Rattle.base.proofs.Lists.{one_longer, map_get}
 use Rattle.sched_response.specs.declared.tasks.Task.{Task}
 use Rattle.sched_response.specs.Demand.{deadline_at, IsBound}
@@ -14,10 +14,8 @@ use Rattle.valid_image.specs.Tasks.{tasks_of}
 use Rattle.sched_table.specs.Table.{IsBoundAt}
 use Rattle.built_image.specs.Filled.{without_bound, without_bounds}
 use Rattle.built_image.specs.Shown.{AreLeast}
-use Rattle.compile_schedule.specs.declared.copies.Times.{Times}
-use Rattle.compile_schedule.specs.Ranking.{timed}
 use Rattle.built_image_law.specs.Filled.{Each}
-use Rattle.built_image_law.proofs.Lists.{through, each_mapped, each_more, none_yet, same_more}
+use Rattle.built_image_law.proofs.Lists.{through, each_mapped, each_more, none_yet}
 use Rattle.built_image_law.proofs.Tasks.{least_is_kept}
 use Rattle.compile_schedule.specs.Bounding.{but_bound, AreBounded, HasBounds, KeepsLeast}
 
@@ -59,31 +57,6 @@ all_bounds image i bounds past so_far = record {
   one_each = so_far.long ∙ (past ∙ sym (length-map image.processes process_of));
   each = λ k p b at there. so_far.each k b there p at;
 }
-
--- ---- bounds filled in
-
-pub record BoundedSoFar (found : List (Option ℕ)) (before : List RawProcess) (i : ℕ) (now : List RawProcess) : Type 0 where
-  pub long : length now ≡ i
-  pub same : map but_bound now ≡ map but_bound (take i before)
-  pub bounds : Each (λ k p. (b : ℕ) → slice_get found k ≡ Some (Some b) → p.bound ≡ b) now
-
-pub one_bounded : (bounds : List (Option ℕ)) (before old new : List RawProcess) (i : ℕ) (t : Times) (p q : RawProcess) (o : Option ℕ) → i < length before → p ≡ get_or before i p → BoundedSoFar bounds before i old
-    → new ≡ old ++ q ∷ [] → process_of q ≡ timed t (process_of p) → t.rank ≡ p.rank → t.block ≡ p.block → o ≡ get_or bounds i None → t.bound ≡ unwrap_or o p.bound → BoundedSoFar bounds before (i + 1) new
-one_bounded bounds before old new i t p q o low at so_far grown is rank block there bound = record {
-  long = one_longer old new q i so_far.long grown;
-  same =
-      same_more but_bound before old new i p q low at so_far.same grown
-      (ap without_bound is ∙ (ap (λ r. record (but_bound p) { rank = r; block = t.block }) rank ∙ ap (λ b. record (but_bound p) { block = b }) block));
-  bounds = each_more (λ k x. (b : ℕ) → slice_get bounds k ≡ Some (Some b) → x.bound ≡ b) old new i q so_far.long grown so_far.bounds (λ b found.
-      ap (λ (x : Process). x.bound) is ∙ (bound ∙ ap (λ x. unwrap_or x p.bound) (there ∙ get_or_from_slice_get bounds i (Some b) None found)));
-}
-
-pub none_bounded : (bounds : List (Option ℕ)) (before now : List RawProcess) → now ≡ [] → BoundedSoFar bounds before 0 now
-none_bounded bounds before now none =
-    subst (BoundedSoFar bounds before 0) (sym none) (record { long = refl; same = refl; bounds = none_yet (λ k p. (b : ℕ) → slice_get bounds k ≡ Some (Some b) → p.bound ≡ b) })
-
-pub all_bounded : (bounds : List (Option ℕ)) (before now : List RawProcess) (i : ℕ) → length before ≤ i → BoundedSoFar bounds before i now → AreBounded bounds before now
-all_bounded bounds before now i past so_far = record { same = so_far.same ∙ ap (λ ps. map but_bound ps) (take_all i before past); bounds = so_far.bounds }
 
 -- ---- images
 

@@ -1,5 +1,5 @@
 -- What is filled in of processes and monitors, one step after the other.
-use Rattle.std.specs.Prelude.{◌≡◌, List, map}
+use Rattle.std.specs.Prelude.{◌≡◌, ℕ, List, Some, length, map, slice_get}
 use Rattle.machine_semantics.specs.Image.{Image, Monitor, Process}
 use Rattle.image.specs.declared.raw.RawImage.{RawImage}
 use Rattle.image.specs.declared.raw.RawMonitor.{RawMonitor}
@@ -8,11 +8,17 @@ use Rattle.image.specs.Raw.{image_of, monitor_of, process_of}
 use Rattle.valid_image.specs.Times.{rank_of, ceiling_of, needed_block}
 use Rattle.built_image.specs.Filled.{without_rank, without_ranks, without_ceiling}
 use Rattle.built_image_law.specs.Filled.{Each, without_block, without_blocks}
-use Rattle.compile_schedule.specs.declared.copies.Times.{Times}
 
--- the process with these times
-abbrev pub timed : Times → Process → Process
-timed t p = record p { rank = t.rank; block = t.block; bound = t.bound }
+-- ---- what is due
+
+-- a number of each of so many, as it is due of it
+pub record AreDue (due : ℕ → ℕ) (many : ℕ) (numbers : List ℕ) : Type 0 where
+  pub one_each : length numbers ≡ many
+  pub each : Each (λ k x. x ≡ due k) numbers
+
+-- the blocks of the processes, by their ranks
+abbrev pub blocks_of : Image → List ℕ
+blocks_of m = map (λ p. needed_block m p.rank) m.processes
 
 -- ---- lists
 
@@ -25,20 +31,20 @@ but_ceiling x = without_ceiling (monitor_of x)
 abbrev pub but_block : RawProcess → Process
 but_block p = without_block (process_of p)
 
--- the same processes, each with its rank in the image
-pub record AreRanked (m : Image) (before now : List RawProcess) : Type 0 where
+-- the same processes, each with its rank of these
+pub record HaveRanks (ranks : List ℕ) (before now : List RawProcess) : Type 0 where
   pub same : map but_rank now ≡ map but_rank before
-  pub ranks : Each (λ k p. p.rank ≡ rank_of m k) now
+  pub each : Each (λ k p. slice_get ranks k ≡ Some p.rank) now
 
--- the same monitors, each with its ceiling in the image
-pub record AreCeiled (m : Image) (before now : List RawMonitor) : Type 0 where
+-- the same monitors, each with its ceiling of these
+pub record HaveCeilings (ceilings : List ℕ) (before now : List RawMonitor) : Type 0 where
   pub same : map but_ceiling now ≡ map but_ceiling before
-  pub ceilings : Each (λ j x. x.ceiling ≡ ceiling_of m j) now
+  pub each : Each (λ j x. slice_get ceilings j ≡ Some x.ceiling) now
 
--- the same processes, each with the block of its rank in the image, and its deadline as its bound
-pub record AreBlocked (m : Image) (before now : List RawProcess) : Type 0 where
+-- the same processes, each with its block of these, and its deadline as its bound
+pub record HaveBlocks (blocks : List ℕ) (before now : List RawProcess) : Type 0 where
   pub same : map but_block now ≡ map but_block before
-  pub blocks : Each (λ k p. p.block ≡ needed_block m p.rank) now
+  pub each : Each (λ k p. slice_get blocks k ≡ Some p.block) now
   pub bounds : Each (λ k p. p.bound ≡ p.deadline) now
 
 -- ---- images

@@ -7,14 +7,12 @@
 //! declares.
 #![tactic(auto)]
 
-mod copies;
 mod least_bounds;
 mod processes;
 mod ranks;
 mod shown;
 mod with_bounds_filled;
 
-pub use copies::{Times, with_times};
 pub use least_bounds::bounds;
 pub use ranks::rank;
 pub use shown::table;

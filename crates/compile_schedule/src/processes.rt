@@ -1,81 +1,100 @@
-//! Processes and monitors with what is filled in of them.
+//! What is due of processes and monitors, and where it is filled in.
 
 ghost use Rattle.std.specs.Prelude.{◌≡◌, ◌≤◌, IfOk, length};
 ghost use Rattle.image.specs.Raw.{image_of};
-ghost use Rattle.compile_schedule.specs.Ranking.{AreBlocked, AreCeiled, AreRanked};
+ghost use Rattle.compile_schedule.specs.Ranking.{AreDue, HaveBlocks, HaveCeilings, HaveRanks, blocks_of};
 ghost use Rattle.loader.specs.Stays.{AreStays};
+ghost use Rattle.valid_image.specs.Times as defined;
 
-use crate::copies::{Times, with_times};
 use image::{RawImage, RawMonitor, RawProcess};
 use loader::{Stays, ceiling_of, needed_block, rank_of};
 use std::alloc::{AllocError, Global};
 use syntax_tree::List;
 
-/// The processes with their ranks; their blocks and bounds are 0.
-pub(crate) fn ranked(alloc: Global, image: &RawImage) -> Result<List<RawProcess>, AllocError>
+/// The ranks that are due of the processes.
+pub(crate) fn due_ranks(alloc: Global, image: &RawImage) -> Result<Vec<u16>, AllocError>
     requires { length image.now.processes ≤ 64 }
-    ensures { IfOk result (AreRanked (image_of image.now) image.now.processes) }
+    ensures { IfOk result (λ ranks. AreDue (defined.rank_of (image_of image.now))
+        (length image.now.processes) ranks.items) }
 {
-    let processes = image.processes.as_slice();
-    let mut all = List::new(alloc);
-    for number in 0..processes.len() {
+    let mut ranks = Vec::new(alloc);
+    for number in 0..image.processes.len() {
         let rank = rank_of(image, number);
-        let times = Times {
-            rank,
-            block: 0,
-            bound: 0,
-        };
-        let process = with_times(alloc, &processes[number], times)?;
-        all.push(process)?;
+        ranks.push(rank)?;
     }
-    Ok(all)
+    Ok(ranks)
 }
 
-/// The monitors with their ceilings.
-pub(crate) fn ceiled(
+/// The ceilings that are due of the monitors.
+pub(crate) fn due_ceilings(
     alloc: Global,
     image: &RawImage,
     stays: &Stays,
-) -> Result<List<RawMonitor>, AllocError>
+) -> Result<Vec<u16>, AllocError>
     requires few { length image.now.processes ≤ 64 }
     requires stays { AreStays (image_of image.now) stays.now }
-    ensures { IfOk result (AreCeiled (image_of image.now) image.now.monitors) }
+    ensures { IfOk result (λ ceilings. AreDue (defined.ceiling_of (image_of image.now))
+        (length image.now.monitors) ceilings.items) }
 {
-    let monitors = image.monitors.as_slice();
-    let mut all = List::new(alloc);
-    for number in 0..monitors.len() {
-        let monitor = &monitors[number];
+    let mut ceilings = Vec::new(alloc);
+    for number in 0..image.monitors.len() {
         let ceiling = ceiling_of(image, stays, number);
-        all.push(RawMonitor {
-            base: monitor.base,
-            words: monitor.words,
-            ceiling,
-        })?;
+        ceilings.push(ceiling)?;
     }
-    Ok(all)
+    Ok(ceilings)
 }
 
-/// The processes with their blocks; their bounds are their deadlines.
-pub(crate) fn blocked(
+/// The blocks of the processes, by their ranks.
+pub(crate) fn due_blocks(
     alloc: Global,
     image: &RawImage,
     stays: &Stays,
-) -> Result<List<RawProcess>, AllocError>
+) -> Result<Vec<u32>, AllocError>
     requires { AreStays (image_of image.now) stays.now }
-    ensures { IfOk result (AreBlocked (image_of image.now) image.now.processes) }
+    ensures { IfOk result (λ blocks. blocks.items ≡ blocks_of (image_of image.now)) }
 {
-    let processes = image.processes.as_slice();
-    let mut all = List::new(alloc);
-    for number in 0..processes.len() {
-        let process = &processes[number];
+    let mut blocks = Vec::new(alloc);
+    for process in image.processes.as_slice() {
         let block = needed_block(image, stays, process.rank);
-        let times = Times {
-            rank: process.rank,
-            block,
-            bound: process.deadline,
-        };
-        let timed = with_times(alloc, process, times)?;
-        all.push(timed)?;
+        blocks.push(block)?;
     }
-    Ok(all)
+    Ok(blocks)
+}
+
+/// The processes with these ranks.
+pub(crate) fn ranked(processes: List<RawProcess>, ranks: &[u16]) -> List<RawProcess>
+    requires { length ranks.now ≡ length processes }
+    ensures { HaveRanks ranks.now processes result }
+{
+    let mut processes = processes.into_vec();
+    for number in 0..processes.len() {
+        processes[number].rank = ranks[number];
+    }
+    List::from_vec(processes)
+}
+
+/// The monitors with these ceilings.
+pub(crate) fn ceiled(monitors: List<RawMonitor>, ceilings: &[u16]) -> List<RawMonitor>
+    requires { length ceilings.now ≡ length monitors }
+    ensures { HaveCeilings ceilings.now monitors result }
+{
+    let mut monitors = monitors.into_vec();
+    for number in 0..monitors.len() {
+        monitors[number].ceiling = ceilings[number];
+    }
+    List::from_vec(monitors)
+}
+
+/// The processes with these blocks; their bounds are their deadlines.
+pub(crate) fn blocked(processes: List<RawProcess>, blocks: &[u32]) -> List<RawProcess>
+    requires { length blocks.now ≡ length processes }
+    ensures { HaveBlocks blocks.now processes result }
+{
+    let mut processes = processes.into_vec();
+    for number in 0..processes.len() {
+        let process = &mut processes[number];
+        process.block = blocks[number];
+        process.bound = process.deadline;
+    }
+    List::from_vec(processes)
 }

@@ -8,7 +8,7 @@ ghost use Rattle.compile_schedule.specs.Ranking.{IsBlocked, IsRanked};
 ghost use Rattle.loader.specs.Stays.{AreStays};
 ghost use Rattle.code_measures.specs.Whole.{HasRanks};
 
-use crate::processes::{blocked, ceiled, ranked};
+use crate::processes::{blocked, ceiled, due_blocks, due_ceilings, due_ranks, ranked};
 use image::RawImage;
 use loader::{Stays, longest_stays};
 use std::alloc::{AllocError, Global};
@@ -19,16 +19,12 @@ fn with_ranks(alloc: Global, image: RawImage, stays: &Stays) -> Result<RawImage,
     requires stays { AreStays (image_of image) stays.now }
     ensures { IfOk result (IsRanked image) }
 {
-    let processes = ranked(alloc, &image)?;
-    let monitors = ceiled(alloc, &image, stays)?;
+    let ranks = due_ranks(alloc, &image)?;
+    let ceilings = due_ceilings(alloc, &image, stays)?;
     Ok(RawImage {
-        overhead: image.overhead,
-        program: image.program,
-        names: image.names,
-        monitors,
-        routines: image.routines,
-        processes,
-        code: image.code,
+        monitors: ceiled(image.monitors, &ceilings),
+        processes: ranked(image.processes, &ranks),
+        ..image
     })
 }
 
@@ -37,15 +33,10 @@ fn with_blocks(alloc: Global, image: RawImage, stays: &Stays) -> Result<RawImage
     requires { AreStays (image_of image) stays.now }
     ensures { IfOk result (IsBlocked image) }
 {
-    let processes = blocked(alloc, &image, stays)?;
+    let blocks = due_blocks(alloc, &image, stays)?;
     Ok(RawImage {
-        overhead: image.overhead,
-        program: image.program,
-        names: image.names,
-        monitors: image.monitors,
-        routines: image.routines,
-        processes,
-        code: image.code,
+        processes: blocked(image.processes, &blocks),
+        ..image
     })
 }
 

@@ -23,14 +23,15 @@ use Rattle.script.specs.Scripts.{IsScript}
 use Rattle.built_image.specs.Named.{names_of}
 use Rattle.built_valid_law.specs.Made.{BuiltImagesAreMade}
 use Rattle.built_image_law.specs.Limits.{BuiltImagesAreInLimits}
-use Rattle.built_image_law.specs.Suits.{Suits, ScriptsForTheNamesSuit}
+use Rattle.built_image_law.specs.Suits.{ScriptsAreInOrder, ScriptsForTheNamesSuit}
+use Rattle.vm_law.specs.Suits.{Suits}
 use Rattle.script.specs.Meaning.{said}
 use Rattle.command_due.specs.Script.{run_of}
 use Rattle.command_due.specs.Runs.{IsKept, IsFaithful, BuiltImagesAreFaithful}
 use Rattle.compiler_correct.specs.Made.{MadeImagesAreFaithful}
 
 module _ (ready : CheckedProgramsAreReady) (valid_law : CheckedImagesAreValid) (images : CheckedImagesAreImages) (run_law : CheckedProgramsRun)
-    (premises_law : ValidMeetsPremises) (safe_law : EveryValidImageIsSafeAndInTime) (suit_law : ScriptsForTheNamesSuit)
+    (premises_law : ValidMeetsPremises) (safe_law : EveryValidImageIsSafeAndInTime) (suit_law : ScriptsForTheNamesSuit) (order_law : ScriptsAreInOrder)
     (g : Prog Place) (n : NamedImage) (checked : IsChecked g) (names : n.names ≡ names_of (plain g)) (made : IsImageMade (plain g) n.image) (limits : HasLimits n.image) where
   is_valid : IsValid n.image
   is_valid = valid_law g n.image checked made
@@ -38,7 +39,7 @@ module _ (ready : CheckedProgramsAreReady) (valid_law : CheckedImagesAreValid) (
   premises : MeetsPremises n.image
   premises = premises_law n.image limits is_valid
 
-  suits : (text : List ℕ) (lines : List ScriptLine) (end : ℕ) → IsScript n.names text lines end → Suits n.image lines end
+  suits : (text : List ℕ) (lines : List ScriptLine) (end : ℕ) → IsScript n.names text lines end → Suits n.image (run_of lines end)
   suits text lines end script =
       suit_law (plain g) n.image text lines end (ready g checked).formed made.code
       (subst (λ (x : ImageNames). IsScript x text lines end) names script)
@@ -47,15 +48,15 @@ module _ (ready : CheckedProgramsAreReady) (valid_law : CheckedImagesAreValid) (
       → IsSourceRun (plain g) (said lines end) (events n.image (run_of lines end))
   runs text lines end script =
       let m : MeetsPremises n.image = premises in
-      let s : Suits n.image lines end = suits text lines end script in
+      let s : Suits n.image (run_of lines end) = suits text lines end script in
       let is : IsImageOf (whole m.e.image (plain g)) = subst (λ (x : Image). IsImageOf (whole x (plain g))) (sym m.of) (images g n.image checked made) in
       let frames : RespectsFrames m.e.image (run_of lines end) = subst (λ (x : Image). RespectsFrames x (run_of lines end)) (sym m.of) s.frames in
       subst (λ (x : Image). IsSourceRun (plain g) (said lines end) (events x (run_of lines end))) m.of
-      (run_law m.e m.ps g (said lines end) m.fits m.timed is checked s.order frames).0
+      (run_law m.e m.ps g (said lines end) m.fits m.timed is checked (order_law n.names text lines end script) frames).0
 
   keeps : (text : List ℕ) (lines : List ScriptLine) (end : ℕ) → IsScript n.names text lines end → IsKept n.image lines end
   keeps text lines end script =
-      let s : Suits n.image lines end = suits text lines end script in
+      let s : Suits n.image (run_of lines end) = suits text lines end script in
       let both = safe_law n.image limits is_valid in
       record { in_time = both.1 (run_of lines end) s.frames; safe = both.0 (run_of lines end) }
 
@@ -63,7 +64,7 @@ module _ (ready : CheckedProgramsAreReady) (valid_law : CheckedImagesAreValid) (
   is_faithful = record { valid = is_valid; runs = runs; keeps = keeps }
 
 pub made_images_are_faithful : CheckedProgramsAreReady → CheckedImagesAreValid → CheckedImagesAreImages → CheckedProgramsRun
-    → ValidMeetsPremises → EveryValidImageIsSafeAndInTime → ScriptsForTheNamesSuit → MadeImagesAreFaithful
+    → ValidMeetsPremises → EveryValidImageIsSafeAndInTime → ScriptsForTheNamesSuit → ScriptsAreInOrder → MadeImagesAreFaithful
 made_images_are_faithful = is_faithful
 
 pub built_images_are_faithful : CheckedProgramsAreReady → ProgramsThatKeepSizesAreSmall → BuiltImagesAreMade → BuiltImagesAreInLimits → MadeImagesAreFaithful → BuiltImagesAreFaithful

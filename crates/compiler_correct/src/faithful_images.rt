@@ -6,7 +6,7 @@ ghost use Rattle.command_due.specs.Runs.{BuiltImagesAreFaithful};
 use built_image_law::generated_within_limits::programs_that_keep_sizes_are_small;
 use built_image_law::number_limits::built_images_are_in_limits;
 use built_image_law::premises_of_laws::checked_programs_are_ready;
-use built_image_law::suitable_scripts::scripts_for_the_names_suit;
+use built_image_law::suitable_scripts::{scripts_are_in_order, scripts_for_the_names_suit};
 use built_tasks_law::image_of_program::checked_images_are_images;
 use built_valid_law::image_of_program::built_images_are_made;
 use built_valid_law::valid_image_law_of_checked::checked_images_are_valid;
@@ -24,6 +24,7 @@ pub fn made_images_are_faithful()
     valid_meets_premises();
     every_valid_image_is_safe_and_in_time();
     scripts_for_the_names_suit();
+    scripts_are_in_order();
 }
 
 /// The image that is built of a program that is written is faithful to it.

@@ -16,9 +16,12 @@ ghost use Rattle.message_program.specs.Late as message_of;
 
 use crate::judging::Subject;
 use crate::report;
-use command_answers::{Content, Dispatch, PreparedCall, PreparedRun, Status, judge_script, put};
+use command_answers::{
+    Content, PreparedCall, PreparedRun, RunnableImage, Status, judge_script, put,
+};
 use command_refusals::refuse_script;
-use edf_correct::edf_ready::edf_images_are_ready;
+use edf_correct::edf_ready::{edf_images_are_in_range, edf_images_are_ready};
+use image_bytes::ImageBytes;
 use message_program::demand_message;
 use script::Script;
 use std::alloc::{AllocError, Global};
@@ -61,15 +64,16 @@ fn run_image<'a>(
     ensures done { IfOk result (CanBeDone None) }
 {
     edf_images_are_ready();
+    edf_images_are_in_range();
     let text = report(alloc, &subject.image, subject.answer)?;
+    let image = ImageBytes::of(alloc, subject.image)?;
     Ok(PreparedCall {
         status: Status::Done,
         text,
         store: None,
         run: Some(PreparedRun {
-            image: subject.image,
+            image: RunnableImage::Deadlines(image),
             script,
-            dispatch: Dispatch::Deadlines,
         }),
     })
 }

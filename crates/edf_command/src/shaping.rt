@@ -74,8 +74,7 @@ fn with_deadlines(alloc: Global, program: &Program) -> Result<RawImage, ShapeFau
     tables_are_named();
     let image = with_ranks(alloc, program)?;
     let bounds = deadlines(alloc, image.processes.as_slice())?;
-    let bounded = with_bounds(alloc, image, &bounds)?;
-    Ok(bounded)
+    Ok(with_bounds(image, &bounds))
 }
 
 /// The image of the program of a text under earliest deadline first: without overhead, each bound

@@ -10,11 +10,12 @@ use Rattle.image.specs.declared.names.ImageNames.{ImageNames}
 use Rattle.built_tasks_law.specs.Images.{CheckedCodeIsAnImage}
 use Rattle.built_image_law.specs.Ready.{IsReady, CheckedProgramsAreReady}
 use Rattle.built_image_law.specs.Small.{GeneratedCodeIsCode}
-use Rattle.built_image_law.specs.Suits.{NamesHaveFrames, Suits, ScriptsForTheNamesSuit}
+use Rattle.built_image_law.specs.Suits.{ScriptsAreInOrder, ScriptsForTheNamesSuit}
 use Rattle.built_image.specs.Named.{names_of}
-use Rattle.vm_law.specs.ScriptSuits.{ScriptsSuit}
+use Rattle.vm_law.specs.Suits.{Suits}
 use Rattle.script.specs.Scripts.{IsScript}
 use Rattle.script.specs.Meaning.{said}
+use Rattle.command_due.specs.Script.{run_of}
 use Rattle.edf_semantics.proofs.Keeping.{every_run_is_safe, run_keeps_words}
 use Rattle.edf_semantics.specs.InTime.{MeetsDeadlines}
 use Rattle.edf_correct.specs.Premises.{MeetsPremises, WaitlessImagesMeetPremises}
@@ -45,12 +46,11 @@ edf_runs_are_right ready_law code_law image_law right_law premises_law deadlines
       run = runs_law m.e m.ps (plain g) script m.fits m.waitless is right ordered met.no_overrun;
     }
 
-pub edf_images_keep_their_word : CheckedProgramsAreReady → GeneratedCodeIsCode → NamesHaveFrames → ScriptsForTheNamesSuit → ScriptsSuit → EdfRunsAreRight → EdfImagesKeepTheirWord
-edf_images_keep_their_word ready_law code_law frames_law suit_law end_law runs_law text g n count written no_wait edf answer script lines end is_script =
+pub edf_images_keep_their_word : CheckedProgramsAreReady → GeneratedCodeIsCode → ScriptsForTheNamesSuit → ScriptsAreInOrder → EdfRunsAreRight → EdfImagesKeepTheirWord
+edf_images_keep_their_word ready_law code_law suit_law order_law runs_law text g n count written no_wait edf answer script lines end is_script =
     let checked = written.program.checked in
     let ready : IsReady (plain g) = ready_law g checked in
     let code : IsCodeOf (plain g) n.image = code_law g n.image checked written.fits edf.shaped.code in
     let for_names : IsScript (names_of (plain g)) script lines end = subst (λ (x : ImageNames). IsScript x script lines end) edf.names is_script in
-    let s : Suits n.image lines end = suit_law (plain g) n.image script lines end ready.formed code for_names in
-    let short = (end_law (names_of (plain g)) n.image script lines end (frames_law (plain g) n.image ready.formed code) for_names).end in
-    runs_law text g n count (said lines end) written no_wait edf answer s.order s.frames short
+    let s : Suits n.image (run_of lines end) = suit_law (plain g) n.image script lines end ready.formed code for_names in
+    runs_law text g n count (said lines end) written no_wait edf answer (order_law n.names script lines end is_script) s.frames s.end

@@ -1,24 +1,20 @@
 -- From a text without waits to the runs that the machine takes.
-use Rattle.std.proofs.Common.{◌≡◌, ◌≤◌, ◌<◌, ℕ, List, [], ◌∷◌, map, arith, refl, ap, sym, subst}
+use Rattle.std.proofs.Common.{◌≤◌, ◌<◌, ℕ, List, arith, sym, subst}
 use Rattle.std.specs.Prelude.{◌^◌, All}
 use Rattle.syntax_tree.specs.Placed.{plain}
 use Rattle.machine_semantics.specs.Image.{Image, Script}
 use Rattle.image.specs.declared.names.ImageNames.{ImageNames}
 use Rattle.sched_demand.specs.declared.tasks.DemandTask.{DemandTask}
-use Rattle.sched_timing.specs.Timed.{RespectsFrames}
-use Rattle.code_lifting.specs.Compiled as lifted
 use Rattle.event_log.specs.InRange.{AreIn}
 use Rattle.vm_law.specs.Logged.{AreNamesOf}
 use Rattle.vm_law.specs.Operands.{AreThere}
 use Rattle.vm_stretch.specs.StretchDue.{AreInOrder}
 use Rattle.script.specs.declared.script.ScriptLine.{ScriptLine}
-use Rattle.script.specs.declared.script.ScriptLine.TheVariants.{Set, Occur}
 use Rattle.script.specs.Scripts.{IsScript}
-use Rattle.vm_law.specs.ScriptSuits.{ScriptsSuit, script_with}
+use Rattle.vm_law.specs.ScriptSuits.{ScriptsSuit}
 use Rattle.vm_law.specs.Suits.{Suits}
-use Rattle.vm_releases.specs.Begin.{lines_of}
-use Rattle.script.specs.Meaning.{line_said}
 use Rattle.command_due.specs.Script.{run_of}
+use Rattle.built_image_law.proofs.Suiting.{same_run}
 use Rattle.edf_semantics.specs.Run.{events}
 use Rattle.edf_correct.specs.Deadlines.{EdfDeadlinesAreMet}
 use Rattle.edf_correct.specs.Premises.{MeetsPremises, WaitlessImagesMeetPremises}
@@ -27,16 +23,6 @@ use Rattle.edf_semantics.specs.Runs.{HasNoOverrun}
 use Rattle.edf_machine.specs.Runnable.{IsRunnable}
 use Rattle.edf_machine.specs.EdfRunnable.{FramesAreShort, WaitlessRunsAreRunnable, WaitlessRunsHaveLines}
 use Rattle.edf_correct.specs.Ready.{EdfImagesAreReady, EdfImagesHaveParts, HasParts, WaitlessTreesHaveNoWait}
-
--- ---- the run of a script is one to both
-
-same_lines : (lines : List ScriptLine) → map lifted.line_of (map line_said lines) ≡ lines_of lines
-same_lines [] = refl
-same_lines (Set tick dev value ∷ lines) = ap (λ ls. lifted.line_of (line_said (Set tick dev value)) ∷ ls) (same_lines lines)
-same_lines (Occur tick event ∷ lines) = ap (λ ls. lifted.line_of (line_said (Occur tick event)) ∷ ls) (same_lines lines)
-
-pub same_run : (lines : List ScriptLine) (end : ℕ) → run_of lines end ≡ script_with lines end
-same_run lines end = ap (λ ls. record { lines = ls; end_tick = end }) (same_lines lines)
 
 -- ---- the runs of an image that meets the premises
 
@@ -66,10 +52,8 @@ edf_images_are_ready waits_law premises_law parts_law deadlines_law suit_law run
 
   by : (script : List ℕ) (lines : List ScriptLine) (end : ℕ) → IsScript n.names script lines end → IsRunnable n.image (run_of lines end) × All (AreIn n.names) (events n.image (run_of lines end))
   by script lines end is =
-      let s : Suits n.image (script_with lines end) = suit_law n.names n.image script lines end parts.frames is in
-      let order : AreInOrder (run_of lines end).lines = subst (λ (x : Script). AreInOrder x.lines) (sym (same_run lines end)) s.order in
-      let frames : RespectsFrames n.image (run_of lines end) = subst (λ (x : Script). RespectsFrames n.image x) (sym (same_run lines end)) s.frames in
-      let calm : HasNoOverrun n.image (run_of lines end) = (deadlines_law text g n count (run_of lines end) written none edf answer frames s.end).no_overrun in (
-        runnable runnable_law n.image answer.tasks (run_of lines end) meets parts.short calm order s.end,
+      let s : Suits n.image (run_of lines end) = subst (Suits n.image) (sym (same_run lines end)) (suit_law n.names n.image script lines end parts.frames is) in
+      let calm : HasNoOverrun n.image (run_of lines end) = (deadlines_law text g n count (run_of lines end) written none edf answer s.frames s.end).no_overrun in (
+        runnable runnable_law n.image answer.tasks (run_of lines end) meets parts.short calm s.order s.end,
         lines_told lines_law n.names n.image answer.tasks (run_of lines end) meets parts.there parts.names s.end,
       )

@@ -4,7 +4,9 @@ use Rattle.syntax_tree.specs.declared.place.Place.{Place}
 use Rattle.syntax_tree.specs.Placed.{Prog, plain}
 use Rattle.sched_demand.specs.declared.tasks.DemandTask.{DemandTask}
 use Rattle.sched_demand.specs.declared.judging.Judgement.TheVariants as judgement
+use Rattle.image.specs.InRange.{IsInRange}
 use Rattle.image.specs.Named.{NamedImage}
+use Rattle.valid_image.specs.Valid.{HasLimits}
 use Rattle.vm_plan.specs.HasPlan.{HasPlan}
 use Rattle.vm_law.specs.Operands.{AreThere}
 use Rattle.vm_law.specs.Logged.{AreNamesOf}
@@ -40,6 +42,11 @@ pub record HasParts (n : NamedImage) : Type 0 where
 -- The law: so it is with the image of a program that is written, where it meets those premises.
 abbrev pub EdfImagesHaveParts : Type 0
 EdfImagesHaveParts = (text : List ℕ) (g : Prog Place) (n : NamedImage) (tasks : List DemandTask) → IsWritten text g → IsEdfImage (plain g) n → MeetsPremises n.image tasks → HasParts n
+
+-- The law: the image of a program that is written has its numbers in the ranges of their fields, and
+-- its counts fit theirs, so that it can be kept as its bytes.
+abbrev pub EdfImagesAreInRange : Type 0
+EdfImagesAreInRange = (text : List ℕ) (g : Prog Place) (n : NamedImage) → IsWritten text g → IsEdfImage (plain g) n → HasLimits n.image × IsInRange n
 
 -- The law: where a text is that of a program that keeps to all rules, is not too large and has no
 -- wait, and the test answers that the demand of its image is feasible, the image has a plan, the

@@ -10,10 +10,9 @@ ghost use Rattle.edf_correct.specs.EdfLaws.{CompiledRunsAreRuns, EdfImagesKeepTh
 use crate::edf_premises::{edf_deadlines_are_met, waitless_images_meet_premises};
 use built_image_law::generated_within_limits::generated_code_is_code;
 use built_image_law::premises_of_laws::checked_programs_are_ready;
-use built_image_law::suitable_scripts::{names_have_frames, scripts_for_the_names_suit};
+use built_image_law::suitable_scripts::{scripts_are_in_order, scripts_for_the_names_suit};
 use built_tasks_law::image_of_program::checked_code_is_an_image;
 use code_correct::runs_right_and_in_time::well_formed_code_is_right;
-use vm_law::suitable_scripts::scripts_suit;
 
 /// The events of a run of an image whose code is right are a run of the program in which any ready
 /// process may act.
@@ -41,8 +40,7 @@ pub fn edf_images_keep_their_word()
 {
     checked_programs_are_ready();
     generated_code_is_code();
-    names_have_frames();
     scripts_for_the_names_suit();
-    scripts_suit();
+    scripts_are_in_order();
     edf_runs_are_right();
 }

@@ -1,11 +1,7 @@
 pub mod Lists
 pub mod Marking
 pub mod Seeing
-pub mod Passing
-pub mod Rowing
-pub mod Stepping
-pub mod Cut
-pub mod Calm
+pub mod ByDeadlines
 pub mod Rest
 pub mod Runnable
 pub mod Lines

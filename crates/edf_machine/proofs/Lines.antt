@@ -1,23 +1,20 @@
 -- The events of a tick, and of a run, have lines.
-use Rattle.std.proofs.Common.{◌≡◌, ◌≤◌, ◌<◌, ◌+◌, ◌∙◌, ℕ, zero, suc, length, Option, Some, arith, ap, sym, subst}
-use Rattle.std.specs.Prelude.{All, slice_get}
+use Rattle.std.proofs.Common.{◌≡◌, ◌≤◌, ◌<◌, ◌+◌, ◌∙◌, ℕ, zero, suc, length, Option, arith, ap, sym, subst}
+use Rattle.std.specs.Prelude.{All}
 use Rattle.std.proofs.lemmas.List.Elements.{All-nil, All-append}
 use Rattle.image.specs.declared.names.ImageNames.{ImageNames}
 use Rattle.event_log.specs.InRange.{AreIn}
 use Rattle.machine_semantics.specs.Image.{Image, Script}
-use Rattle.machine_semantics.specs.State.{Job, Thread, Waiting, State}
+use Rattle.machine_semantics.specs.State.{Thread, State}
 use Rattle.machine_semantics.specs.Starts.{starts}
 use Rattle.machine_semantics.specs.Tick.{Candidate, run_picked}
 use Rattle.machine_semantics.specs.Queues.{AreQueued}
-use Rattle.machine_semantics.specs.Safe.{Parts, ImageFits}
-use Rattle.machine_semantics.specs.Walk.{Where}
 use Rattle.machine_semantics.specs.Whole.{StateFits}
 use Rattle.vm_law.specs.Operands.{AreThere}
 use Rattle.vm_law.specs.Logged.{AreNamesOf}
 use Rattle.vm_law.proofs.Starting.{WaitAt, starts_good}
 use Rattle.vm_law.proofs.Ticking.{first_below, ran_lines}
 use Rattle.edf_semantics.specs.Run.{Marked, candidate, chosen_at, events, events_from, state_at, tick}
-use Rattle.edf_semantics.specs.Safe.{IsWaitless}
 use Rattle.edf_semantics.specs.Runs.{IsAwake, IsNotWaiting, NobodyWaits, WaitlessRunsAreAwake}
 use Rattle.edf_machine.specs.EdfRunnable.{WaitlessRunsHaveLines}
 use Rattle.edf_machine.proofs.Runnable.{during_fits}

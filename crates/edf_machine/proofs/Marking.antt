@@ -72,14 +72,17 @@ one_begins image kepts ms k kept are at = record {
 
 -- ---- who is idle
 
--- it is noted of the processes below k
-pub record Noting (image : Image) (kepts : List Kept) (ms : List Mark) (threads : List Thread) (k : ℕ) : Type 0 where
-  pub marks : AreMarks image kepts ms
+-- it is noted of the processes below k, and no mark means another than before
+pub record Noting (start kepts : List Kept) (threads : List Thread) (k : ℕ) : Type 0 where
+  pub many : length kepts ≡ length start
+  pub marks : (image : Image) (ms : List Mark) → AreMarks image start ms → AreMarks image kepts ms
   pub noted : (j : ℕ) (th : Thread) (kept : Kept) → j < k → slice_get threads j ≡ Some th → slice_get kepts j ≡ Some kept → kept.idle ≡ is_idle th
 
-pub note_one : (image : Image) (kepts : List Kept) (ms : List Mark) (threads : List Thread) (k : ℕ) (kept new : Kept) (th : Thread) → Noting image kepts ms threads k → slice_get kepts k ≡ Some kept → slice_get threads k ≡ Some th → new ≡ record kept { idle = is_idle th } → Noting image (slice_set kepts k new) ms threads (k + 1)
-note_one image kepts ms threads k kept new th was at at_th is = record {
-  marks = one_set image kepts ms k kept new was.marks at (λ p m old. subst (λ (y : Kept). IsMark p y m) (sym is) (let new_is : IsMark p (record kept { idle = is_idle th }) m = record { deadline = old.deadline; due = old.due; begun = old.begun } in new_is));
+pub note_one : (start kepts : List Kept) (threads : List Thread) (k : ℕ) (kept new : Kept) (th : Thread) → Noting start kepts threads k → slice_get kepts k ≡ Some kept → slice_get threads k ≡ Some th → new ≡ record kept { idle = is_idle th } → Noting start (slice_set kepts k new) threads (k + 1)
+note_one start kepts threads k kept new th was at at_th is = record {
+  many = length-set kepts k new ∙ was.many;
+  marks = λ image ms are.
+      one_set image kepts ms k kept new (was.marks image ms are) at (λ p m old. subst (λ (y : Kept). IsMark p y m) (sym is) (let new_is : IsMark p (record kept { idle = is_idle th }) m = record { deadline = old.deadline; due = old.due; begun = old.begun } in new_is));
   noted = λ j other x below at_other at_x. elim (at_set kepts k new j x at_x) [
     | inl here ↦
         let both : Some th ≡ Some other = sym at_th ∙ ap (λ (i : ℕ). slice_get threads i) here.0 ∙ at_other in
@@ -89,8 +92,8 @@ note_one image kepts ms threads k kept new th was at at_th is = record {
   ];
 }
 
-pub noted_all : (image : Image) (kepts : List Kept) (ms : List Mark) (threads : List Thread) (k : ℕ) → Noting image kepts ms threads k → length kepts ≤ k → AreNoted threads kepts
-noted_all image kepts ms threads k was all j th kept at_th at = was.noted j th kept (let within = slice_get_within kepts j kept at in omega (arith, within, all)) at_th at
+pub noted_all : (start kepts : List Kept) (threads : List Thread) (k : ℕ) → Noting start kepts threads k → length kepts ≤ k → AreNoted threads kepts
+noted_all start kepts threads k was all j th kept at_th at = was.noted j th kept (let within = slice_get_within kepts j kept at in omega (arith, within, all)) at_th at
 
 -- ---- releases
 

@@ -1,11 +1,9 @@
 -- By the laws of safety and of waits.
-use Rattle.std.proofs.Common.{ℕ, Option, None, arith, subst}
-use Rattle.std.specs.Prelude.{◌^◌}
+use Rattle.std.proofs.Common.{ℕ, arith}
 use Rattle.std.proofs.lemmas.Option.{slice_get_within}
 use Rattle.base.proofs.Lists.{some_at}
-use Rattle.machine_isa.specs.declared.instr.Instr.{Instr}
 use Rattle.machine_semantics.specs.Image.{Script}
-use Rattle.machine_semantics.specs.State.{Job, Thread, Ready, State}
+use Rattle.machine_semantics.specs.State.{Ready}
 use Rattle.machine_semantics.specs.Walk.{Where}
 use Rattle.machine_semantics.specs.Safe.{Parts, ImageFits}
 use Rattle.machine_semantics.specs.Whole.{StateFits}
@@ -13,17 +11,11 @@ use Rattle.machine_safety.proofs.Starting.{starts_keep}
 use Rattle.edf_semantics.specs.Run.{state_at}
 use Rattle.edf_semantics.specs.Safe.{EveryRunIsSafe, IsWaitless}
 use Rattle.edf_semantics.proofs.Keeping.{kept}
-use Rattle.edf_semantics.specs.Runs.{IsNotWaiting, IsAwake, WaitlessRunsAreAwake}
-use Rattle.edf_semantics.specs.Runs as lifted
-use Rattle.edf_machine.specs.Runnable.{NobodyWaits}
+use Rattle.edf_semantics.specs.Runs.{WaitlessRunsAreAwake}
 use Rattle.edf_semantics.specs.Rows.{IsSafeRun}
 use Rattle.edf_semantics.specs.Turn.{begun}
 use Rattle.edf_machine.specs.EdfRunnable.{WaitlessRunsAreRunnable}
 use Rattle.vm_law.proofs.Valid.{in_stack}
-
--- the same in other words
-nobody : (s : State) → lifted.NobodyWaits s → NobodyWaits s
-nobody s calm k c d e job at = subst (λ (o : Option Thread). IsNotWaiting o) at (calm k)
 
 pub during_fits : (e : Where) (ps : ℕ → Parts) (script : Script) (fits : ImageFits e ps) (waitless : IsWaitless e ps) (u : ℕ) → StateFits e ps (begun e.image script u)
 during_fits e ps script fits waitless u = starts_keep e ps fits script u (state_at e.image script u).state (kept e ps fits waitless script u).fits
@@ -42,8 +34,6 @@ pub waitless_runs_are_runnable : EveryRunIsSafe → WaitlessRunsAreAwake → Wai
 waitless_runs_are_runnable safe awake e ps script fits waitless frames calm order short = record {
   safe = safe_run safe e ps script fits waitless;
   calm = calm;
-  awake = λ t. nobody (state_at e.image script t).state (awake e ps script t fits waitless).calm;
-  still_awake = λ t. nobody (begun e.image script t) (awake e ps script t fits waitless).calm_started;
   queued = λ t. (awake e ps script t fits waitless).queued;
   still_queued = λ t. (awake e ps script t fits waitless).queued_started;
   ranks = record {

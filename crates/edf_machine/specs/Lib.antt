@@ -1,7 +1,7 @@
 pub mod Marks
 pub mod Sights
 pub mod Runnable
-pub mod Turn
+pub mod ByDeadlines
 pub mod Standing
 pub mod Coming
 pub mod EdfRunnable

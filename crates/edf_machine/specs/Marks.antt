@@ -34,9 +34,3 @@ is_idle (Waiting condition due number job) = false
 -- code knows of each process whether it is idle in these threads
 abbrev pub AreNoted : List Thread → List Kept → Type 0
 AreNoted threads kepts = (k : ℕ) (th : Thread) (kept : Kept) → slice_get threads k ≡ Some th → slice_get kepts k ≡ Some kept → kept.idle ≡ is_idle th
-
--- the image, the marks of the meaning, and the threads before the start events of a tick
-pub record Marking : Type 0 where
-  pub image : Image
-  pub marks : List Mark
-  pub olds : List Thread

@@ -1,7 +1,6 @@
 -- The runs that the machine takes.
-use Rattle.std.specs.Prelude.{◌≡◌, ◌<◌, ◌^◌, ℕ, Some, slice_get}
+use Rattle.std.specs.Prelude.{◌<◌, ◌^◌, ℕ}
 use Rattle.machine_semantics.specs.Image.{Image, Script}
-use Rattle.machine_semantics.specs.State.{Job, State, Waiting}
 use Rattle.machine_semantics.specs.Queues.{AreQueued}
 use Rattle.vm_stretch.specs.StartLawsDue.{HasOwnRanks}
 use Rattle.vm_releases.specs.Begin.{NextFits}
@@ -11,18 +10,13 @@ use Rattle.edf_semantics.specs.Turn.{begun}
 use Rattle.edf_semantics.specs.Rows.{IsSafeRun}
 use Rattle.edf_semantics.specs.Runs.{HasNoOverrun}
 
-abbrev pub NobodyWaits : State → Type 0
-NobodyWaits s = (k c d e : ℕ) (job : Job) → slice_get s.threads k ≡ Some (Waiting c d e job) → ⊥
-
 -- what holds of the run of an image without waits whose demand is met, under a script that respects
 -- its frames
 pub record IsRunnable (image : Image) (script : Script) : Type 0 where
   -- no tick is stuck, and each process is within its stack
   pub safe : IsSafeRun image script
   pub calm : HasNoOverrun image script
-  -- before each tick and after its start events nobody waits, and the queues hold those who wait
-  pub awake : (t : ℕ) → NobodyWaits (state_at image script t).state
-  pub still_awake : (t : ℕ) → NobodyWaits (begun image script t)
+  -- before each tick and after its start events the queues hold those who wait
   pub queued : (t : ℕ) → AreQueued (state_at image script t).state
   pub still_queued : (t : ℕ) → AreQueued (begun image script t)
   pub ranks : HasOwnRanks image

@@ -1,10 +1,9 @@
 -- What is seen of the processes from one on, and what one more adds.
-use Rattle.std.specs.Prelude.{◌≡◌, ◌||◌, ℕ, true, false, not, List, Option, Some, None, if◌then◌else◌, map, slice_get}
+use Rattle.std.specs.Prelude.{◌≡◌, ◌||◌, ℕ, true, false, not, List, Option, Some, None, if◌then◌else◌}
 use Rattle.vm_state.specs.declared.threads.ControlBlock.{ControlBlock}
 use Rattle.vm_state.specs.Threads.{thread_of}
-use Rattle.machine_semantics.specs.Image.{Image, Monitor, Process}
+use Rattle.machine_semantics.specs.Image.{Image, Process}
 use Rattle.machine_semantics.specs.State.{Thread, Idle, Ready, Waiting}
-use Rattle.machine_semantics.specs.Tick.{ceiling}
 use Rattle.vm_state.specs.declared.decoded_image.DecodedImage.{DecodedImage}
 use Rattle.vm_state.specs.declared.decoded_image.DecodedProcess.{DecodedProcess as Planned}
 use Rattle.vm_state.specs.Plan.{IsOf, IsProcess}
@@ -44,10 +43,6 @@ looked image k p (Ready job) m s = record {
 }
 looked image k p Idle m s = s
 looked image k p (Waiting condition due number job) m s = s
-
--- the ceiling of the monitor; 0 where there is none
-abbrev pub IsCeiling : List ℕ → ℕ → ℕ → Type 0
-IsCeiling ceilings m c = (image : Image) → map (λ (x : Monitor). x.ceiling) image.monitors ≡ ceilings → c ≡ ceiling (slice_get image.monitors m)
 
 -- what was seen before, and what is seen once process k is looked at too
 abbrev pub Looks : DecodedImage → Planned → ControlBlock → Kept → ℕ → Candidates → Candidates → Type 0

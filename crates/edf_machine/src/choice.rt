@@ -1,20 +1,22 @@
 //! Which process runs.
 
-ghost use Rattle.std.specs.Prelude.{◌≡◌, false, map, true};
-ghost use Rattle.edf_semantics.specs.Choice.{choose, is_sooner, lesser, may_go, place_of, sooner_of, taken, with_inside};
+ghost use Rattle.std.specs.Prelude.{◌≡◌, List, false, map, true};
+ghost use Rattle.edf_semantics.specs.Choice.{Mark, choose, is_sooner, lesser, may_go, place_of};
+ghost use Rattle.edf_semantics.specs.Choice.{sooner_of, taken, with_inside};
 ghost use Rattle.machine_semantics.specs.Image.{Image, Monitor};
 ghost use Rattle.vm_state.specs.Board.{IsBoardOf, state_of};
 ghost use Rattle.vm_state.specs.Plan.{IsOf};
-ghost use Rattle.edf_machine.specs.Marks.{AreMarks, Marking};
-ghost use Rattle.edf_machine.specs.Sights.{IsCeiling, Looks, entry_of, entry_some};
+ghost use Rattle.edf_machine.specs.Marks.{AreMarks};
+ghost use Rattle.edf_machine.specs.Sights.{Looks, entry_of, entry_some};
 
 use crate::marks::DeadlineState;
 use vm_state::{ControlBlock, DecodedImage, DecodedProcess, MachineState, SchedulingState};
+use vm_turn::ceiling_of;
 
 /// A ready process: its number, the tick of its deadline, its rank, and whether its activation has
 /// had a tick.
 #[derive(Clone, Copy)]
-pub struct ReadyProcess {
+struct ReadyProcess {
     place: usize,
     due: u64,
     rank: u16,
@@ -24,7 +26,7 @@ pub struct ReadyProcess {
 /// What was seen of the processes that were looked at: the first of those that are ready, the first
 /// of those that have begun, and the least ceiling of a monitor that somebody is inside.
 #[derive(Clone, Copy)]
-pub struct Candidates {
+struct Candidates {
     first: Option<ReadyProcess>,
     begun: Option<ReadyProcess>,
     least: Option<u16>,
@@ -64,18 +66,6 @@ fn lesser(ceiling: u16, least: Option<u16>) -> Option<u16>
         }
         None => Some(ceiling),
     }
-}
-
-/// The ceiling of a monitor; 0 where there is none.
-#[inline(always)]
-fn ceiling_of(ceilings: &[u16], monitor: u16) -> u16
-    ensures { IsCeiling ceilings.now monitor result }
-{
-    let place = usize::from(monitor);
-    if place < ceilings.len() {
-        return ceilings[place];
-    }
-    0
 }
 
 /// The least ceiling, with that of the monitor that a process is inside.
@@ -163,12 +153,16 @@ fn taken(sight: Candidates) -> Option<usize>
 /// alike the one of the less rank, if its activation has had a tick, or no monitor is occupied, or
 /// its rank is below the least ceiling of those that are; else the first in this order whose
 /// activation has had a tick. `None` where there is none.
-pub fn choose(plan: &DecodedImage, board: &MachineState, marks: &[DeadlineState]) -> Option<usize>
-    ghost at: { Marking }
-    requires plan { IsOf at.image plan.now }
-    requires board { IsBoardOf at.image board.now }
-    requires marks { AreMarks at.image marks.now at.marks }
-    ensures { result ≡ choose at.image (state_of board.now).threads at.marks }
+pub(crate) fn choose(
+    plan: &DecodedImage,
+    board: &MachineState,
+    marks: &[DeadlineState],
+) -> Option<usize>
+    requires { (image : Image) × (known : List Mark) × IsOf image plan.now ×
+        IsBoardOf image board.now × AreMarks image marks.now known }
+    ensures { (image : Image) (known : List Mark) → IsOf image plan.now →
+        IsBoardOf image board.now → AreMarks image marks.now known →
+        result ≡ choose image (state_of board.now).threads known }
 {
     let mut sight = Candidates {
         first: None,

@@ -1,25 +1,16 @@
-//! The choice, the machine and its log, under deadlines.
+//! The dispatch under earliest deadline first, for the machine of `vm_runner`.
 //!
-//! A `DeadlineState` is what the choice knows of a process: when its activation is due, and whether it has
-//! had a tick (`specs/Marks.antt`). `choose` gives the process that the meaning chooses, by one
-//! look at each.
-//!
-//! `EdfMachine` stands in the run of an image under a script (`specs/Standing.antt`); `advance_row`
-//! does the start events of a tick and runs on up to the next tick at which something is due. It
-//! asks that no process waits (`specs/Runnable.antt`). `run` puts the log (`specs/Coming.antt`), or
-//! a front of it where a put failed. Nothing but `first_marks` and `EdfMachine::new` takes memory.
+//! `Deadlines` keeps of each process when its activation is due, and whether it has had a tick
+//! (`specs/Marks.antt`), and chooses the process that the meaning chooses, by one look at each. It
+//! says what the run is (`specs/ByDeadlines.antt`), and asks that no tick of it is stuck and no
+//! release finds its process unfinished (`specs/Runnable.antt`). Nothing but `Deadlines::new`
+//! and `machine_by_deadlines` takes memory.
 #![tactic(auto)]
 
 mod choice;
-mod machine;
+mod deadlines;
 mod marks;
 pub mod run_law;
 pub mod runnable_law;
-mod span;
-mod to_end;
-mod turn;
 
-pub use choice::choose;
-pub use machine::EdfMachine;
-pub use marks::{DeadlineState, first_marks, mark_begun, mark_releases, note_idle};
-pub use to_end::run;
+pub use deadlines::{Deadlines, machine_by_deadlines};

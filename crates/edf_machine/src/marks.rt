@@ -1,20 +1,20 @@
 //! What the choice knows of each process.
 
-ghost use Rattle.std.specs.Prelude.{◌≡◌, ◌<◌, ◌^◌, IfOk, length, map};
+ghost use Rattle.std.specs.Prelude.{◌≡◌, ◌<◌, ◌^◌, List, IfOk, length, map};
 ghost use Rattle.vm_state.specs.Threads.{thread_of};
 ghost use Rattle.edf_semantics.specs.Choice.{Mark as Known};
 ghost use Rattle.edf_semantics.specs.Run.{begin, mark_of, marks_of};
-ghost use Rattle.machine_semantics.specs.Image.{Process};
+ghost use Rattle.machine_semantics.specs.Image.{Image, Process};
 ghost use Rattle.machine_semantics.specs.State.{Thread};
 ghost use Rattle.vm_state.specs.Board.{state_of};
-ghost use Rattle.edf_machine.specs.Marks.{AreMarks, AreNoted, IsMark, Marking, first_kept, is_idle};
+ghost use Rattle.edf_machine.specs.Marks.{AreMarks, AreNoted, IsMark, first_kept, is_idle};
 
 use std::alloc::{AllocError, Global};
 use vm_state::{ControlBlock, MachineState, SchedulingState};
 
 /// What the choice knows of a process beside where it stands.
 #[derive(Clone, Copy)]
-pub struct DeadlineState {
+pub(crate) struct DeadlineState {
     /// The ticks from a release to its deadline.
     pub deadline: u32,
     /// The tick of the deadline of the activation.
@@ -27,7 +27,10 @@ pub struct DeadlineState {
 
 /// By process its mark before the first tick, of its deadline in ticks. An error says that memory
 /// is short.
-pub fn first_marks(alloc: Global, deadlines: &[u32]) -> Result<Vec<DeadlineState>, AllocError>
+pub(crate) fn first_marks(
+    alloc: Global,
+    deadlines: &[u32],
+) -> Result<Vec<DeadlineState>, AllocError>
     ensures { IfOk result (λ marks. marks.items ≡ map first_kept deadlines.now) }
 {
     let mut marks = Vec::with_capacity(alloc, deadlines.len())?;
@@ -50,11 +53,10 @@ fn note(mark: &mut DeadlineState, cell: &ControlBlock)
 }
 
 /// Notes which processes are idle, before the start events of a tick.
-pub fn note_idle(board: &MachineState, marks: &mut Vec<DeadlineState>)
-    ghost at: { Marking }
-    requires marks { AreMarks at.image marks.old.items at.marks }
-    requires cells { length board.now.cells.items ≡ length at.image.processes }
-    ensures marks { AreMarks at.image marks.new.items at.marks }
+pub(crate) fn note_idle(board: &MachineState, marks: &mut Vec<DeadlineState>)
+    requires { length board.now.cells.items ≡ length marks.old.items }
+    ensures marks { (image : Image) (known : List Known) →
+        AreMarks image marks.old.items known → AreMarks image marks.new.items known }
     ensures noted { AreNoted (state_of board.now).threads marks.new.items }
 {
     for place in 0..board.cells.len() {
@@ -76,15 +78,13 @@ fn release(mark: &mut DeadlineState, cell: &ControlBlock, tick: u64)
 }
 
 /// Marks the releases of a tick, after its start events.
-pub fn mark_releases(board: &MachineState, marks: &mut Vec<DeadlineState>, tick: u64)
-    ghost at: { Marking }
-    requires marks { AreMarks at.image marks.old.items at.marks }
-    requires noted { AreNoted at.olds marks.old.items }
-    requires olds { length at.olds ≡ length at.image.processes }
-    requires cells { length board.now.cells.items ≡ length at.image.processes }
+pub(crate) fn mark_releases(board: &MachineState, marks: &mut Vec<DeadlineState>, tick: u64)
+    requires cells { length board.now.cells.items ≡ length marks.old.items }
     requires tick { tick < 2 ^ 63 }
-    ensures { AreMarks at.image marks.new.items
-        (marks_of tick at.olds (state_of board.now).threads at.marks) }
+    ensures { (image : Image) (known : List Known) (before : List Thread) →
+        AreMarks image marks.old.items known → AreNoted before marks.old.items →
+        length before ≡ length image.processes → AreMarks image marks.new.items
+        (marks_of tick before (state_of board.now).threads known) }
 {
     for place in 0..board.cells.len() {
         release(&mut marks[place], &board.cells[place], tick);
@@ -92,11 +92,10 @@ pub fn mark_releases(board: &MachineState, marks: &mut Vec<DeadlineState>, tick:
 }
 
 /// Marks that the activation of a process has had a tick.
-pub fn mark_begun(marks: &mut Vec<DeadlineState>, place: usize)
-    ghost at: { Marking }
-    requires marks { AreMarks at.image marks.old.items at.marks }
-    requires place { place < length at.image.processes }
-    ensures { AreMarks at.image marks.new.items (begin place at.marks) }
+pub(crate) fn mark_begun(marks: &mut Vec<DeadlineState>, place: usize)
+    requires { place < length marks.old.items }
+    ensures { (image : Image) (known : List Known) →
+        AreMarks image marks.old.items known → AreMarks image marks.new.items (begin place known) }
 {
     marks[place].begun = true;
 }

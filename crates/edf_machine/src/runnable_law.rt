@@ -1,8 +1,8 @@
 //! Laws: the machine under earliest deadline first takes the runs of images without waits.
 //!
 //! `specs/EdfRunnable.antt` has them: a run of an image that fits its trees and waits nowhere, in which no
-//! release finds its process unfinished, is one that `EdfMachine` of `edf_machine` takes; and
-//! each event of such a run has a line in the log. Nothing here can run.
+//! release finds its process unfinished, is one that the machine takes by `Deadlines`; and each
+//! event of such a run has a line in the log. Nothing here can run.
 //!
 //! The laws, for every image and every script.
 

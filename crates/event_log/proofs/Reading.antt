@@ -1,9 +1,7 @@
 -- Lines of a text, one after another.
-use Rattle.std.proofs.Common.{◌≡◌, ◌≢◌, ◌≤◌, ◌<◌, ◌+◌, ◌^◌, ℕ, List, [], ◌∷◌, ◌++◌, length, codes, decimal, Option, Some, None, Bool, true, false, refl, sym, ap, subst, ◌∙◌, arith, append_assoc, length-append, All}
+use Rattle.std.proofs.Common.{◌≡◌, ◌≢◌, ◌≤◌, ◌<◌, ◌+◌, ◌^◌, ℕ, List, [], ◌∷◌, ◌++◌, length, codes, decimal, Option, Some, None, Bool, true, false, refl, sym, ap, subst, ◌∙◌, arith, append_assoc, All}
 use Rattle.std.specs.Fmt.{signed_decimal}
-use Rattle.std.specs.Prelude.{Result, Ok, Err, IfErr}
-use Rattle.event_log.specs.declared.fault.LogFault.{LogFault}
-use Rattle.event_log.specs.declared.fault.LogFault.TheVariants.{Long}
+use Rattle.std.specs.Prelude.{IfSome, is_some}
 use Rattle.std.proofs.lemmas.List.{append-nil}
 use Rattle.std.specs.Int.{IsInRange}
 use Rattle.base.specs.declared.event.Event.{Event}
@@ -15,7 +13,7 @@ use Rattle.text_fields.proofs.Numerals.{decimal_lacks, signed_lacks}
 use Rattle.image.specs.declared.names.ImageNames.{ImageNames}
 use Rattle.event_log.specs.InRange.{WokenIsIn}
 use Rattle.event_log.specs.Line.{line_of, log_of, condition_name, device_name, monitor_name, process_name, truth_text, woken_name}
-use Rattle.event_log.specs.Logs.{AreWordNames, IsTold, Tells, IsFaultyLine, IsLog, longest_text}
+use Rattle.event_log.specs.Logs.{AreWordNames, IsTold, Tells, IsFaultyLine, longest_text}
 use Rattle.event_log.specs.Parts.{act_words, args_text, spelled, spoken, verb_of, verb_text, ActIsTold}
 use Rattle.event_log.proofs.Names.{same_cut, word_at, device_word, condition_pair}
 use Rattle.event_log.proofs.Acts.{verb_feed}
@@ -104,20 +102,10 @@ pub read_none : (names : ImageNames) (text : List ℕ) → text ≡ log_of names
 unfolding log_of
 read_none names text = refl
 
-pub read_all : (names : ImageNames) (es : List Event) (text rest : List ℕ) → text ≡ log_of names es ++ rest → length rest ≡ 0 → text ≡ log_of names es
-read_all names es text [] e none = e ∙ append-nil (log_of names es)
-read_all names es text (b ∷ rest) e none = absurd (omega arith)
-
 pub read_more : (names : ImageNames) (es : List Event) (e : Event) (text rest line after : List ℕ) → text ≡ log_of names es ++ rest → IsCutAt 10 rest line after → Tells names line e → text ≡ log_of names (es ++ e ∷ []) ++ after
 read_more names es e text rest line after whole cut t =
     let here : rest ≡ line_of names e ++ after = cut.whole ∙ sym (append_assoc line (codes "\n") after) ∙ ap (λ l. l ++ after) t.text in
     whole ∙ ap (λ r. log_of names es ++ r) here ∙ sym (append_assoc (log_of names es) (line_of names e) after) ∙ ap (λ l. l ++ after) (sym (log_push names es e))
-
-pub less_more : (es : List Event) (e : Event) (text rest line after : List ℕ) → length es + length rest ≤ length text → IsCutAt 10 rest line after → length (es ++ e ∷ []) + length after ≤ length text
-less_more es e text rest line after few cut =
-    let r = ap length cut.whole ∙ length-append line (10 ∷ after) in
-    let s = length-append es (e ∷ []) in
-    omega (arith, r, s, few)
 
 pub faulty : (names : ImageNames) (text : List ℕ) (es : List Event) (rest : List ℕ) (line : ℕ) → length text ≤ longest_text → All (IsTold names) es → text ≡ log_of names es ++ rest → line ≡ length es + 1 → 0 < length rest → ((e : Event) (after : List ℕ) → IsTold names e → rest ≢ line_of names e ++ after) → IsFaultyLine names text line
 faulty names text es rest line short told whole is some none = record {
@@ -135,14 +123,7 @@ pub faulty_names : (names : ImageNames) (text : List ℕ) → length text ≤ lo
 faulty_names names text short some other =
     faulty names text [] text 1 short (λ k d below. absurd (omega arith)) (read_none names text) refl some (λ e after told same. other told.words)
 
-pub empty_log : (names : ImageNames) (text : List ℕ) (es : List Event) → length text ≡ 0 → es ≡ [] → IsLog names text es
-empty_log names text es none is = subst (IsLog names text) (sym is) (record {
-  short = omega arith;
-  told = λ k d below. absurd (omega arith);
-  whole = read_all names [] text text (read_none names text) none;
-})
-
--- what comes of a text that is not too long is no matter of a long one
-pub not_long : {X : Type 0} → (r : Result X LogFault) (text : List ℕ) → length text ≤ longest_text → IfErr r (λ fault. longest_text < length text → fault ≡ Long)
-not_long (Ok x) text short = tt
-not_long (Err fault) text short = λ long. absurd (omega arith)
+-- what holds of an event that there is
+pub of_some : (next : Option Event) (P : Event → Type 0) → is_some next ≡ true → IfSome next P → (e : Event) × P e
+of_some None P is holds = absurd cc
+of_some (Some e) P is holds = (e, holds)

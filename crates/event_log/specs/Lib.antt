@@ -4,3 +4,4 @@ pub mod Logs
 pub mod Parts
 pub mod Finding
 pub mod LogReading
+pub mod Reader

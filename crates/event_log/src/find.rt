@@ -1,22 +1,49 @@
 //! Numbers of what a line names.
 
-ghost use Rattle.std.specs.Prelude.{◌≡◌, ◌≢◌, ◌<◌, ℕ, length, IfSome, IfNone, IsTrue};
+ghost use Rattle.std.specs.Prelude.{◌≡◌, ◌≢◌, ◌<◌, ℕ, length, IfOk, IfSome, IfNone, IsTrue};
 ghost use Rattle.event_log.specs.Line.{condition_name, device_name, monitor_name, process_name};
-ghost use Rattle.event_log.specs.Finding.{AreFound};
+ghost use Rattle.event_log.specs.Logs.{AreFew};
+ghost use Rattle.event_log.specs.Finding.{AreConditionNames, AreFound};
 
-use crate::numbers::{NumbersByName, find};
+use crate::numbers::{NumbersByName, device_numbers, find, numbers_of};
 use base::{Act, Event};
 use image::ImageNames;
+use std::alloc::{AllocError, Global};
+use syntax_tree::{List, Name};
 use text_fields::is_same;
 
 /// Names, and their numbers by name. A condition's name stands behind that of its monitor.
 #[derive(Drop)]
 pub struct NameIndex<'a, 't> {
-    pub names: &'a ImageNames,
-    pub processes: NumbersByName<'a>,
-    pub monitors: NumbersByName<'a>,
-    pub conditions: NumbersByName<'t>,
-    pub devices: NumbersByName<'a>,
+    pub(crate) names: &'a ImageNames,
+    pub(crate) processes: NumbersByName<'a>,
+    pub(crate) monitors: NumbersByName<'a>,
+    pub(crate) conditions: NumbersByName<'t>,
+    pub(crate) devices: NumbersByName<'a>,
+}
+
+impl<'a, 't> NameIndex<'a, 't> {
+    /// The numbers of these names, of which those of the conditions stand behind those of their
+    /// monitors in a list of their own. There are at most 65,536 processes, monitors, conditions
+    /// and devices each. Want of memory is the only error.
+    pub fn new(
+        alloc: Global,
+        names: &'a ImageNames,
+        conditions: &'t List<Name>,
+    ) -> Result<NameIndex<'a, 't>, AllocError>
+        requires few { AreFew names.now }
+        requires conditions { AreConditionNames names.now conditions.now }
+        ensures found { IfOk result AreFound }
+        ensures names { IfOk result (λ index. index.names.now ≡ names.now) }
+    {
+        Ok(NameIndex {
+            names,
+            processes: numbers_of(alloc, names.processes.as_slice())?,
+            monitors: numbers_of(alloc, names.monitors.as_slice())?,
+            conditions: numbers_of(alloc, conditions.as_slice())?,
+            devices: device_numbers(alloc, names)?,
+        })
+    }
 }
 
 /// The number of the process of this name.

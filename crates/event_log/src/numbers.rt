@@ -1,10 +1,9 @@
 //! Numbers of names.
 
 ghost use Rattle.std.specs.Prelude.{◌≡◌, ◌≤◌, ◌<◌, ◌^◌, ◌++◌, ℕ, [], ◌∷◌, length, slice_get, unwrap_or, IfOk, OnOk};
-ghost use Rattle.event_log.specs.Line.{condition_name, device_name, monitor_name};
-ghost use Rattle.event_log.specs.Logs.{AreFew, AreWordNames};
+ghost use Rattle.event_log.specs.Line.{device_name, monitor_name};
 ghost use Rattle.image.specs.NameMaps.{number_in};
-ghost use Rattle.event_log.specs.Finding.{AreNumbers};
+ghost use Rattle.event_log.specs.Finding.{AreConditionNames, AreNumbers};
 
 use image::{ConditionName, ImageNames};
 use indexmap::IndexMap;
@@ -51,12 +50,14 @@ pub fn device_numbers<'a>(
     Ok(numbers)
 }
 
-/// The name of a monitor.
+/// The name of a monitor; nothing where there is none of this number.
 fn monitor_of(names: &ImageNames, number: u16) -> &[u8]
-    requires { number < length names.now.monitors }
     ensures { result.now ≡ monitor_name names.now number }
 {
-    names.monitors.as_slice()[number as usize].as_bytes()
+    match names.monitors.get(usize::from(number)) {
+        None => b"",
+        Some(name) => name.as_bytes(),
+    }
 }
 
 /// The name of a condition behind that of its monitor.
@@ -70,12 +71,9 @@ fn qualified_name(alloc: Global, monitor: &[u8], name: &[u8]) -> Result<Name, Al
     Name::new(alloc, text.as_slice())
 }
 
-/// The names of the conditions behind those of their monitors.
-pub fn qualified_names(alloc: Global, names: &ImageNames) -> Result<List<Name>, AllocError>
-    requires words { AreWordNames names.now }
-    ensures len { IfOk result (λ texts. length texts ≡ length names.now.conditions) }
-    ensures each { IfOk result (λ texts. (k : ℕ) → k < length names.now.conditions →
-        unwrap_or (slice_get texts k) [] ≡ condition_name names.now k) }
+/// The names of the conditions as lines tell them, behind those of their monitors.
+pub fn condition_names(alloc: Global, names: &ImageNames) -> Result<List<Name>, AllocError>
+    ensures { IfOk result (AreConditionNames names.now) }
 {
     let mut texts = List::new(alloc);
     for condition in names.conditions.as_slice() {

@@ -1,5 +1,5 @@
 -- The version of a file stands in its sixth byte.
-use Rattle.std.proofs.Common.{◌≡◌, ℕ, List, Option, Some, None, refl, sym, ap, ◌∙◌, arith}
+use Rattle.std.proofs.Common.{◌<◌, ◌≡◌, ℕ, suc, List, [], ◌∷◌, Option, Some, None, get_or, refl, sym, ap, ◌∙◌, arith}
 use Rattle.std.specs.Prelude.{slice_get}
 use Rattle.image_format.specs.FormatLaw.{AreBytes}
 use Rattle.image.specs.Bytes.{Version, First, Second, bytes_of}
@@ -27,3 +27,8 @@ of_version bytes First named are two =
 pub second_is : ImagesReadAreWritten → (bytes : List ℕ) (raw : RawImage) → AreBytes bytes → Holds bytes raw → slice_get bytes 5 ≡ Some 2 → bytes ≡ bytes_of Second (named_of raw)
 second_is law bytes raw are holds two =
     of_version bytes holds.version (named_of raw) (law bytes holds.version (parts_of raw) are holds.is_read ∙ ap (bytes_of holds.version) (sym holds.image)) two
+
+-- bytes are numbers below 256
+pub all_below : (bytes : List ℕ) → ((i : ℕ) → get_or bytes i 0 < 256) → AreBytes bytes
+all_below [] below = tt
+all_below (b ∷ bs) below = (below 0, all_below bs (λ i. below (suc i)))

@@ -1,9 +1,4 @@
 pub mod Shape
+pub mod Faults
 pub mod Answers
 pub mod ValidRead
-pub mod Admitted
-pub mod EdfAnswers
-pub mod EdfAdmit
-pub mod Runs
-pub mod Steps
-pub mod Ready

@@ -1,29 +1,66 @@
-//! Why bytes gave no shape, and numbers no valid image.
+//! Why bytes gave no image, and numbers no valid one.
 
-use thiserror::Error;
+use faulty_part::PartFault;
+use image::RawImage;
+use image_reader::ImageFault;
+use std::alloc::AllocError;
 
-/// Why bytes were refused. A fault prints as its number, and what it shows.
-#[derive(Clone, Copy, Debug, PartialEq, Eq, Error)]
-pub enum LoadFault {
-    /// The bytes are no image: the first fault, by its number from 1 to 9 and its place from 0.
-    #[error("I{number} {offset}")]
-    Image { number: u8, offset: u32 },
-    /// The bytes are an image's, of which a part of validity before bounds fails: the first one, by
-    /// its number, with its two numbers.
-    #[error("V{number} {a} {b}")]
-    Valid { number: u8, a: u64, b: u64 },
+/// Why numbers are no valid image.
+#[derive(Drop)]
+pub enum ValidFault {
+    /// The first test that these numbers fail, with the part of the image that it is of.
+    Invalid { raw: RawImage, fault: PartFault },
     /// There was not enough memory.
-    #[error("out of memory")]
     Memory,
 }
 
-/// Why numbers are no valid image. A fault prints as its number, and the two numbers that it shows.
-#[derive(Clone, Copy, Debug, PartialEq, Eq, Error)]
-pub enum ValidFault {
-    /// The first test that fails, by the part of validity, from 1 to 7, with its two numbers.
-    #[error("V{number} {a} {b}")]
-    Bad { number: u8, a: u64, b: u64 },
-    /// There was not enough memory for the tests.
-    #[error("out of memory")]
+impl From<AllocError> for ValidFault {
+    ghost use Rattle.std.specs.Prelude.{◌≡◌};
+    ghost use Rattle.image_loaded.specs.declared.fault.ValidFault.TheVariants as valid;
+
+    ghost from_gives = { λ _ made. made ≡ valid.Memory };
+
+    fn from(_: AllocError) -> ValidFault {
+        ValidFault::Memory
+    }
+}
+
+/// Why the bytes of a file gave no image that was asked for.
+#[derive(Drop)]
+pub enum FileFault {
+    /// They are no image: the first fault, by its number from 1 to 9 and its place from 0.
+    Image { number: u8, offset: u32 },
+    /// They are that of these numbers: the first test that they fail, with the part of the image
+    /// that it is of.
+    Invalid { raw: RawImage, fault: PartFault },
+    /// There was not enough memory.
     Memory,
+}
+
+impl From<ImageFault> for FileFault {
+    ghost use Rattle.std.specs.Prelude.{◌≡◌};
+    ghost use Rattle.image_loaded.specs.Faults.{of_bytes};
+
+    ghost from_gives = { λ fault made. made ≡ of_bytes fault };
+
+    fn from(fault: ImageFault) -> FileFault {
+        match fault {
+            ImageFault::Bad { number, offset } => FileFault::Image { number, offset },
+            ImageFault::Memory => FileFault::Memory,
+        }
+    }
+}
+
+impl From<ValidFault> for FileFault {
+    ghost use Rattle.std.specs.Prelude.{◌≡◌};
+    ghost use Rattle.image_loaded.specs.Faults.{of_numbers};
+
+    ghost from_gives = { λ fault made. made ≡ of_numbers fault };
+
+    fn from(fault: ValidFault) -> FileFault {
+        match fault {
+            ValidFault::Invalid { raw, fault } => FileFault::Invalid { raw, fault },
+            ValidFault::Memory => FileFault::Memory,
+        }
+    }
 }

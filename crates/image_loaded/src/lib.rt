@@ -1,42 +1,25 @@
-//! `Image`, the type of valid images, over the bytes of a file; those that may run under deadlines.
+//! `Image`, the type of valid images, over the bytes of a file; shapes, valid but for their bounds.
 //!
-//! A `Shape` is an image that is valid but for its bounds, with its numbers in the ranges of their
-//! fields; an `Image` is a shape whose bounds meet the recurrence within the deadlines. Both hold
-//! the bytes in version 2 and the places of their parts (`image_bytes`), and are seen as the image
-//! with its names.
+//! Both hold the bytes in version 2 and the places of their parts (`image_bytes`), and are seen as
+//! the image with its names. An `Image` is valid, and its bytes are a file of it (`IsImage` of
+//! `specs/Shape.antt`); every run of it is safe and in time (`Image::runs_are_safe`; `valid_read`
+//! has the law).
 //!
-//! `Shape::load` promises a shape exactly where bytes are a file of one, and tells each refusal by
-//! its first fault; `Image::of` refuses exactly by the bounds. Every run of an `Image` is safe and
-//! in time (`Image::runs_are_safe`; `valid_read` has the law).
+//! `Image::load` promises an image exactly where bytes are a file of a valid one, and tells each
+//! refusal by its first fault, first of the bytes, then of validity (`specs/Answers.antt`).
+//! `Image::verify` does the same of numbers, and `Image::of_valid` takes those that are known to be
+//! valid. The commands load by these, and run what was loaded.
 //!
-//! The commands load images by `load` of `command_images`; shapes are what may be admitted to run
-//! under deadlines.
-//!
-//! An `EdfImage` is a `Shape` without a WAIT instruction, whose dispatches take no ticks, and whose
-//! demand the test says is met. `EdfImage::admit` gives one exactly of such a shape
-//! (`specs/Admitted.antt`), and tells of each other what it lacks (`specs/EdfAnswers.antt`).
-//! `AdmittedRun::new` makes its run over a script ready, and takes all its memory;
-//! `AdmittedRun::run` puts just the log that `edf_semantics` gives (`specs/Ready.antt`).
+//! A `Shape` is what may be admitted to run under earliest deadline first (`edf_admission`).
+//! `Shape::load` refuses as `Image::load`, but for bounds.
 #![tactic(auto)]
 
-pub mod admission_law;
-mod asking;
-mod bounds;
-mod edf_fault;
-mod edf_image;
 mod fault;
-mod file;
-mod load_shape;
-mod run;
+mod reading;
 mod shape;
 mod valid_images;
 pub mod valid_read;
-mod waiting;
 
-pub use edf_fault::EdfFault;
-pub use edf_image::EdfImage;
-pub use fault::{LoadFault, ValidFault};
-pub use file::images_of_files_can_be_run;
-pub use run::AdmittedRun;
+pub use fault::{FileFault, ValidFault};
 pub use shape::Shape;
-pub use valid_images::{Image, verify};
+pub use valid_images::Image;

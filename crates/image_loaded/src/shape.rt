@@ -1,36 +1,34 @@
 //! Images that are valid but for their bounds.
 
-ghost use Rattle.std.specs.Prelude.{◌≡◌, ◌<◌, None, Some, IfOk, IfSome, length, slice_get};
+ghost use Rattle.std.specs.Prelude.{◌≡◌, ◌<◌, None, Some, IfSome, length, slice_get};
 ghost use Rattle.image.specs.Bytes.{Second, bytes_of};
 ghost use Rattle.image.specs.InRange.{IsInRange};
 ghost use Rattle.image.specs.Raw.{image_of, monitor_of, named_of};
 ghost use Rattle.image_bytes.specs.Standing.{process_in, routine_in};
-ghost use Rattle.image_loaded.specs.Answers.{Shapes};
+ghost use Rattle.image_loaded.specs.Answers.{LoadsShape, Shapes};
 ghost use Rattle.image_loaded.specs.Shape.{IsShape};
-ghost use Rattle.valid_image.specs.Tasks.{tasks_of};
 ghost use Rattle.loader.specs.Verified.{HasRanges, fault_before_bounds as first_before_bounds};
 
-use crate::fault::ValidFault;
+use crate::fault::{FileFault, ValidFault};
+use crate::reading::{kept, read, second};
 use image::{ImageNames, RawImage, RawMonitor};
 use image_bytes::{ImageBytes, ProcessRef, RoutineRef};
-use loader::{fault_before_bounds, task_set};
+use loader::fault_before_bounds;
 use machine_isa::Instr;
-use sched_response::TaskSet;
-use std::alloc::{AllocError, Global};
+use std::alloc::Global;
 use std::marker::Model;
+use validity_parts::part_fault;
 
-/// An image that is valid but for its bounds: the bytes of its file in version 2, with the places
-/// where its parts begin, and the set of its declared tasks.
+/// An image that is valid but for its bounds, kept as its bytes in version 2.
 #[derive(Drop)]
 pub struct Shape {
     image: ImageBytes,
-    tasks: TaskSet,
 }
 
 impl Model for Shape {
     ghost use Rattle.image.specs.Named.{NamedImage};
-    ghost use Rattle.image_loaded.specs.Shape.{IsKept};
     ghost use Rattle.image_format.specs.TreeCode.{coded_segs};
+    ghost use Rattle.image_loaded.specs.Shape.{IsShape};
     ghost use Rattle.std.specs.Coded.{codes};
 
     ghost Value = { NamedImage };
@@ -39,61 +37,55 @@ impl Model for Shape {
 
     ghost view = { λ s. s.image };
 
-    ghost invariant = { λ s. IsKept s.image s.tasks };
+    ghost invariant = { λ s. IsShape s.image };
 }
 
-/// The shape of an image of which no part before bounds has a fault. Its bytes are kept where they
-/// are there, and else are written.
-fn kept(alloc: Global, bytes: Option<Vec<u8>>, raw: RawImage) -> Result<Shape, AllocError>
+/// The fault of numbers of which a part before bounds has one.
+fn fault_of(alloc: Global, raw: RawImage) -> ValidFault
+    requires ranges { HasRanges raw }
+    requires before { first_before_bounds (image_of raw) ≡ None → ⊥ }
+    ensures { Shapes raw (Err result) }
+{
+    match part_fault(alloc, &raw) {
+        Ok(Some(fault)) => ValidFault::Invalid { raw, fault },
+        Ok(None) => unreachable!(),
+        Err(_) => ValidFault::Memory,
+    }
+}
+
+/// The shape of numbers of which no part before bounds has a fault. Its bytes are taken where they
+/// are there.
+fn shape_of(alloc: Global, bytes: Option<Vec<u8>>, raw: RawImage) -> Result<Shape, ValidFault>
     requires ranges { HasRanges raw }
     requires written { IsInRange (named_of raw) }
     requires bytes { IfSome bytes (λ own. own.items ≡ bytes_of Second (named_of raw)) }
-    requires shape { first_before_bounds (image_of raw) ≡ None }
-    ensures { IfOk result (λ shape. (shape ≡ named_of raw) × IsShape shape) }
+    ensures { Shapes raw result }
 {
-    let tasks = task_set(alloc, &raw)?;
-    let image = match bytes {
-        Some(bytes) => ImageBytes::keeping(alloc, bytes, raw)?,
-        None => ImageBytes::of(alloc, raw)?,
-    };
-    Ok(Shape { image, tasks })
-}
-
-/// The shape of an image, whose bytes in version 2 may be there.
-pub(crate) fn shape_of(
-    alloc: Global,
-    bytes: Option<Vec<u8>>,
-    raw: RawImage,
-) -> Result<Shape, ValidFault>
-    requires ranges { HasRanges raw }
-    requires written { IsInRange (named_of raw) }
-    requires bytes { IfSome bytes (λ own. own.items ≡ bytes_of Second (named_of raw)) }
-    ensures { Shapes (named_of raw) result }
-{
-    match fault_before_bounds(alloc, &raw) {
-        Ok(None) => match kept(alloc, bytes, raw) {
-            Ok(shape) => Ok(shape),
-            Err(_) => Err(ValidFault::Memory),
-        },
-        Ok(Some(found)) => Err(ValidFault::Bad {
-            number: found.number,
-            a: found.a,
-            b: found.b,
+    match fault_before_bounds(alloc, &raw)? {
+        None => Ok(Shape {
+            image: kept(alloc, bytes, raw)?,
         }),
-        Err(_) => Err(ValidFault::Memory),
+        Some(_) => Err(fault_of(alloc, raw)),
     }
 }
 
 impl Shape {
-    /// The shape of the image of these numbers, which have to be in the ranges of their fields, as
-    /// those of every image that `read_image` gives. Refused with the first part of validity before bounds that fails, in the
-    /// order of the parts 6, 1, 7, 2, 3, 4; or where memory is short.
-    pub fn of_raw(alloc: Global, raw: RawImage) -> Result<Shape, ValidFault>
-        requires ranges { HasRanges raw }
-        requires written { IsInRange (named_of raw) }
-        ensures { Shapes (named_of raw) result }
+    /// The shape of the image that the bytes of a file are, in either version.
+    ///
+    /// It keeps the bytes where they are in version 2, and else those that the image has in version
+    /// 2; while it tests, it takes some few times their memory.
+    ///
+    /// # Errors
+    ///
+    /// `Image` exactly where the bytes are no image, with their first fault; `Invalid` exactly
+    /// where a part of validity other than its bounds fails, with the first test that fails in the
+    /// order of the tests 6, 1, 7, 2, 3, 4. `Memory` where there is not enough memory.
+    pub fn load(alloc: Global, bytes: Vec<u8>) -> Result<Shape, FileFault>
+        ensures { LoadsShape bytes.items result }
     {
-        shape_of(alloc, None, raw)
+        let raw = read(alloc, bytes.as_slice())?;
+        let own = second(bytes, &raw);
+        Ok(shape_of(alloc, own, raw)?)
     }
 
     /// The image as it stands in its bytes.
@@ -101,6 +93,13 @@ impl Shape {
         ensures { result.now ≡ self.now }
     {
         &self.image
+    }
+
+    /// The image as it stands in its bytes, which are not copied.
+    pub fn into_image(self) -> ImageBytes
+        ensures { result ≡ self }
+    {
+        self.image
     }
 
     /// The bytes of its file, in version 2.
@@ -190,12 +189,5 @@ impl Shape {
         ensures { result ≡ length self.now.image.code }
     {
         self.image.code_len()
-    }
-
-    /// Its declared tasks, in the order of ranks.
-    pub(crate) fn tasks(&self) -> &TaskSet
-        ensures { result.now ≡ tasks_of self.now.image }
-    {
-        &self.tasks
     }
 }

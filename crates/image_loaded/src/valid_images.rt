@@ -1,68 +1,148 @@
 //! Valid images.
 
-ghost use Rattle.std.specs.Prelude.{◌≡◌};
+ghost use Rattle.std.specs.Prelude.{◌≡◌, IfOk, IfSome};
+ghost use Rattle.image.specs.Bytes.{Second, bytes_of};
 ghost use Rattle.image.specs.InRange.{IsInRange};
-ghost use Rattle.image.specs.Raw.{named_of};
+ghost use Rattle.image.specs.Raw.{image_of, named_of};
+ghost use Rattle.image_loaded.specs.Answers.{Loads, Verifies};
+ghost use Rattle.image_loaded.specs.Shape.{AreOfValid, IsImage};
+ghost use Rattle.image_reader.specs.Answer.{Holds};
+ghost use Rattle.loader.specs.Verified.{HasRanges};
 ghost use Rattle.machine_semantics.specs.Image.{Script};
-ghost use Rattle.image_loaded.specs.Answers.{Answers, Bounds};
 ghost use Rattle.sched_timing.specs.Timed.{IsInTime, RespectsFrames};
+ghost use Rattle.valid_image.specs.Valid.{IsValid};
 ghost use Rattle.valid_image_law.specs.ValidLaw.{IsSafe};
-ghost use Rattle.loader.specs.Verified.{HasRanges, IsVerified};
 
-use crate::bounds::bound_fault;
-use crate::fault::ValidFault;
-use crate::shape::Shape;
-use image::RawImage;
-use loader::part;
-use std::alloc::Global;
+use crate::fault::{FileFault, ValidFault};
+use crate::reading::{kept, read, second};
+use image::{ImageNames, RawImage};
+use image_bytes::ImageBytes;
+use image_reader_law::{images_read_are_in_their_ranges, images_read_can_be_written};
+use std::alloc::{AllocError, Global};
 use std::marker::Model;
 use valid_image_law::validity_law::every_valid_image_is_safe_and_in_time;
+use validity_parts::part_fault;
 
-/// A valid image, whoever made it.
+/// A valid image that files hold, whoever made it, kept as its bytes in version 2.
 #[derive(Drop)]
 pub struct Image {
-    shape: Shape,
+    image: ImageBytes,
 }
 
 impl Model for Image {
     ghost use Rattle.image.specs.Named.{NamedImage};
     ghost use Rattle.image_format.specs.TreeCode.{coded_segs};
-    ghost use Rattle.loader.specs.Verified.{IsVerified};
+    ghost use Rattle.image_loaded.specs.Shape.{IsImage};
     ghost use Rattle.std.specs.Coded.{codes};
 
     ghost Value = { NamedImage };
 
     ghost coded = { Prim.hlevel (codes, coded_segs) };
 
-    ghost view = { λ i. i.shape };
+    ghost view = { λ i. i.image };
 
-    ghost invariant = { λ i. IsVerified i.shape.image };
+    ghost invariant = { λ i. IsImage i.image };
+}
+
+/// The image of numbers that are valid. Its bytes are taken where they are there.
+fn valid(alloc: Global, bytes: Option<Vec<u8>>, raw: RawImage) -> Result<Image, AllocError>
+    requires ranges { HasRanges raw }
+    requires written { IsInRange (named_of raw) }
+    requires file { AreOfValid (bytes_of Second (named_of raw)) (named_of raw) }
+    requires bytes { IfSome bytes (λ own. own.items ≡ bytes_of Second (named_of raw)) }
+    ensures { IfOk result (λ image. image ≡ named_of raw) }
+{
+    let image = kept(alloc, bytes, raw)?;
+    Ok(Image { image })
+}
+
+/// The image of numbers, where they are valid. Its bytes are taken where they are there.
+fn verified(alloc: Global, bytes: Option<Vec<u8>>, raw: RawImage) -> Result<Image, ValidFault>
+    requires ranges { HasRanges raw }
+    requires written { IsInRange (named_of raw) }
+    requires again { IsValid (image_of raw) → Holds (bytes_of Second (named_of raw)) raw }
+    requires bytes { IfSome bytes (λ own. own.items ≡ bytes_of Second (named_of raw)) }
+    ensures { Verifies raw result }
+{
+    match part_fault(alloc, &raw)? {
+        None => Ok(valid(alloc, bytes, raw)?),
+        Some(fault) => Err(ValidFault::Invalid { raw, fault }),
+    }
 }
 
 impl Image {
-    /// The image of a shape whose bounds meet the recurrence and are within the deadlines. Refused
-    /// with part 5 and the two numbers of the first process whose bound does not: the bound, and
-    /// the demand within it, held at 1,000,000,001, or else the deadline. It takes no memory.
-    pub fn of(shape: Shape) -> Result<Image, ValidFault>
-        ensures { Bounds shape result }
+    /// The valid image that the bytes of a file are, in either version.
+    ///
+    /// It keeps the bytes where they are in version 2, and else those that the image has in version
+    /// 2; while it tests, it takes some few times their memory.
+    ///
+    /// # Errors
+    ///
+    /// `Image` exactly where the bytes are no image, with their first fault; `Invalid` exactly
+    /// where they are one that is not valid, with the first test that fails in the order of the
+    /// tests 6, 1, 7, 2, 3, 4, 5. `Memory` where there is not enough memory.
+    pub fn load(alloc: Global, bytes: Vec<u8>) -> Result<Image, FileFault>
+        ensures { Loads bytes.items result }
     {
-        shape.has_no_fault_before_bounds();
-        match bound_fault(&shape) {
-            None => Ok(Image { shape }),
-            Some(shown) => Err(ValidFault::Bad {
-                number: part::BOUNDS,
-                a: shown.a,
-                b: shown.b,
-            }),
-        }
+        let raw = read(alloc, bytes.as_slice())?;
+        let own = second(bytes, &raw);
+        Ok(verified(alloc, own, raw)?)
     }
 
-    /// The same image as a shape.
-    pub fn shape(&self) -> &Shape
-        ensures same { result.now ≡ self.now }
-        ensures verified { IsVerified self.now.image }
+    /// The valid image of these numbers, which their bytes in version 2 have to hold, as those do
+    /// of every image that a text tells.
+    ///
+    /// # Errors
+    ///
+    /// `Invalid` exactly where they are not valid, with the first test that fails in the order of
+    /// the tests 6, 1, 7, 2, 3, 4, 5. `Memory` where there is not enough memory.
+    pub fn verify(alloc: Global, raw: RawImage) -> Result<Image, ValidFault>
+        requires { Holds (bytes_of Second (named_of raw)) raw }
+        ensures { Verifies raw result }
     {
-        &self.shape
+        images_read_are_in_their_ranges();
+        images_read_can_be_written();
+        verified(alloc, None, raw)
+    }
+
+    /// The image of these numbers, which are known to be valid, as those of every program that is
+    /// in time. Nothing is tested; an error says that memory is short.
+    pub fn of_valid(alloc: Global, raw: RawImage) -> Result<Image, AllocError>
+        requires { AreOfValid (bytes_of Second (named_of raw)) (named_of raw) }
+        ensures { IfOk result (λ image. image ≡ named_of raw) }
+    {
+        images_read_are_in_their_ranges();
+        images_read_can_be_written();
+        valid(alloc, None, raw)
+    }
+
+    /// The image as it stands in its bytes.
+    pub fn image(&self) -> &ImageBytes
+        ensures { result.now ≡ self.now }
+    {
+        &self.image
+    }
+
+    /// The bytes of its file, in version 2.
+    pub fn bytes(&self) -> &[u8]
+        ensures { result.now ≡ bytes_of Second self.now }
+    {
+        self.image.bytes()
+    }
+
+    /// The names of its parts.
+    pub fn names(&self) -> &ImageNames
+        ensures { result.now ≡ self.now.names }
+    {
+        self.image.names()
+    }
+
+    /// It is valid, its numbers are in their ranges, and its bytes are a file of it. The call does
+    /// nothing.
+    pub fn is_valid(&self)
+        ensures { IsImage self.now }
+    {
+        let _image = &self.image;
     }
 
     /// Every run of a valid image is safe: it is never stuck, each process is within its stack and
@@ -74,19 +154,7 @@ impl Image {
         ensures in_time { (script : Script) → RespectsFrames self.now.image script →
             IsInTime self.now.image script }
     {
-        let _shape = &self.shape;
+        let _image = &self.image;
         every_valid_image_is_safe_and_in_time();
     }
-}
-
-/// The valid image of these numbers; else the first test of validity that fails, with its two
-/// numbers, in the order of the parts 6, 1, 7, 2, 3, 4, 5; or that memory is short, and then
-/// nothing is said of them. The numbers have to be in the ranges of their fields, as those of every
-/// image that `read_image` gives.
-pub fn verify(alloc: Global, raw: RawImage) -> Result<Image, ValidFault>
-    requires ranges { HasRanges raw }
-    requires written { IsInRange (named_of raw) }
-    ensures { Answers raw result }
-{
-    Image::of(Shape::of_raw(alloc, raw)?)
 }

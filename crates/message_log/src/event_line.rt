@@ -32,7 +32,7 @@ pub(crate) fn process_of(names: &ImageNames, number: usize) -> &[u8]
 }
 
 /// The name of a monitor.
-fn monitor_of(names: &ImageNames, number: usize) -> &[u8]
+pub(crate) fn monitor_of(names: &ImageNames, number: usize) -> &[u8]
     ensures { result.now ≡ monitor_name names.now number }
 {
     name_at(names.monitors.as_slice(), number)

@@ -1,34 +1,16 @@
 //! What the parts of an image are called.
 
-ghost use Rattle.std.specs.Prelude.{◌≡◌, ◌<◌, ◌++◌, [], OnOk, Some, length, map, slice_get, unwrap_or};
-ghost use Rattle.event_log.specs.Line.{monitor_name};
+ghost use Rattle.std.specs.Prelude.{◌≡◌, ◌<◌, ◌++◌, OnOk, Some, length, map, slice_get};
 ghost use Rattle.faulty_part.specs.Among.{number_among, share_owner as defined_share};
 ghost use Rattle.image.specs.Raw.{named_of, routine_of};
 ghost use Rattle.message_log.specs.Image.{called, monitor_called, owner_called, part_called, process_called, routine_called};
 
-use crate::event_line::process_of;
+use crate::event_line::{monitor_of, process_of};
 use faulty_part::FaultyPart;
 use image::{ImageNames, RawImage, RawRoutine};
 use message_text::{add_number, add_parts};
 use std::alloc::AllocError;
-use syntax_tree::{Name, Text};
-
-/// The name of this number, nothing where there is none.
-fn name_at(names: &[Name], number: usize) -> &[u8]
-    ensures { result.now ≡ unwrap_or (slice_get names.now number) [] }
-{
-    match names.get(number) {
-        None => b"",
-        Some(name) => name.as_bytes(),
-    }
-}
-
-/// The name of a monitor.
-fn monitor_of(names: &ImageNames, number: usize) -> &[u8]
-    ensures { result.now ≡ monitor_name names.now number }
-{
-    name_at(names.monitors.as_slice(), number)
-}
+use syntax_tree::Text;
 
 /// Puts a kind and a name.
 fn add_called(text: &mut Text, kind: &[u8], name: &[u8]) -> Result<(), AllocError>

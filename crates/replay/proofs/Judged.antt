@@ -23,7 +23,11 @@ use Rattle.command_answers.specs.Acts.{outcome_of}
 use Rattle.command_answers.specs.Acting.{puts}
 use Rattle.command_answers.proofs.Coming.{put_comes_to}
 use Rattle.message_log.specs.Log as message
+use Rattle.replay_reason_spec.proofs.Judging.{judged}
+use Rattle.replay_reason_spec.specs.Findings.{verdict_of}
+use Rattle.replay.specs.Judging.{IsFoundOf}
 use Rattle.replay.specs.Lines.{line_of, status_of}
+use Rattle.replay.specs.declared.logs.JudgedLog.{JudgedLog}
 
 -- what stands in the first branch
 first_branch : {A : Type 0} (x y : A) (is : Bool) → is ≡ true → x ≡ (if is then x else y)
@@ -43,11 +47,15 @@ module _ (g : Prog Place) (names : ImageNames) (same : names ≡ names_of (plain
   of_verdict log events (verdict_is.Refused line) act told stops is =
       is_refused events line (subst (λ (n : ImageNames). IsLog n log events) same told) stops (put_comes_to status.Log (refused_line line) act is)
 
-  pub judged_run : {E : Type 0} (events : List Event) (verdict : Verdict) (made : Result PreparedCall E) → ((log : List ℕ) → P log → IsLog names log events)
-      → Judges (plain g) (said lines end) (start (plain g)) events verdict → IfOk made (λ act. act ≡ puts (status_of verdict) (line_of verdict (length events)))
-      → IfOk made (λ act. (log : List ℕ) → P log → IsJudged g lines end log (outcome_of act))
-  judged_run events verdict (Ok act) told judges is = λ log p. of_verdict log events verdict act (told log p) judges is
-  judged_run events verdict (Err e) told judges is = tt
+  pub judged_run : {E : Type 0} (it : JudgedLog) (made : Result PreparedCall E) → ((log : List ℕ) → P log → IsFoundOf (plain g) (said lines end) (start (plain g)) names log it.finding it.count)
+      → IfOk made (λ act. act ≡ puts (status_of (verdict_of it.finding)) (line_of (verdict_of it.finding) it.count)) → IfOk made (λ act. (log : List ℕ) → P log → IsJudged g lines end log (outcome_of act))
+  judged_run it (Ok act) finds is = λ log p.
+      let verdict = verdict_of it.finding in
+      let found = finds log p in
+      let events = found.events in
+      of_verdict log events verdict act found.log (judged (plain g) (said lines end) (start (plain g)) events it.finding found.finds)
+      (subst (λ (count : ℕ). act ≡ puts (status_of verdict) (line_of verdict count)) found.many is)
+  judged_run it (Err e) finds is = tt
 
   pub judged_fault : {E : Type 0} (why : LogFault) (made : Result PreparedCall E) → ((log : List ℕ) → P log → (why ≡ log_fault.Memory) ⊎ IsFault names log why)
       → IfOk made (λ act. act ≡ puts status.Log (log_fault_line why)) → IfOk made (λ act. why ≢ log_fault.Memory)

@@ -1,5 +1,6 @@
 pub mod Parts
 pub mod Told
+pub mod Judging
 pub mod Held
 pub mod Scripted
 pub mod Lines

@@ -2,7 +2,6 @@
 
 ghost use Rattle.std.specs.Prelude.{◌≡◌, ◌≢◌, ◌<◌, ◌≤◌, ◌^◌, ℕ, List, IfOk, length};
 ghost use Rattle.command_answers.specs.Acts.{outcome_of};
-ghost use Rattle.command_due.specs.Source.{IsWritten};
 ghost use Rattle.command_answers.specs.Acting.{IsQuiet, puts};
 ghost use Rattle.command_answers.specs.Contents.{IsContent};
 ghost use Rattle.event_log.specs.Logs.{longest_text};
@@ -15,16 +14,12 @@ ghost use Rattle.command_refusals.specs.Refusals.{Explains};
 ghost use Rattle.command_refusals.specs.Told.{IsLogTold, IsMisreadTold};
 ghost use Rattle.message_log.specs.Log as message_of;
 ghost use Rattle.message_log.specs.Refused as refused_by;
-ghost use Rattle.script.specs.Meaning.{said};
-ghost use Rattle.source_semantics.specs.Config.{start};
-ghost use Rattle.replay_reason_spec.specs.Findings.{Finds, verdict_of};
+ghost use Rattle.replay_reason_spec.specs.Findings.{verdict_of};
 ghost use Rattle.replay.specs.Explained.{IsFindingTold};
-ghost use Rattle.syntax_tree.specs.Placed.{placed, plain};
+ghost use Rattle.syntax_tree.specs.Placed.{placed};
 
-use crate::logs::judge_log;
-use crate::replay;
+use crate::logs::{JudgedLog, judge_log};
 use crate::sources::Source;
-use base::Event;
 use command_answers::{Content, PreparedCall, Status, log_fault_line, put, refused_line, run_line};
 use event_log::LogFault;
 use image::ImageNames;
@@ -53,26 +48,25 @@ fn message_of_refused(
     }
 }
 
-/// The act that puts the verdict on a log of so many events, for these names. Where it is refused,
-/// the message takes the place of the given one.
+/// The act that puts the verdict on a log for these names, of which this is found. Where it is
+/// refused, the message takes the place of the given one.
 fn put_verdict<'a>(
     alloc: Global,
     message: &mut Text,
     file: &str,
     content: &Content,
     names: &ImageNames,
-    found: &Finding,
-    count: u64,
+    judged: &JudgedLog,
 ) -> Result<PreparedCall<'a>, AllocError>
-    ensures act { IfOk result (λ act. act ≡ puts (status_of (verdict_of found.now))
-        (line_of (verdict_of found.now) count)) }
+    ensures act { IfOk result (λ act. act ≡ puts (status_of (verdict_of judged.now.finding))
+        (line_of (verdict_of judged.now.finding) judged.now.count)) }
     ensures told { IfOk result (λ act. (log : List ℕ) → IsContent longest_text content.now log →
         length log ≤ longest_text →
-        Explains (IsFindingTold names.now file.now log found.now (outcome_of act) message.new)
-        act) }
+        Explains (IsFindingTold names.now file.now log judged.now.finding (outcome_of act)
+        message.new) act) }
 {
-    match found {
-        Finding::Run => Ok(put(Status::Done, run_line(alloc, count)?)),
+    match &judged.finding {
+        Finding::Run => Ok(put(Status::Done, run_line(alloc, u64::from(judged.count))?)),
         Finding::Refused { line, reason } => {
             *message = message_of_refused(alloc, file, content, names, *line, reason)?;
             Ok(put(Status::Log, refused_line(alloc, *line)?))
@@ -119,24 +113,6 @@ fn refuse_log<'a>(
     }
 }
 
-/// What is found of the events of a log, by a program that has no fault.
-fn finding_on(
-    alloc: Global,
-    source: &Source<'_>,
-    script: &Script,
-    events: &[Event],
-) -> Result<Finding, AllocError>
-    ghost text: { List ℕ }
-    requires written { IsWritten text (placed source.now.program) }
-    requires end { script.now.end < 2 ^ 61 }
-    requires few { length events.now < 4294967295 }
-    ensures { IfOk result (Finds (plain (placed source.now.program))
-        (said script.now.lines script.now.end) (start (plain (placed source.now.program)))
-        events.now) }
-{
-    replay(alloc, &source.program, script, events)
-}
-
 /// The act of `replay` for what the log's file holds, where program and script have no fault.
 pub fn log_act<'a>(
     alloc: Global,
@@ -156,12 +132,8 @@ pub fn log_act<'a>(
         Explains (IsLogTold (placed source.now.program) script.now.lines script.now.end file.now
         log (outcome_of act) message.new) act) }
 {
-    match judge_log(alloc, content, &source.names) {
-        Ok(events) => {
-            let found = finding_on(alloc, source, script, events.as_slice())?;
-            let count = events.len() as u64;
-            put_verdict(alloc, message, file, content, &source.names, &found, count)
-        }
+    match judge_log(alloc, source, script, content) {
+        Ok(judged) => put_verdict(alloc, message, file, content, &source.names, &judged),
         Err(fault) => refuse_log(alloc, message, file, content, &source.names, &fault),
     }
 }

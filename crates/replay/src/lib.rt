@@ -17,7 +17,6 @@ mod judge_events;
 mod judge_log;
 mod logs;
 mod names;
-mod nesting;
 mod order;
 mod preparing;
 mod processes;

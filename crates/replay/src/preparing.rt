@@ -1,12 +1,12 @@
 //! `replay`.
 
-ghost use Rattle.std.specs.Prelude.{◌∷◌, [], ◌≡◌, ◌<◌, ◌^◌, IfErr, IfOk, IsSomeAnd};
+ghost use Rattle.std.specs.Prelude.{◌∷◌, [], ◌<◌, ◌^◌, IfErr, IfOk, IsSomeAnd};
 ghost use Rattle.std.specs.Bool.{OnTrue};
 ghost use Rattle.command_answers.specs.Acts.{outcome_of};
 ghost use Rattle.command_answers.specs.Acting.{IsQuiet};
 ghost use Rattle.command_answers.specs.Prepared.{IsReadError, Prepares};
+ghost use Rattle.command_answers.specs.OnlyReads.{OnlyReads};
 ghost use Rattle.command_answers.specs.Tried.{HasTried, status_of};
-ghost use Rattle.outside.specs.Outside.{AllStay, NoneFell};
 ghost use Rattle.replay.specs.Held.{IsSource};
 ghost use Rattle.replay.specs.Scripted.{IsLaterError, IsReplayed};
 ghost use Rattle.command_due.specs.ReplayDue.{IsJudged};
@@ -46,13 +46,9 @@ fn log_on<'a, F: Files>(
     ensures quiet { IfOk result IsQuiet }
     ensures failed { IfErr result
         (IsReadError log.now (F.state files.old) (F.state files.new)) }
-    ensures files { AllStay (F.state files.old).held (F.state files.new).held }
-    ensures read_counts { NoneFell (F.state files.old).read_faults (F.state files.new).read_faults }
-    ensures write_counts { NoneFell (F.state files.old).write_faults
-        (F.state files.new).write_faults }
+    ensures only_reads { OnlyReads (F.state files.old) (F.state files.new) }
     ensures reads { HasTried (log.now ∷ []) (F.state files.old).reads
         (F.state files.new).reads (status_of result) }
-    ensures writes { (F.state files.new).writes ≡ (F.state files.old).writes }
     ensures told { IfOk result (λ act. OnTrue F.tells
         (IsSomeAnd ((F.state files.old).held log.now) (λ other. Explains
         (IsLogTold (placed source.now.program) script.now.lines script.now.end log.now other
@@ -66,7 +62,7 @@ fn log_on<'a, F: Files>(
 }
 
 /// The second third of `replay`: the script for a program, and the log where it is one.
-#[tactic(auto, using(command_answers::proofs::Trying::tried_first, command_answers::proofs::Trying::tried_on, command_answers::proofs::Trying::tried_alone))]
+#[tactic(auto, using(command_answers::proofs::Trying::tried_first, command_answers::proofs::Trying::tried_on, command_answers::proofs::Trying::tried_alone, command_answers::proofs::OnlyReads::reads_on))]
 fn script_on<'a, F: Files>(
     alloc: Global,
     message: &mut Text,
@@ -82,13 +78,9 @@ fn script_on<'a, F: Files>(
     ensures quiet { IfOk result IsQuiet }
     ensures failed { IfErr result (IsLaterError F.tells (placed source.now.program)
         (F.state files.old) (F.state files.new) script.now log.now) }
-    ensures files { AllStay (F.state files.old).held (F.state files.new).held }
-    ensures read_counts { NoneFell (F.state files.old).read_faults (F.state files.new).read_faults }
-    ensures write_counts { NoneFell (F.state files.old).write_faults
-        (F.state files.new).write_faults }
+    ensures only_reads { OnlyReads (F.state files.old) (F.state files.new) }
     ensures reads { HasTried (script.now ∷ log.now ∷ []) (F.state files.old).reads
         (F.state files.new).reads (status_of result) }
-    ensures writes { (F.state files.new).writes ≡ (F.state files.old).writes }
     ensures told { IfOk result (λ act. OnTrue F.tells (Explains (IsScriptOrLogTold
         (placed source.now.program) script.now log.now ((F.state files.old).held script.now)
         ((F.state files.old).held log.now) (outcome_of act) message.new) act)) }
@@ -105,7 +97,7 @@ fn script_on<'a, F: Files>(
 
 /// `replay`: the program is read and judged, the script only where the program has no fault, and
 /// the log only where the script has none.
-#[tactic(auto, using(command_answers::proofs::Held::first_unread, command_answers::proofs::Trying::tried_first, command_answers::proofs::Trying::tried_on, command_answers::proofs::Trying::tried_alone))]
+#[tactic(auto, using(command_answers::proofs::Held::first_unread, command_answers::proofs::Trying::tried_first, command_answers::proofs::Trying::tried_on, command_answers::proofs::Trying::tried_alone, command_answers::proofs::OnlyReads::reads_on))]
 pub fn prepare_replay<'a, F: Files>(
     alloc: Global,
     message: &mut Text,
@@ -116,13 +108,9 @@ pub fn prepare_replay<'a, F: Files>(
 ) -> Result<PreparedCall<'a>, PrepareError<'a>>
     ensures prepared { Prepares F.tells (call.replay program.now script.now log.now)
         (F.state files.old) (F.state files.new) result }
-    ensures files { AllStay (F.state files.old).held (F.state files.new).held }
-    ensures read_counts { NoneFell (F.state files.old).read_faults (F.state files.new).read_faults }
-    ensures write_counts { NoneFell (F.state files.old).write_faults
-        (F.state files.new).write_faults }
+    ensures only_reads { OnlyReads (F.state files.old) (F.state files.new) }
     ensures reads { HasTried (program.now ∷ script.now ∷ log.now ∷ []) (F.state files.old).reads
         (F.state files.new).reads (status_of result) }
-    ensures writes { (F.state files.new).writes ≡ (F.state files.old).writes }
     ensures told { IfOk result (IsExplained F.tells (call.replay program.now script.now log.now)
         (F.state files.old).held message.new) }
 {

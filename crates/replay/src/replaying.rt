@@ -1,6 +1,6 @@
 //! Replaying.
 
-ghost use Rattle.std.specs.Prelude.{◌<◌, ◌≤◌, ◌^◌, ℕ, List, IfOk, length};
+ghost use Rattle.std.specs.Prelude.{◌<◌, ◌≤◌, ◌^◌, ℕ, List, [], IfErr, IfOk};
 ghost use Rattle.source_semantics.specs.Names.{routine_count};
 ghost use Rattle.replay_state.specs.Tables.{AreRanksOf};
 ghost use Rattle.script.specs.Meaning.{said};
@@ -8,69 +8,71 @@ ghost use Rattle.command_due.specs.Source.{IsWritten};
 ghost use Rattle.replay_due_events.specs.NextDue.{FramesPass};
 ghost use Rattle.source_semantics.specs.Config.{start as start_of};
 ghost use Rattle.syntax_tree.specs.Placed.{placed, plain};
-ghost use Rattle.replay_reason_spec.specs.Findings.{Finds};
+ghost use Rattle.event_log.specs.Reader.{HasRead, IsReader, names_of};
+ghost use Rattle.replay.specs.Judging.{IsFaultOf, IsFoundOf};
 
 use crate::frames_pass_law::frames_pass;
-use crate::nesting::levels;
 use crate::{judge, ranks_of, start};
-use base::Event;
 use built_image_law::premises_of_laws::checked_programs_are_ready;
+use event_log::{LogFault, LogReader};
+use replay_calls::NumberedConditions;
 use replay_reason_spec::Finding;
 use replay_state::Ranks;
 use script::Script;
 use static_declarations::Declarations;
 use static_semantics::Checked;
-use std::alloc::{AllocError, Global};
+use std::alloc::Global;
 
-/// The most levels of statements and expressions for which calls are followed: each takes some of
-/// the stack.
-const MOST_LEVELS: u64 = 3_000;
-
-/// What is found of events, by the declarations of their program and by its ranks and ceilings.
+/// What is found of a log of which no line is read yet, by the declarations of its program and by
+/// its ranks and ceilings.
 fn judged<'a, 'b: 'a>(
     alloc: Global,
     declarations: &'a Declarations<'b>,
     ranks: Ranks,
     script: &Script,
-    events: &[Event],
-) -> Result<Finding, AllocError>
+    reader: &mut LogReader<'_>,
+) -> Result<Finding, LogFault>
     requires ranks { AreRanksOf (plain (placed declarations.now)) ranks }
     requires frames { FramesPass (plain (placed declarations.now)) }
     requires routines { routine_count (plain (placed declarations.now)) ≤ 512 }
     requires end { script.now.end < 2 ^ 61 }
-    requires few { length events.now < 4294967295 }
-    ensures { IfOk result (Finds (plain (placed declarations.now))
-        (said script.now.lines script.now.end) (start_of (plain (placed declarations.now)))
-        events.now) }
+    requires reader { IsReader reader.old }
+    ensures found { IfOk result (λ found. (log : List ℕ) → HasRead log [] reader.old →
+        IsFoundOf (plain (placed declarations.now)) (said script.now.lines script.now.end)
+        (start_of (plain (placed declarations.now))) (names_of reader.old) log found
+        reader.new.lines) }
+    ensures fault { IfErr result (λ why. (log : List ℕ) → HasRead log [] reader.old →
+        IsFaultOf (names_of reader.old) log why) }
 {
-    let mut running = start(alloc, declarations, ranks)?;
-    judge(&mut running, script, events)
+    let conditions = NumberedConditions::new(alloc, declarations)?;
+    let mut running = start(alloc, &conditions, ranks)?;
+    judge(&mut running, script, reader)
 }
 
-/// Whether the events are a run, over the script, of the program of a text, which keeps to all
-/// rules and is not too large; else the first line that is refused, the first line being 1, and
-/// why. Want of memory is the only error; it is told too where the texts of the program have more
-/// than 3,000 levels of statements and expressions together, for which the stack may be too small.
+/// Whether the log of which no line is read yet is that of a run, over the script, of the program
+/// of a text, which keeps to all rules and is not too large; else the first line that is refused,
+/// the first line being 1, and why. A fault of the log's text and want of memory are the only
+/// errors.
 pub fn replay(
     alloc: Global,
     program: &Checked,
     script: &Script,
-    events: &[Event],
-) -> Result<Finding, AllocError>
+    reader: &mut LogReader<'_>,
+) -> Result<Finding, LogFault>
     ghost text: { List ℕ }
     requires written { IsWritten text (placed program.now) }
     requires end { script.now.end < 2 ^ 61 }
-    requires few { length events.now < 4294967295 }
-    ensures { IfOk result (Finds (plain (placed program.now))
-        (said script.now.lines script.now.end) (start_of (plain (placed program.now)))
-        events.now) }
+    requires reader { IsReader reader.old }
+    ensures found { IfOk result (λ found. (log : List ℕ) → HasRead log [] reader.old →
+        IsFoundOf (plain (placed program.now)) (said script.now.lines script.now.end)
+        (start_of (plain (placed program.now))) (names_of reader.old) log found
+        reader.new.lines) }
+    ensures fault { IfErr result (λ why. (log : List ℕ) → HasRead log [] reader.old →
+        IsFaultOf (names_of reader.old) log why) }
 {
     checked_programs_are_ready();
     frames_pass();
-    if levels(program.prog()) > MOST_LEVELS {
-        return Err(AllocError);
-    }
     let declarations = Declarations::new(alloc, program.named())?;
     let ranks = ranks_of(alloc, program)?;
-    judged(alloc, &declarations, ranks, script, events)
+    judged(alloc, &declarations, ranks, script, reader)
 }

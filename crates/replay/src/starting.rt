@@ -12,8 +12,8 @@ ghost use Rattle.replay_accept.specs.Running.{Stands, program_of};
 use crate::configuration::first_config;
 use crate::tables::rules_of;
 use replay_accept::Running;
+use replay_calls::NumberedConditions;
 use replay_state::Ranks;
-use static_declarations::Declarations;
 use std::alloc::{AllocError, Global};
 
 /// A program before its first event: its tables, and the configuration in which all processes are
@@ -21,18 +21,18 @@ use std::alloc::{AllocError, Global};
 /// is wanting.
 pub fn start<'a>(
     alloc: Global,
-    declarations: &'a Declarations<'a>,
+    conditions: &'a NumberedConditions<'a>,
     ranks: Ranks,
 ) -> Result<Running<'a>, AllocError>
-    requires ranks { AreRanksOf (plain (placed declarations.now)) ranks }
-    requires frames { FramesPass (plain (placed declarations.now)) }
-    requires few { routine_count (plain (placed declarations.now)) ≤ 512 }
+    requires ranks { AreRanksOf (plain (placed conditions.now)) ranks }
+    requires frames { FramesPass (plain (placed conditions.now)) }
+    requires few { routine_count (plain (placed conditions.now)) ≤ 512 }
     ensures stands { IfOk result Stands }
-    ensures program { IfOk result (λ r. program_of r.rules ≡ plain (placed declarations.now)) }
+    ensures program { IfOk result (λ r. program_of r.rules ≡ plain (placed conditions.now)) }
     ensures start { IfOk result (λ r. config_of r.config ≡
-        at_start (plain (placed declarations.now))) }
+        at_start (plain (placed conditions.now))) }
 {
-    let rules = rules_of(alloc, declarations, ranks)?;
+    let rules = rules_of(alloc, conditions, ranks)?;
     let config = first_config(alloc, &rules.text)?;
     Ok(Running {
         rules,

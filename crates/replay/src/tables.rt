@@ -13,6 +13,7 @@ use crate::order::rank_order;
 use crate::processes::process_list;
 use crate::timings::process_timings;
 use replay_accept::Rules;
+use replay_calls::NumberedConditions;
 use replay_due_events::Timetable;
 use replay_next::routine_count;
 use replay_state::{ProgramContext, Ranks};
@@ -25,8 +26,7 @@ fn text_of<'a>(
     declarations: &'a Declarations<'a>,
 ) -> Result<ProgramContext<'a>, AllocError>
     ensures text { IfOk result IsText }
-    ensures program { IfOk result (λ t. plain (placed t.declarations.now) ≡
-        plain (placed declarations.now)) }
+    ensures program { IfOk result (λ t. t.declarations.now ≡ declarations.now) }
 {
     let processes = process_list(alloc, declarations.program().decls.as_slice())?;
     Ok(ProgramContext {
@@ -54,20 +54,22 @@ fn timetable_of(
 /// What the events of a program are judged by. Want of memory is the only error.
 pub fn rules_of<'a>(
     alloc: Global,
-    declarations: &'a Declarations<'a>,
+    conditions: &'a NumberedConditions<'a>,
     ranks: Ranks,
 ) -> Result<Rules<'a>, AllocError>
-    requires ranks { AreRanksOf (plain (placed declarations.now)) ranks }
-    requires frames { FramesPass (plain (placed declarations.now)) }
-    requires few { routine_count_of (plain (placed declarations.now)) ≤ 512 }
+    requires ranks { AreRanksOf (plain (placed conditions.now)) ranks }
+    requires frames { FramesPass (plain (placed conditions.now)) }
+    requires few { routine_count_of (plain (placed conditions.now)) ≤ 512 }
     ensures rules { IfOk result AreRules }
-    ensures program { IfOk result (λ r. program_of r ≡ plain (placed declarations.now)) }
+    ensures program { IfOk result (λ r. program_of r ≡ plain (placed conditions.now)) }
 {
+    let declarations = conditions.declarations();
     let routines = routine_count(declarations);
     let text = text_of(alloc, declarations)?;
     let table = timetable_of(alloc, &text, &ranks)?;
     Ok(Rules {
         text,
+        conditions,
         table,
         ranks,
         routines,

@@ -20,10 +20,11 @@ use Rattle.replay_accept.specs.declared.running.Running.{Running}
 abbrev pub program_of : Rules → Program
 program_of r = plain (placed r.text.declarations.now)
 
--- texts, timings, ranks and ceilings are those of the program, it has so many routines, and no
--- frame is 0
+-- texts, conditions, timings, ranks and ceilings are those of the program, it has so many routines,
+-- and no frame is 0
 pub record AreRules (r : Rules) : Type 0 where
   pub text : IsText r.text
+  pub conditions : r.conditions.now ≡ r.text.declarations.now
   pub table : IsTimetableOf (program_of r) r.table
   pub ranks : AreRanksOf (program_of r) r.ranks
   pub routines : r.routines ≡ routine_count (program_of r)

@@ -84,6 +84,7 @@ pub fn next_of_process<'a>(
             Some(job) => {
                 let scope = EvalContext {
                     declarations: text.declarations,
+                    conditions: rules.conditions,
                     process: its,
                     alloc: text.alloc,
                 };

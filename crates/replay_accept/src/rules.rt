@@ -11,15 +11,17 @@ ghost use Rattle.replay_due_events.specs.NextDue.{FramesPass};
 ghost use Rattle.replay_due_events.specs.Timings.{IsTimetableOf, event_of, first_in};
 ghost use Rattle.replay_script.specs.Cursors.{IsAt, IsWithin, script_in};
 
+use replay_calls::NumberedConditions;
 use replay_due_events::{Start, Timetable, is_none_missing_before};
 use replay_script::{ScriptCursor, free_until};
 use replay_state::{Config, ProgramContext, Ranks};
 
-/// What of a program events are judged by: its text, its timings, its ranks and ceilings, and how
-/// many routines it has.
+/// What of a program events are judged by: its text, its conditions by number, its timings, its
+/// ranks and ceilings, and how many routines it has.
 #[derive(Drop)]
 pub struct Rules<'a> {
     pub text: ProgramContext<'a>,
+    pub conditions: &'a NumberedConditions<'a>,
     pub table: Timetable,
     pub ranks: Ranks,
     /// Calls are nested at most so deep.

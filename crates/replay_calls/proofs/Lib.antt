@@ -3,3 +3,4 @@ pub mod Spots
 pub mod Elements
 pub mod Puts
 pub mod Placing
+pub mod Numbering

@@ -1,11 +1,10 @@
 -- A store to the variable at a place, and the variable of an argument.
-use Rattle.std.specs.Prelude.{◌≡◌, ℕ, zero, suc, Bool, true, false, cond, List, [], ◌∷◌, Option, Some, None, ℤ, option_map, map, slice_get, slice_set}
+use Rattle.std.specs.Prelude.{◌≡◌, ℕ, zero, suc, Bool, true, false, List, [], ◌∷◌, Option, Some, None, ℤ, option_map, map, slice_get, slice_set}
 use Rattle.std.proofs.Common.{refl, sym, ◌∙◌, ap}
 use Rattle.syntax_tree.specs.Plain.{Name}
 use Rattle.source_semantics.specs.Store.{Held, Slot, Vars, slot_named, replaced}
 use Rattle.replay_calls.specs.Places.{at_place, with_held}
 use Rattle.replay_calls.specs.Stores.{IsTried, IsStored, put, put_slot, put_found, put_named, tried}
-use Rattle.replay_calls.specs.declared.storing.StoreResult.TheVariants as stored_is
 
 pub mapped_set : {A B : Type 0} (f : A → B) (xs : List A) (k : ℕ) (x : A) → map f (slice_set xs k x) ≡ slice_set (map f xs) k (f x)
 mapped_set f [] k x = refl

@@ -3,3 +3,4 @@ pub mod Lookups
 pub mod Places
 pub mod Reach
 pub mod Stores
+pub mod Conditions

@@ -3,7 +3,8 @@
 //! `specs/Reach.antt` says which memory of the source meaning a `Memory` stands for. Each function
 //! equals the one of that meaning: what a name or an element is worth, stores, the variables of a
 //! routine as they start, and the numbers of devices, monitors and conditions. Variables beside a
-//! call's own are lent until something is stored to one of them.
+//! call's own are lent until something is stored to one of them. `NumberedConditions` lists the
+//! conditions of a program once, and tells the number of each by its monitor and name.
 //!
 //! What operators make of words, and what names of routines stand for: each function answers what
 //! the function of the same name of `source_semantics` answers. Values are kept in 64 bits, so no
@@ -11,6 +12,7 @@
 #![tactic(auto)]
 
 mod answers;
+mod conditions;
 mod fresh;
 mod lookup;
 mod memory;
@@ -24,10 +26,11 @@ mod turn;
 mod words;
 
 pub use answers::{joined, minus, opposite};
+pub use conditions::NumberedConditions;
 pub use fresh::{ArgumentResult, add_fresh, checked, param_variable, range_of};
-pub use lookup::{EvalContext, ResolvedRoutine, RoutineHome, equal, routine_named};
+pub use lookup::{EvalContext, ResolvedRoutine, RoutineHome, equal};
 pub use memory::{CowSlots, Memory, lent};
-pub use names::{entry_named, home_in};
+pub use names::{entry_named, home_in, routine_named};
 pub use numbers::{condition_here, device_number, monitor_number};
 pub use places::place_at;
 pub use reading::{element, name_value};

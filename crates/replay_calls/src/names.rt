@@ -1,9 +1,9 @@
 //! What names of routines stand for.
 
 ghost use Rattle.std.specs.Prelude.{◌≡◌, filter_map, map, option_map};
-ghost use Rattle.syntax_tree.specs.Placed.{placed, placed_decl, placed_monitor, placed_routine, plain, plain_decl, plain_monitor, plain_routine};
-ghost use Rattle.source_semantics.specs.Names.{monitor_in, named};
-ghost use Rattle.source_semantics.specs.Run.{entry_name, entry_named as named_entry};
+ghost use Rattle.syntax_tree.specs.Placed.{placed, placed_decl, placed_monitor, placed_process, placed_routine, plain, plain_decl, plain_monitor, plain_process, plain_routine};
+ghost use Rattle.source_semantics.specs.Names.{monitor_in, named, routine_in};
+ghost use Rattle.source_semantics.specs.Run.{entry_name, entry_named as named_entry, routine_named as named_routine};
 ghost use Rattle.replay_state.specs.View.{home_of};
 ghost use Rattle.replay_calls.specs.Lookups.{found_of};
 ghost use Rattle.replay_calls.specs.Seen as running;
@@ -35,6 +35,40 @@ fn among<'a>(name: &Name, routines: &'a [Routine]) -> Option<&'a Routine>
         }
     }
     None
+}
+
+/// The first routine of that name that is declared.
+fn declared<'a>(name: &Name, decls: &'a [Declaration]) -> Option<&'a Routine>
+    ensures { option_map (λ r. plain_routine (placed_routine r.now)) result ≡
+        named entry_name name.now (filter_map routine_in
+        (map plain_decl (map placed_decl decls.now))) }
+{
+    for decl in decls {
+        if let Declaration::Routine(routine) = decl {
+            if equal(&routine.name, name) {
+                return Some(routine);
+            }
+        }
+    }
+    None
+}
+
+/// The routine of that name, of the process or of the program.
+pub fn routine_named<'a>(scope: &EvalContext<'a>, name: &Name) -> Option<ResolvedRoutine<'a>>
+    ensures { option_map found_of result ≡ named_routine (plain (placed scope.now.declarations.now))
+        (plain_process (placed_process scope.now.process.now)) name.now }
+{
+    if let Some(routine) = among(name, scope.process.routines.as_slice()) {
+        return Some(ResolvedRoutine {
+            home: crate::RoutineHome::Process,
+            routine,
+        });
+    }
+    let routine = declared(name, scope.declarations.program().decls.as_slice())?;
+    Some(ResolvedRoutine {
+        home: crate::RoutineHome::Program,
+        routine,
+    })
 }
 
 /// The first monitor of that name.

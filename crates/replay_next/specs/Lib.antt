@@ -1,5 +1,4 @@
 pub mod Ran
-pub mod Came
-pub mod Pending
+pub mod Remains
 pub mod Weights
 pub mod Driving

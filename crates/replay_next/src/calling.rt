@@ -1,18 +1,14 @@
 //! Routines that are called.
 
-ghost use Rattle.std.specs.Prelude.{◌≡◌, IfOk, Option, option_map, unwrap_or};
+ghost use Rattle.std.specs.Prelude.{◌≡◌, IfOk, option_map};
 ghost use Rattle.syntax_tree.specs.Placed.{placed, placed_routine, plain, plain_routine};
-ghost use Rattle.syntax_tree.specs.Plain.{Answers};
-ghost use Rattle.source_semantics.specs.Next.{answer_after};
 ghost use Rattle.source_semantics.specs.Run as run_of;
 ghost use Rattle.replay_state.specs.View.{answers_of, call_of, home_of, target_of, vars_of};
 ghost use Rattle.replay_calls.specs.Lookups.{found_of};
-ghost use Rattle.replay_calls.specs.Seen.{answer_of};
-ghost use Rattle.replay_calls.specs.Reach.{memory_of, site_of};
-ghost use Rattle.replay_next.specs.Ran.{bound_of, ran_of, receiving};
+ghost use Rattle.replay_next.specs.Ran.{ran_of, receiving};
 
-use crate::results::{ArgumentsResult, RunResult, Stop, stopped_in};
-use replay_calls::{Answer, EvalContext, Memory, ResolvedRoutine, add_fresh, home_in};
+use crate::results::{RunResult, Stop, stopped_in};
+use replay_calls::{EvalContext, ResolvedRoutine, add_fresh, home_in};
 use replay_state::{Action, Call, CallOwner, Item, ResultExpr, Slot, Target};
 use static_declarations::Declarations;
 use std::alloc::{AllocError, Global};
@@ -78,66 +74,47 @@ fn entry_call<'a>(
     })
 }
 
-/// A call of an entry with these arguments; its answer, if any, is to be stored.
+/// A call of an entry, all arguments bound; its answer, if any, is to be stored.
 pub fn entered<'a>(
     scope: &EvalContext<'a>,
-    home: CallOwner,
-    depth: usize,
     found: &ResolvedRoutine<'a>,
     mon: usize,
-    bound: ArgumentsResult<'a>,
+    params: Vec<Slot<'a>>,
     target: Option<Target<'a>>,
 ) -> Result<RunResult<'a>, AllocError>
-    ensures { IfOk result (λ ran. (m : run_of.Memory) → ran_of ran m ≡
-        run_of.entered (site_of scope.now home depth) m (found_of found.now) mon
-        (bound_of bound.entry) (receiving (option_map target_of target.entry))) }
+    ensures { IfOk result (λ ran. (c : run_of.Site) (m : run_of.Memory) →
+        c.program ≡ plain (placed scope.now.declarations.now) → ran_of ran m ≡
+        run_of.entered c m (found_of found.now) mon (run_of.bound (vars_of params.entry.items))
+        (receiving (option_map target_of target.entry))) }
 {
-    match bound {
-        ArgumentsResult::Unbound(number) => Ok(RunResult::Fails(number)),
-        ArgumentsResult::Params(params) => {
-            let own = own_vars(scope.alloc, scope.declarations, found.routine, params)?;
-            let mut inside = Vec::new(scope.alloc);
-            inside.push(entry_call(scope.alloc, found, mon, own)?)?;
-            let mut rest = Vec::new(scope.alloc);
-            if let Some(target) = target {
-                rest.push(Item::Receive(target))?;
-            }
-            Ok(RunResult::Stops(Stop {
-                action: Action::Enters { mon },
-                inside,
-                rest,
-            }))
-        }
+    let own = own_vars(scope.alloc, scope.declarations, found.routine, params)?;
+    let mut inside = Vec::new(scope.alloc);
+    inside.push(entry_call(scope.alloc, found, mon, own)?)?;
+    let mut rest = Vec::new(scope.alloc);
+    if let Some(target) = target {
+        rest.push(Item::Receive(target))?;
     }
-}
-
-/// The answer of a function whose body came to this; `None` where its result is evaluated.
-pub fn answered(ran: RunResult<'_>) -> Option<Answer>
-    ensures { (c : run_of.Site) → (o : Option Answers) → (m : run_of.Memory) →
-        answer_after c o (ran_of ran.entry m) ≡
-        unwrap_or (option_map answer_of result) (answer_after c o (run_of.goes m)) }
-{
-    match ran {
-        RunResult::Goes => None,
-        RunResult::Fails(number) => Some(Answer::Raised(number)),
-        RunResult::Exits => Some(Answer::Word(0)),
-        RunResult::Stops(_) => Some(Answer::Word(0)),
-    }
+    Ok(RunResult::Stops(Stop {
+        action: Action::Enters { mon },
+        inside,
+        rest,
+    }))
 }
 
 /// What a procedure came to as a part of its caller, whose variables come back.
 pub fn given_back<'a>(
     alloc: Global,
     home: CallOwner,
-    memory: &mut Memory<'_, 'a>,
+    own: &mut Vec<Slot<'a>>,
     callers: Vec<Slot<'a>>,
     ran: RunResult<'a>,
 ) -> Result<RunResult<'a>, AllocError>
-    ensures { IfOk result (λ all. ran_of all (memory_of memory.new) ≡
+    ensures { IfOk result (λ all. (m : run_of.Memory) →
+        ran_of all (run_of.with_own m (vars_of own.new.items)) ≡
         run_of.within_caller (home_of home) (vars_of callers.entry.items)
-        (ran_of ran.entry (memory_of memory.old))) }
+        (ran_of ran.entry (run_of.with_own m (vars_of own.old.items)))) }
 {
-    let own = mem::replace(&mut memory.own, callers);
+    let own = mem::replace(own, callers);
     match ran {
         RunResult::Goes | RunResult::Exits => Ok(RunResult::Goes),
         RunResult::Fails(number) => Ok(RunResult::Fails(number)),

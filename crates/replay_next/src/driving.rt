@@ -1,95 +1,105 @@
-//! Procedures, run one after the other over a list of the callers that wait for them.
+//! A run, step by step, over a list of the callers that wait.
 
-ghost use Rattle.std.specs.Prelude.{◌≡◌, ◌+◌, ◌<◌, IfOk, map};
+ghost use Rattle.std.specs.Prelude.{◌≡◌, ◌+◌, ◌-◌, ◌<◌, ◌≤◌, IfOk, Some, map, option_map};
 ghost use Rattle.source_semantics.specs.Next as next_of_source;
 ghost use Rattle.source_semantics.specs.Run as run_of;
 ghost use Rattle.source_semantics.specs.Store as vars;
-ghost use Rattle.replay_state.specs.View.{home_of, item_of, vars_of};
-ghost use Rattle.replay_calls.specs.Reach.{memory_of, site_of};
-ghost use Rattle.replay_next.specs.Came.{came_of};
-ghost use Rattle.replay_next.specs.Driving.{HasGone, caller_weight, callers_run, callers_weight, driven_run, place_run, place_weight, within};
+ghost use Rattle.replay_state.specs.View.{answers_of, item_of, vars_of};
+ghost use Rattle.replay_calls.specs.declared.lookup.EvalContext as code_scope;
+ghost use Rattle.replay_calls.specs.Reach.{area_of, memory_of, site_of};
+ghost use Rattle.replay_calls.specs.Seen.{answer_of};
+ghost use Rattle.replay_next.specs.Driving.{HasGone, answer_within, callers_run, callers_weight, driven_run, end_answer, end_weight, function_weight, function_within, others_in, others_of, procedure_weight, procedure_within, running_run, running_weight, waiting_weight};
 ghost use Rattle.replay_next.specs.Ran.{ran_of};
-ghost use Rattle.replay_next.specs.Pending.{pending_run};
-ghost use Rattle.replay_next.specs.Weights.{pending_weight};
+ghost use Rattle.replay_next.specs.Remains.{came_of, came_step, function_step, part_step, procedure_step};
+ghost use Rattle.replay_next.specs.Weights.{Costs, answers_weight, costs};
 
-use crate::calling::{given_back, statements};
-use crate::items::{ItemProgress, ItemResult, of_item, run_items, stopped_before};
-use crate::pending::PendingCall;
+use crate::beginning::evaluates;
+use crate::calling::{answering, given_back, statements};
+use crate::evaluating::evaluate;
+use crate::items::{next_item, next_stmt, next_turn};
+use crate::remains::{
+    Beside, CalledRoutine, Caller, Driven, FunctionCaller, FunctionEnd, ItemResult, Part,
+    ProcedureCaller, Remains, Running, Step, StmtItem,
+};
 use crate::results::RunResult;
-use crate::stepping::step_all;
-use replay_calls::{EvalContext, Memory, home_in};
-use replay_state::{CallOwner, Item, Slot};
-use std::alloc::AllocError;
+use crate::telling::tell;
+use replay_calls::{Answer, EvalContext, Memory, home_in};
+use replay_state::{CallOwner, Item, ResultExpr};
+use std::alloc::{AllocError, Global};
 use std::mem;
 
-/// A caller that waits for a procedure, with the home of the procedure.
-#[derive(Drop)]
-pub struct Caller<'a> {
-    pub callee: CallOwner,
-    pub home: CallOwner,
-    pub depth: usize,
-    pub own: Vec<Slot<'a>>,
-    pub rest: Vec<Item<'a>>,
-}
-
-/// What a call with this home came to, inside which calls are nested at most so deep.
-#[derive(Drop)]
-pub struct Place<'a> {
-    pub home: CallOwner,
-    pub depth: usize,
-    pub progress: ItemProgress<'a>,
-}
-
-/// Where a run is: over, or at a call that came to this.
-#[derive(Drop)]
-pub enum Driven<'a> {
-    Over(ItemResult<'a>),
-    At(Place<'a>),
-}
-
-/// Runs a procedure up to the next that it calls; its caller waits.
-fn begin<'a>(
+/// A procedure begins; its caller waits.
+fn call_procedure<'s, 'a>(
     scope: &EvalContext<'a>,
-    home: CallOwner,
-    depth: usize,
-    memory: &mut Memory<'_, 'a>,
-    callers: &mut Vec<Caller<'a>>,
-    pending: PendingCall<'a>,
-) -> Result<Place<'a>, AllocError>
-    ensures run { IfOk result (λ at.
-        callers_run scope.now callers.new.items (place_run scope.now at (memory_of memory.new)) ≡
-        callers_run scope.now callers.old.items
-        (pending_run (site_of scope.now home depth) pending.entry (memory_of memory.old))) }
-    ensures falls { IfOk result (λ at.
-        callers_weight scope.now callers.new.items + place_weight scope.now at <
-        callers_weight scope.now callers.old.items +
-        pending_weight scope.now depth pending.entry) }
+    memory: &mut Memory<'s, 'a>,
+    running: &mut Running<'s, 'a>,
+    called: CalledRoutine<'a>,
+) -> Result<Step<'a>, AllocError>
+    ensures run { IfOk result (λ step. running_run scope.now running.new step memory.new ≡
+        running_run scope.now running.old (procedure_step called.entry) memory.old) }
+    ensures falls { IfOk result (λ step. running_weight scope.now running.new step <
+        running_weight scope.now running.old (procedure_step called.entry)) }
 {
-    let PendingCall { found, own, rest } = pending;
+    let depth = running.depth;
     if depth == 0 {
-        let progress = run_items(scope, home, depth, memory, rest.as_slice())?;
-        return Ok(Place {
-            home,
-            depth,
-            progress,
-        });
+        return Ok(Step::Came(ItemResult::Ran(RunResult::Goes)));
     }
+    let CalledRoutine { found, own } = called;
     let callee = home_in(found.home);
     let body = statements(&found.routine.body);
     let own = mem::replace(&mut memory.own, own);
-    callers.push(Caller {
+    let rest = mem::replace(&mut running.rest, Vec::new(scope.alloc));
+    let home = running.home;
+    running.home = callee;
+    running.depth = depth - 1;
+    running.callers.push(Caller::OfProcedure(ProcedureCaller {
         callee,
         home,
         depth,
         own,
         rest,
-    })?;
-    let progress = step_all(scope, callee, depth - 1, memory, body)?;
-    Ok(Place {
-        home: callee,
-        depth: depth - 1,
-        progress: of_item(progress),
-    })
+    }))?;
+    Ok(Step::Does(body))
+}
+
+/// A function begins; its caller waits. What it changes beside its own variables is dropped.
+fn call_function<'s, 'a>(
+    scope: &EvalContext<'a>,
+    memory: &mut Memory<'s, 'a>,
+    running: &mut Running<'s, 'a>,
+    called: CalledRoutine<'a>,
+    remains: Remains<'a>,
+) -> Result<Step<'a>, AllocError>
+    ensures run { IfOk result (λ step. running_run scope.now running.new step memory.new ≡
+        running_run scope.now running.old (function_step called.entry remains.entry) memory.old) }
+    ensures falls { IfOk result (λ step. running_weight scope.now running.new step <
+        running_weight scope.now running.old (function_step called.entry remains.entry)) }
+{
+    let depth = running.depth;
+    if depth == 0 {
+        return Ok(Step::Part(Part::Answer(Answer::Word(0)), remains));
+    }
+    let CalledRoutine { found, own } = called;
+    let callee = home_in(found.home);
+    let body = statements(&found.routine.body);
+    let result = answering(found.routine);
+    let own = mem::replace(&mut memory.own, own);
+    let rest = mem::replace(&mut running.rest, Vec::new(scope.alloc));
+    let kept = mem::replace(&mut running.kept, None);
+    let home = running.home;
+    running.home = callee;
+    running.depth = depth - 1;
+    running.callers.push(Caller::OfFunction(FunctionCaller {
+        callee,
+        result,
+        home,
+        depth,
+        own,
+        rest,
+        remains,
+        kept,
+    }))?;
+    Ok(Step::Does(body))
 }
 
 /// A procedure gives no value back.
@@ -104,124 +114,317 @@ fn without_value<'a>(came: ItemResult<'a>) -> RunResult<'a>
     }
 }
 
-/// What a caller comes to, whose procedure came to this.
-fn go_on<'a>(
+/// The caller of a procedure goes on, which came to this.
+fn procedure_over<'s, 'a>(
     scope: &EvalContext<'a>,
-    memory: &mut Memory<'_, 'a>,
-    caller: Caller<'a>,
+    memory: &mut Memory<'s, 'a>,
+    running: &mut Running<'s, 'a>,
+    caller: ProcedureCaller<'a>,
     came: ItemResult<'a>,
-) -> Result<Place<'a>, AllocError>
-    ensures run { IfOk result (λ at. place_run scope.now at (memory_of memory.new) ≡
-        within scope.now caller.entry (came_of came.entry (memory_of memory.old))) }
-    ensures falls { IfOk result (λ at.
-        place_weight scope.now at < caller_weight scope.now caller.entry) }
+) -> Result<Step<'a>, AllocError>
+    ensures run { IfOk result (λ step. running_run scope.now running.new step memory.new ≡
+        callers_run scope.now running.old.callers.items (others_of running.old.kept memory.old)
+        (procedure_within scope.now caller.entry (came_of came.entry (memory_of memory.old)))) }
+    ensures falls { IfOk result (λ step. running_weight scope.now running.new step <
+        callers_weight scope.now running.old.callers.items +
+        procedure_weight scope.now caller.entry) }
 {
-    let Caller {
+    let ProcedureCaller {
         callee,
         home,
         depth,
         own,
         rest,
     } = caller;
-    let back = given_back(scope.alloc, callee, memory, own, without_value(came))?;
-    match back {
-        RunResult::Goes | RunResult::Exits => {
-            let progress = run_items(scope, home, depth, memory, rest.as_slice())?;
-            Ok(Place {
-                home,
-                depth,
-                progress,
-            })
-        }
-        RunResult::Fails(number) => Ok(Place {
-            home,
-            depth,
-            progress: ItemProgress::Came(ItemResult::Ran(RunResult::Fails(number))),
-        }),
-        RunResult::Stops(stop) => {
-            let came = stopped_before(stop, rest.as_slice())?;
-            Ok(Place {
-                home,
-                depth,
-                progress: ItemProgress::Came(came),
-            })
-        }
-    }
+    let back = given_back(
+        scope.alloc,
+        callee,
+        &mut memory.own,
+        own,
+        without_value(came),
+    )?;
+    running.home = home;
+    running.depth = depth;
+    running.rest = rest;
+    Ok(Step::Came(ItemResult::Ran(back)))
 }
 
-/// What comes after a call that came to this: what remains of the last caller, or the procedure that
-/// is called. It is over where no caller is left.
-fn drive<'a>(
-    scope: &EvalContext<'a>,
-    memory: &mut Memory<'_, 'a>,
-    callers: &mut Vec<Caller<'a>>,
-    place: Place<'a>,
-) -> Result<Driven<'a>, AllocError>
-    ensures run { IfOk result (λ driven.
-        driven_run scope.now callers.new.items driven (memory_of memory.new) ≡
-        callers_run scope.now callers.old.items
-        (place_run scope.now place.entry (memory_of memory.old))) }
-    ensures falls { IfOk result (λ driven. HasGone scope.now callers.new.items driven
-        (callers_weight scope.now callers.old.items + place_weight scope.now place.entry)) }
+/// How a function is over whose body came to this.
+fn function_end<'a>(came: ItemResult<'a>, value: Option<ResultExpr<'a>>) -> FunctionEnd<'a>
+    ensures run { (c : run_of.Site) (m : run_of.Memory) → end_answer c result m ≡
+        next_of_source.answer_after c (option_map answers_of value.entry)
+        (came_of came.entry m) }
+    ensures falls { (k : Costs) → end_weight k result ≤
+        answers_weight k (option_map answers_of value.entry) }
 {
-    let Place {
-        home,
-        depth,
-        progress,
-    } = place;
-    match progress {
-        ItemProgress::Calls(pending) => {
-            let place = begin(scope, home, depth, memory, callers, pending)?;
-            Ok(Driven::At(place))
-        }
-        ItemProgress::Came(came) => match callers.pop() {
-            None => Ok(Driven::Over(came)),
-            Some(caller) => {
-                let place = go_on(scope, memory, caller, came)?;
-                Ok(Driven::At(place))
-            }
+    match came {
+        ItemResult::Gives(value) => FunctionEnd::Answers(Answer::Word(value)),
+        ItemResult::Ran(ran) => match ran {
+            RunResult::Fails(number) => FunctionEnd::Answers(Answer::Raised(number)),
+            RunResult::Exits | RunResult::Stops(_) => FunctionEnd::Answers(Answer::Word(0)),
+            RunResult::Goes => match value {
+                None => FunctionEnd::Answers(Answer::Word(0)),
+                Some(value) => FunctionEnd::Evaluates(value),
+            },
         },
     }
 }
 
-/// What a procedure that is called comes to, with all that it calls, and what remains after it.
-fn run_calls<'a>(
-    scope: &EvalContext<'a>,
-    home: CallOwner,
-    depth: usize,
-    memory: &mut Memory<'_, 'a>,
-    pending: PendingCall<'a>,
-) -> Result<ItemResult<'a>, AllocError>
-    ensures { IfOk result (λ came. came_of came (memory_of memory.new) ≡
-        pending_run (site_of scope.now home depth) pending.entry (memory_of memory.old)) }
+/// The variables beside its own are those of a function's caller again.
+fn back_beside<'s, 'a>(
+    memory: &mut Memory<'s, 'a>,
+    kept: &mut Option<Beside<'s, 'a>>,
+    before: Option<Beside<'s, 'a>>,
+)
+    ensures process { area_of memory.new.process ≡ (others_of kept.old memory.old).process }
+    ensures monitor { area_of memory.new.monitor ≡ (others_of kept.old memory.old).monitor }
+    ensures own { vars_of memory.new.own.items ≡ vars_of memory.old.own.items }
+    ensures kept { kept.new ≡ before.entry }
 {
-    let mut callers = Vec::new(scope.alloc);
-    let mut at = Place {
+    if let Some(beside) = mem::replace(kept, before) {
+        memory.process = beside.process;
+        memory.monitor = beside.monitor;
+    }
+}
+
+/// The caller of a function goes on, whose answer is this.
+fn answer_given<'s, 'a>(
+    memory: &mut Memory<'s, 'a>,
+    running: &mut Running<'s, 'a>,
+    caller: FunctionCaller<'s, 'a>,
+    answer: Answer,
+) -> Step<'a>
+    ensures run { (s : code_scope.EvalContext) →
+        let now = others_of running.old.kept memory.old in
+        running_run s running.new result memory.new ≡ callers_run s running.old.callers.items
+        (others_in caller.entry.kept now) (answer_within s caller.entry now (answer_of answer)) }
+    ensures falls { (s : code_scope.EvalContext) → running_weight s running.new result <
+        callers_weight s running.old.callers.items + waiting_weight s caller.entry }
+{
+    let FunctionCaller {
         home,
         depth,
-        progress: ItemProgress::Calls(pending),
-    };
-    'calls: loop {
-        match drive(scope, memory, &mut callers, at)? {
-            Driven::Over(came) => return Ok(came),
-            Driven::At(place) => at = place,
+        own,
+        rest,
+        remains,
+        kept,
+        ..
+    } = caller;
+    back_beside(memory, &mut running.kept, kept);
+    memory.own = own;
+    running.home = home;
+    running.depth = depth;
+    running.rest = rest;
+    Step::Part(Part::Answer(answer), remains)
+}
+
+/// The result of a function is evaluated; its caller still waits.
+fn evaluate_result<'s, 'a>(
+    alloc: Global,
+    memory: &Memory<'s, 'a>,
+    running: &mut Running<'s, 'a>,
+    caller: FunctionCaller<'s, 'a>,
+    value: ResultExpr<'a>,
+) -> Result<Step<'a>, AllocError>
+    ensures run { IfOk result (λ step. (s : code_scope.EvalContext) →
+        let f = caller.entry in
+        let now = others_of running.old.kept memory.now in
+        let c = site_of s f.callee (f.depth - 1) in
+        running_run s running.new step memory.now ≡
+        callers_run s running.old.callers.items (others_in f.kept now) (answer_within s f now
+        (next_of_source.answer_after c (Some (answers_of value.entry))
+        (run_of.goes (memory_of memory.now))))) }
+    ensures falls { IfOk result (λ step. (s : code_scope.EvalContext) →
+        running_weight s running.new step < callers_weight s running.old.callers.items +
+        (waiting_weight s caller.entry + answers_weight (costs s (caller.entry.depth - 1))
+        (Some (answers_of value.entry)))) }
+{
+    let mut caller = caller;
+    caller.result = None;
+    running.home = caller.callee;
+    running.depth = caller.depth.saturating_sub(1);
+    running.rest = Vec::new(alloc);
+    running.callers.push(Caller::OfFunction(caller))?;
+    Ok(evaluates(alloc, value.value, StmtItem::Result(value.kind)))
+}
+
+/// What follows the body of a function, which came to this.
+fn function_over<'s, 'a>(
+    alloc: Global,
+    memory: &mut Memory<'s, 'a>,
+    running: &mut Running<'s, 'a>,
+    caller: FunctionCaller<'s, 'a>,
+    came: ItemResult<'a>,
+) -> Result<Step<'a>, AllocError>
+    ensures run { IfOk result (λ step. (s : code_scope.EvalContext) →
+        let now = others_of running.old.kept memory.old in
+        running_run s running.new step memory.new ≡
+        callers_run s running.old.callers.items (others_in caller.entry.kept now)
+        (function_within s caller.entry now (came_of came.entry (memory_of memory.old)))) }
+    ensures falls { IfOk result (λ step. (s : code_scope.EvalContext) →
+        running_weight s running.new step < callers_weight s running.old.callers.items +
+        function_weight s caller.entry) }
+{
+    match function_end(came, caller.result) {
+        FunctionEnd::Answers(answer) => Ok(answer_given(memory, running, caller, answer)),
+        FunctionEnd::Evaluates(value) => evaluate_result(alloc, memory, running, caller, value),
+    }
+}
+
+/// What follows a call that came to this: its caller goes on. The run is over where none is left.
+fn returned<'s, 'a>(
+    scope: &EvalContext<'a>,
+    memory: &mut Memory<'s, 'a>,
+    running: &mut Running<'s, 'a>,
+    came: ItemResult<'a>,
+) -> Result<Driven<'a>, AllocError>
+    ensures run { IfOk result (λ driven. driven_run scope.now running.new driven memory.new ≡
+        callers_run scope.now running.old.callers.items (others_of running.old.kept memory.old)
+        (came_of came.entry (memory_of memory.old))) }
+    ensures falls { IfOk result (λ driven. HasGone scope.now running.new driven
+        (callers_weight scope.now running.old.callers.items)) }
+{
+    match running.callers.pop() {
+        None => Ok(Driven::Over(came)),
+        Some(Caller::OfProcedure(caller)) => {
+            Ok(Driven::At(procedure_over(scope, memory, running, caller, came)?))
+        }
+        Some(Caller::OfFunction(caller)) => {
+            Ok(Driven::At(function_over(scope.alloc, memory, running, caller, came)?))
         }
     }
 }
 
-/// What items come to, in turn, with all procedures that they call.
-pub fn run_whole<'a>(
+/// The next step of the call that runs, which came to this.
+fn go_on<'s, 'a>(
+    scope: &EvalContext<'a>,
+    memory: &mut Memory<'s, 'a>,
+    running: &mut Running<'s, 'a>,
+    came: ItemResult<'a>,
+) -> Result<Driven<'a>, AllocError>
+    ensures run { IfOk result (λ driven. driven_run scope.now running.new driven memory.new ≡
+        running_run scope.now running.old (came_step came.entry) memory.old) }
+    ensures falls { IfOk result (λ driven. HasGone scope.now running.new driven
+        (running_weight scope.now running.old (came_step came.entry))) }
+{
+    match running.rest.pop() {
+        None => returned(scope, memory, running, came),
+        Some(item) => {
+            let Running {
+                home,
+                depth,
+                kept,
+                ..
+            } = running;
+            Ok(Driven::At(next_item(scope, *home, *depth, memory, kept, came, item)?))
+        }
+    }
+}
+
+/// The next step of an expression.
+fn next_part<'s, 'a>(
+    scope: &EvalContext<'a>,
+    memory: &mut Memory<'s, 'a>,
+    running: &mut Running<'s, 'a>,
+    part: Part<'a>,
+    remains: Remains<'a>,
+) -> Result<Step<'a>, AllocError>
+    ensures run { IfOk result (λ step. running_run scope.now running.new step memory.new ≡
+        running_run scope.now running.old (part_step part.entry remains.entry) memory.old) }
+    ensures falls { IfOk result (λ step. running_weight scope.now running.new step <
+        running_weight scope.now running.old (part_step part.entry remains.entry)) }
+{
+    let home = running.home;
+    let depth = running.depth;
+    match part {
+        Part::Expr(expr) => evaluate(scope, home, depth, memory, expr, remains),
+        Part::Answer(answer) => {
+            tell(
+                scope,
+                home,
+                depth,
+                memory,
+                &mut running.kept,
+                remains,
+                answer,
+            )
+        }
+        Part::Call(called) => call_function(scope, memory, running, called, remains),
+    }
+}
+
+/// The next step of a run.
+fn drive<'s, 'a>(
+    scope: &EvalContext<'a>,
+    memory: &mut Memory<'s, 'a>,
+    running: &mut Running<'s, 'a>,
+    step: Step<'a>,
+) -> Result<Driven<'a>, AllocError>
+    ensures run { IfOk result (λ driven. driven_run scope.now running.new driven memory.new ≡
+        running_run scope.now running.old step.entry memory.old) }
+    ensures falls { IfOk result (λ driven. HasGone scope.now running.new driven
+        (running_weight scope.now running.old step.entry)) }
+{
+    let home = running.home;
+    let depth = running.depth;
+    match step {
+        Step::Came(came) => go_on(scope, memory, running, came),
+        Step::Part(part, remains) => {
+            Ok(Driven::At(next_part(scope, memory, running, part, remains)?))
+        }
+        Step::CallsProcedure(called) => {
+            Ok(Driven::At(call_procedure(scope, memory, running, called)?))
+        }
+        Step::Does(stmts) => {
+            let rest = &mut running.rest;
+            Ok(Driven::At(next_stmt(scope, home, depth, rest, stmts)?))
+        }
+        Step::Turns { name, turns, body } => {
+            let rest = &mut running.rest;
+            Ok(Driven::At(next_turn(&mut memory.own, rest, name, turns, body)?))
+        }
+    }
+}
+
+/// What a run comes to from this step on.
+fn run_on<'s, 'a>(
+    scope: &EvalContext<'a>,
+    memory: &mut Memory<'s, 'a>,
+    running: &mut Running<'s, 'a>,
+    first: Step<'a>,
+) -> Result<ItemResult<'a>, AllocError>
+    ensures { IfOk result (λ came. came_of came (memory_of memory.new) ≡
+        running_run scope.now running.old first.entry memory.old) }
+{
+    let mut step = first;
+    'steps: loop {
+        match drive(scope, memory, running, step)? {
+            Driven::Over(came) => return Ok(came),
+            Driven::At(next) => step = next,
+        }
+    }
+}
+
+/// What items come to, in turn, with all that they call.
+pub fn run_whole<'s, 'a>(
     scope: &EvalContext<'a>,
     home: CallOwner,
     depth: usize,
-    memory: &mut Memory<'_, 'a>,
+    memory: &mut Memory<'s, 'a>,
     items: &[Item<'a>],
 ) -> Result<ItemResult<'a>, AllocError>
     ensures { IfOk result (λ came. came_of came (memory_of memory.new) ≡ next_of_source.run_items
         (site_of scope.now home depth) (memory_of memory.old) (map item_of items.now)) }
 {
-    match run_items(scope, home, depth, memory, items)? {
-        ItemProgress::Came(came) => Ok(came),
-        ItemProgress::Calls(pending) => run_calls(scope, home, depth, memory, pending),
-    }
+    let mut rest = Vec::from_slice(scope.alloc, items)?;
+    rest.reverse();
+    let mut running = Running {
+        home,
+        depth,
+        rest,
+        kept: None,
+        callers: Vec::new(scope.alloc),
+    };
+    let first = Step::Came(ItemResult::Ran(RunResult::Goes));
+    run_on(scope, memory, &mut running, first)
 }

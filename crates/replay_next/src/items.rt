@@ -1,147 +1,94 @@
 //! What the items of a call come to.
 
-ghost use Rattle.std.specs.Prelude.{◌≡◌, ◌++◌, ◌∷◌, [], IfOk, List, ℕ, cond, map, option_map};
+ghost use Rattle.std.specs.Prelude.{◌≡◌, ◌*◌, ◌+◌, ◌<◌, ◌∷◌, IfOk, List, OnOk, Option, option_map, suc};
 ghost use Rattle.source_semantics.specs.Next as next_of_source;
 ghost use Rattle.source_semantics.specs.Run as run_of;
-ghost use Rattle.replay_state.specs.View.{action_of, answers_of, calls_of, item_of, vars_of};
-ghost use Rattle.replay_calls.specs.declared.lookup.EvalContext as code_scope;
-ghost use Rattle.replay_calls.specs.Seen.{answer_of};
+ghost use Rattle.replay_state.specs.View.{answers_of, item_of, vars_of};
 ghost use Rattle.replay_calls.specs.Reach.{memory_of, site_of};
+ghost use Rattle.replay_next.specs.Driving.{others_of, rest_of, then_items};
+ghost use Rattle.replay_next.specs.declared.remains.Beside as code_beside;
 ghost use Rattle.replay_next.specs.Ran.{ran_of};
-ghost use Rattle.replay_next.specs.Came.{CameBelow, came_of, item_progress_of};
-ghost use Rattle.replay_next.specs.Pending.{progress_of};
-ghost use Rattle.replay_next.specs.Weights.{FallsBelow, item_weight_in, items_weight_in};
+ghost use Rattle.replay_next.specs.Remains.{came_of, step_of, stmts_of};
+ghost use Rattle.replay_next.specs.Weights.{Costs, answers_weight, costs, item_weight, items_weight, step_weight, stmts_weight};
 
-use crate::pending::{PendingCall, Progress};
-use crate::stepping::{step_all, step_turns};
-use crate::{RunResult, Stop, TargetResult, assigned, stops, value};
-use replay_calls::{Answer, EvalContext, Memory, checked, drop_turn, range_of};
-use replay_state::{Action, CallOwner, Item, ResultExpr};
+use crate::beginning::{begin, evaluates, ran};
+use crate::remains::{Beside, ItemResult, Step, StmtItem};
+use crate::results::{RunResult, stopped_before, stops};
+use crate::storing::store;
+use replay_calls::{Answer, EvalContext, Memory, drop_turn, push_turn};
+use replay_state::{Action, CallOwner, Item, ResultExpr, Slot, TurnsLeft};
 use std::alloc::{AllocError, Global};
-
-/// What an item comes to: what its statements come to, or a value that is given back.
-#[derive(Drop)]
-pub enum ItemResult<'a> {
-    Ran(RunResult<'a>),
-    Gives(i64),
-}
-
-/// What items come to, or the next procedure that they call.
-#[derive(Drop)]
-pub enum ItemProgress<'a> {
-    Came(ItemResult<'a>),
-    Calls(PendingCall<'a>),
-}
-
-/// What statements of an item come to.
-pub fn of_item<'a>(progress: Progress<'a>) -> ItemProgress<'a>
-    ensures run { (c : run_of.Site) → (m : run_of.Memory) →
-        item_progress_of c result m ≡ progress_of c progress.entry m }
-    ensures falls { (s : code_scope.EvalContext) → (d n : ℕ) →
-        FallsBelow s d progress.entry n → CameBelow s d result n }
-{
-    match progress {
-        Progress::Ran(ran) => ItemProgress::Came(ItemResult::Ran(ran)),
-        Progress::Calls(pending) => ItemProgress::Calls(pending),
-    }
-}
-
-/// The monitor is left, and the answer is given back.
-fn leaves<'a>(alloc: Global, mon: usize, answer: Answer) -> Result<RunResult<'a>, AllocError>
-    ensures { IfOk result (λ ran. (m : run_of.Memory) → ran_of ran m ≡
-        run_of.with_value (answer_of answer) m
-        (λ v. run_of.stops (run_of.leaves mon) [] (run_of.give v ∷ []) m)) }
-{
-    match answer {
-        Answer::Raised(number) => Ok(RunResult::Fails(number)),
-        Answer::Word(value) => stops(alloc, Action::Leaves { mon }, Some(Item::Give(value))),
-    }
-}
+use syntax_tree::{Name, Stmt};
 
 /// The end of an entry: its answer is evaluated inside the monitor.
 fn leave_with<'a>(
-    scope: &EvalContext<'a>,
-    home: CallOwner,
-    depth: usize,
-    memory: &Memory<'_, 'a>,
+    alloc: Global,
     answers: Option<ResultExpr<'a>>,
     mon: usize,
-) -> Result<RunResult<'a>, AllocError>
-    ensures { IfOk result (λ ran. ran_of ran (memory_of memory.now) ≡ next_of_source.left_with
-        (site_of scope.now home depth) (memory_of memory.now) mon
-        (option_map answers_of answers.entry)) }
+) -> Result<Step<'a>, AllocError>
+    ensures run { IfOk result (λ step. (c : run_of.Site) (m : run_of.Memory) →
+        step_of c step m ≡ next_of_source.left_with c m mon (option_map answers_of answers.entry)) }
+    ensures falls { IfOk result (λ step. (k : Costs) →
+        step_weight k step < suc (answers_weight k (option_map answers_of answers.entry))) }
 {
     match answers {
-        None => stops(scope.alloc, Action::Leaves { mon }, None),
-        Some(answers) => {
-            let answer = value(scope, home, depth, memory, answers.value)?;
-            let range = range_of(scope.declarations, answers.kind);
-            leaves(scope.alloc, mon, checked(range, answer))
+        None => Ok(ran(stops(alloc, Action::Leaves { mon }, None)?)),
+        Some(ResultExpr { kind, value }) => {
+            Ok(evaluates(alloc, value, StmtItem::Leave { mon, kind }))
         }
     }
 }
 
 /// The innermost loop's variable goes out of reach.
 fn end_turn(memory: &mut Memory<'_, '_>)
-    ensures { memory_of memory.new ≡ run_of.without_turn (memory_of memory.old) }
+    ensures same { memory_of memory.new ≡ run_of.without_turn (memory_of memory.old) }
+    ensures others { (kept : Option code_beside.Beside) →
+        others_of kept memory.new ≡ others_of kept memory.old }
 {
     drop_turn(&mut memory.own);
 }
 
-/// What an item comes to.
-fn run_item<'a>(
+/// The first step of an item.
+fn begin_item<'s, 'a>(
     scope: &EvalContext<'a>,
     home: CallOwner,
     depth: usize,
-    memory: &mut Memory<'_, 'a>,
+    memory: &mut Memory<'s, 'a>,
+    kept: &mut Option<Beside<'s, 'a>>,
     item: Item<'a>,
-) -> Result<ItemProgress<'a>, AllocError>
-    ensures run { IfOk result (λ at. item_progress_of (site_of scope.now home depth) at
-        (memory_of memory.new) ≡ next_of_source.run_item
-        (site_of scope.now home depth) (memory_of memory.old) (item_of item.entry)) }
-    ensures falls { IfOk result (λ at. CameBelow scope.now depth at
-        (item_weight_in scope.now depth (item_of item.entry))) }
+) -> Result<Step<'a>, AllocError>
+    ensures run { let c = site_of scope.now home depth in IfOk result (λ step.
+        step_of c step (memory_of memory.new) ≡
+        next_of_source.run_item c (memory_of memory.old) (item_of item.entry)) }
+    ensures others { OnOk result (others_of kept.new memory.new ≡ others_of kept.old memory.old) }
+    ensures falls { let k = costs scope.now depth in IfOk result (λ step.
+        step_weight k step < item_weight k (item_of item.entry)) }
 {
     match item {
-        Item::DoAll(stmts) => {
-            let progress = step_all(scope, home, depth, memory, stmts)?;
-            Ok(of_item(progress))
-        }
-        Item::TurnsLeft {
-            name,
-            value,
-            left,
-            body,
-        } => {
+        Item::DoAll(stmts) => Ok(Step::Does(stmts)),
+        Item::TurnsLeft { name, turns, body } => {
             end_turn(memory);
-            let progress = step_turns(scope, home, depth, memory, name, value, left, body)?;
-            Ok(of_item(progress))
+            Ok(Step::Turns { name, turns, body })
         }
-        Item::Receive(_) => Ok(ItemProgress::Came(ItemResult::Ran(RunResult::Goes))),
+        Item::Receive(_) => Ok(ran(RunResult::Goes)),
         Item::Store { target, value } => {
-            let aim = TargetResult::At(target);
-            let ran = assigned(scope.alloc, home, memory, aim, Answer::Word(value))?;
-            Ok(ItemProgress::Came(ItemResult::Ran(ran)))
+            let answer = Answer::Word(value);
+            Ok(ran(store(scope.alloc, home, memory, kept, target, answer)?))
         }
-        Item::EnterAgain { mon } => {
-            let ran = stops(scope.alloc, Action::Enters { mon }, None)?;
-            Ok(ItemProgress::Came(ItemResult::Ran(ran)))
-        }
-        Item::LeaveWith { answers, mon } => {
-            let ran = leave_with(scope, home, depth, memory, answers, mon)?;
-            Ok(ItemProgress::Came(ItemResult::Ran(ran)))
-        }
-        Item::Give(value) => Ok(ItemProgress::Came(ItemResult::Gives(value))),
+        Item::EnterAgain { mon } => Ok(ran(stops(scope.alloc, Action::Enters { mon }, None)?)),
+        Item::LeaveWith { answers, mon } => leave_with(scope.alloc, answers, mon),
+        Item::Give(value) => Ok(Step::Came(ItemResult::Gives(value))),
     }
 }
 
 /// What an item comes to while the innermost loop is being left: what is left of that loop is
 /// dropped.
 fn leave_item<'a>(memory: &mut Memory<'_, 'a>, item: Item<'a>) -> RunResult<'a>
-    ensures { (c : run_of.Site) (is : List run_of.Item) →
-        run_of.followed (ran_of result (memory_of memory.new))
-        (λ k. next_of_source.run_items c k is) (λ k. next_of_source.leave_loop c k is) is ≡
+    ensures run { (c : run_of.Site) (is : List run_of.Item) →
+        then_items c is (ran_of result (memory_of memory.new)) ≡
         next_of_source.leave_loop c (memory_of memory.old) (item_of item.entry ∷ is) }
+    ensures others { (kept : Option code_beside.Beside) →
+        others_of kept memory.new ≡ others_of kept memory.old }
 {
     match item {
         Item::TurnsLeft { .. } => {
@@ -152,110 +99,104 @@ fn leave_item<'a>(memory: &mut Memory<'_, 'a>, item: Item<'a>) -> RunResult<'a>
     }
 }
 
-/// What an item comes to, where the innermost loop is being left or not: an exit drops what is left
-/// of that loop.
-fn next_item<'a>(
+/// What follows a run, of which this item remains.
+fn follow<'s, 'a>(
     scope: &EvalContext<'a>,
     home: CallOwner,
     depth: usize,
-    memory: &mut Memory<'_, 'a>,
-    leaving: bool,
+    memory: &mut Memory<'s, 'a>,
+    kept: &mut Option<Beside<'s, 'a>>,
+    before: RunResult<'a>,
     item: Item<'a>,
-) -> Result<ItemProgress<'a>, AllocError>
-    ensures run { let c = site_of scope.now home depth in
-        IfOk result (λ at. (is : List run_of.Item) →
-        run_of.followed (item_progress_of c at (memory_of memory.new))
-        (λ k. next_of_source.run_items c k is) (λ k. next_of_source.leave_loop c k is) is ≡
-        cond leaving (next_of_source.leave_loop c (memory_of memory.old) (item_of item.entry ∷ is))
-        (next_of_source.run_items c (memory_of memory.old) (item_of item.entry ∷ is))) }
-    ensures falls { IfOk result (λ at. CameBelow scope.now depth at
-        (item_weight_in scope.now depth (item_of item.entry))) }
+) -> Result<Step<'a>, AllocError>
+    ensures run { let c = site_of scope.now home depth in IfOk result (λ step.
+        (is : List run_of.Item) → then_items c is (step_of c step (memory_of memory.new)) ≡
+        then_items c (item_of item.entry ∷ is) (ran_of before.entry (memory_of memory.old))) }
+    ensures others { OnOk result (others_of kept.new memory.new ≡ others_of kept.old memory.old) }
+    ensures falls { let k = costs scope.now depth in IfOk result (λ step.
+        step_weight k step < item_weight k (item_of item.entry)) }
 {
-    if leaving {
-        let ran = leave_item(memory, item);
-        return Ok(ItemProgress::Came(ItemResult::Ran(ran)));
+    match before {
+        RunResult::Goes => begin_item(scope, home, depth, memory, kept, item),
+        RunResult::Exits => Ok(ran(leave_item(memory, item))),
+        RunResult::Fails(number) => Ok(ran(RunResult::Fails(number))),
+        RunResult::Stops(stop) => Ok(ran(stopped_before(stop, item)?)),
     }
-    run_item(scope, home, depth, memory, item)
 }
 
-/// A stop after which these items remain besides.
-pub fn stopped_before<'a>(stop: Stop<'a>, items: &[Item<'a>]) -> Result<ItemResult<'a>, AllocError>
-    ensures { IfOk result (λ came. (m : run_of.Memory) → came_of came m ≡
-        run_of.stops (action_of stop.entry.action) (calls_of stop.entry.inside.items)
-        (map item_of stop.entry.rest.items ++ map item_of items.now) m) }
-{
-    let Stop {
-        action,
-        inside,
-        mut rest,
-    } = stop;
-    rest.extend_from_slice(items)?;
-    Ok(ItemResult::Ran(RunResult::Stops(Stop {
-        action,
-        inside,
-        rest,
-    })))
-}
-
-/// A call of a procedure after which these items remain besides.
-fn pending_before<'a>(
-    pending: PendingCall<'a>,
-    items: &[Item<'a>],
-) -> Result<PendingCall<'a>, AllocError>
-    ensures found { IfOk result (λ p. p.found ≡ pending.entry.found) }
-    ensures own { IfOk result (λ p. vars_of p.own.items ≡ vars_of pending.entry.own.items) }
-    ensures rest { IfOk result (λ p. map item_of p.rest.items ≡
-        map item_of pending.entry.rest.items ++ map item_of items.now) }
-{
-    let PendingCall {
-        found,
-        own,
-        mut rest,
-    } = pending;
-    rest.extend_from_slice(items)?;
-    Ok(PendingCall { found, own, rest })
-}
-
-/// What items come to, in turn.
-pub fn run_items<'a>(
+/// The next step of a call that came to this, and of which this item remains.
+pub fn next_item<'s, 'a>(
     scope: &EvalContext<'a>,
     home: CallOwner,
     depth: usize,
-    memory: &mut Memory<'_, 'a>,
-    items: &[Item<'a>],
-) -> Result<ItemProgress<'a>, AllocError>
-    ensures run { IfOk result (λ at. item_progress_of (site_of scope.now home depth) at
-        (memory_of memory.new) ≡ next_of_source.run_items
-        (site_of scope.now home depth) (memory_of memory.old) (map item_of items.now)) }
-    ensures falls { IfOk result (λ at. CameBelow scope.now depth at
-        (items_weight_in scope.now depth (map item_of items.now))) }
+    memory: &mut Memory<'s, 'a>,
+    kept: &mut Option<Beside<'s, 'a>>,
+    came: ItemResult<'a>,
+    item: Item<'a>,
+) -> Result<Step<'a>, AllocError>
+    ensures run { let c = site_of scope.now home depth in IfOk result (λ step.
+        (is : List run_of.Item) → then_items c is (step_of c step (memory_of memory.new)) ≡
+        then_items c (item_of item.entry ∷ is) (came_of came.entry (memory_of memory.old))) }
+    ensures others { OnOk result (others_of kept.new memory.new ≡ others_of kept.old memory.old) }
+    ensures falls { let k = costs scope.now depth in IfOk result (λ step.
+        step_weight k step < item_weight k (item_of item.entry)) }
 {
-    let mut leaving = false;
-    for at in 0..items.len() {
-        match next_item(scope, home, depth, memory, leaving, items[at])? {
-            ItemProgress::Calls(pending) => {
-                let pending = pending_before(pending, &items[at + 1..])?;
-                return Ok(ItemProgress::Calls(pending));
-            }
-            ItemProgress::Came(came) => match came {
-                ItemResult::Gives(value) => return Ok(ItemProgress::Came(ItemResult::Gives(value))),
-                ItemResult::Ran(ran) => match ran {
-                    RunResult::Goes => leaving = false,
-                    RunResult::Exits => leaving = true,
-                    RunResult::Fails(number) => {
-                        return Ok(ItemProgress::Came(ItemResult::Ran(RunResult::Fails(number))));
-                    }
-                    RunResult::Stops(stop) => {
-                        let came = stopped_before(stop, &items[at + 1..])?;
-                        return Ok(ItemProgress::Came(came));
-                    }
-                },
-            },
+    match came {
+        ItemResult::Gives(value) => Ok(Step::Came(ItemResult::Gives(value))),
+        ItemResult::Ran(ran) => follow(scope, home, depth, memory, kept, ran, item),
+    }
+}
+
+/// The first step of statements, of which the others remain.
+pub fn next_stmt<'a>(
+    scope: &EvalContext<'a>,
+    home: CallOwner,
+    depth: usize,
+    rest: &mut Vec<Item<'a>>,
+    stmts: &'a [Stmt],
+) -> Result<Step<'a>, AllocError>
+    ensures run { let c = site_of scope.now home depth in IfOk result (λ step.
+        (m : run_of.Memory) → then_items c (rest_of rest.new.items) (step_of c step m) ≡
+        then_items c (rest_of rest.old.items) (run_of.run_all c m (stmts_of stmts.now))) }
+    ensures falls { let k = costs scope.now depth in IfOk result (λ step.
+        items_weight k rest.new.items + step_weight k step <
+        items_weight k rest.old.items + suc (stmts_weight k (stmts_of stmts.now))) }
+{
+    match stmts.split_first() {
+        None => Ok(ran(RunResult::Goes)),
+        Some((stmt, others)) => {
+            rest.push(Item::DoAll(others))?;
+            begin(scope, home, depth, stmt)
         }
     }
-    Ok(ItemProgress::Came(ItemResult::Ran(if leaving {
-        RunResult::Exits
-    } else {
-        RunResult::Goes
-    })))
+}
+
+/// The next turn of a loop, of which the others remain.
+pub fn next_turn<'a>(
+    own: &mut Vec<Slot<'a>>,
+    rest: &mut Vec<Item<'a>>,
+    name: &'a Name,
+    turns: TurnsLeft,
+    body: &'a [Stmt],
+) -> Result<Step<'a>, AllocError>
+    ensures run { IfOk result (λ step. (c : run_of.Site) (m : run_of.Memory) →
+        then_items c (rest_of rest.new.items)
+        (step_of c step (run_of.with_own m (vars_of own.new.items))) ≡
+        then_items c (rest_of rest.old.items) (run_of.turns
+        (λ n. run_of.run_all c n (stmts_of body.now)) name.now (stmts_of body.now) turns.left
+        turns.value (run_of.with_own m (vars_of own.old.items)))) }
+    ensures falls { IfOk result (λ step. (k : Costs) →
+        items_weight k rest.new.items + step_weight k step < items_weight k rest.old.items +
+        suc (turns.left * suc (suc (suc (suc (stmts_weight k (stmts_of body.now))))))) }
+{
+    if turns.left == 0 {
+        return Ok(ran(RunResult::Goes));
+    }
+    push_turn(own, name, turns.value)?;
+    let turns = TurnsLeft {
+        value: turns.value + 1,
+        left: turns.left - 1,
+    };
+    rest.push(Item::TurnsLeft { name, turns, body })?;
+    Ok(Step::Does(body))
 }

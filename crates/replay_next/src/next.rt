@@ -9,11 +9,11 @@ ghost use Rattle.source_semantics.specs.Run as run_of;
 ghost use Rattle.source_semantics.specs.Source.{job_next};
 ghost use Rattle.replay_state.specs.View.{action_of, call_of, calls_of, config_of, holds_of, home_of, item_of, job_of, next_of, vars_of};
 ghost use Rattle.replay_calls.specs.Reach.{area_of, memory_of, site_of};
-ghost use Rattle.replay_next.specs.Came.{came_of};
+ghost use Rattle.replay_next.specs.Remains.{came_of};
 
 use crate::driving::run_whole;
-use crate::items::ItemResult;
-use crate::{RunResult, Stop};
+use crate::remains::ItemResult;
+use crate::results::{RunResult, Stop};
 use replay_calls::{CowSlots, EvalContext, Memory, lent, slots_copied};
 use replay_state::{
     Action, Call, CallOwner, Config, Item, MonitorState, NextAction, ProcessState, Slot,
@@ -143,7 +143,7 @@ fn given_items<'a>(
 }
 
 /// What the items of a call come to, of which the first receives the value that is given, if there
-/// is one: only then are they copied.
+/// is one.
 fn run_given<'a>(
     scope: &EvalContext<'a>,
     home: CallOwner,

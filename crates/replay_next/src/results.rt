@@ -3,13 +3,10 @@
 ghost use Rattle.std.specs.Prelude.{◌≡◌, ◌++◌, ◌∷◌, [], IfOk, map, option_map};
 ghost use Rattle.source_semantics.specs.Run as run_of;
 ghost use Rattle.replay_state.specs.View.{action_of, calls_of, home_of, item_of, vars_of};
-ghost use Rattle.replay_next.specs.Ran.{aimed_of, aimed_at as aimed, listed, ran_of, with_aimed};
-ghost use Rattle.replay_calls.specs.Seen.{answer_of};
+ghost use Rattle.replay_next.specs.Ran.{listed, ran_of};
 
-use replay_calls::Answer;
-use replay_state::{Action, Call, CallOwner, Item, Slot, Target};
+use replay_state::{Action, Call, CallOwner, Item, Slot};
 use std::alloc::{AllocError, Global};
-use syntax_tree::Name;
 
 /// A visible action; after it remain calls inside this one, the innermost first, and items of this
 /// one.
@@ -29,20 +26,6 @@ pub enum RunResult<'a> {
     /// An exception.
     Fails(u32),
     Stops(Stop<'a>),
-}
-
-/// Arguments as the variables of the parameters, or the number of the exception of one of them.
-#[derive(Drop)]
-pub enum ArgumentsResult<'a> {
-    Params(Vec<Slot<'a>>),
-    Unbound(u32),
-}
-
-/// A variable to be stored to, or the number of the exception of its index.
-#[derive(Clone, Copy)]
-pub enum TargetResult<'a> {
-    At(Target<'a>),
-    Raised(u32),
 }
 
 /// A stop with nothing inside it, after which this much of its statement remains.
@@ -110,33 +93,4 @@ pub fn stopped_in<'a>(
         inside,
         rest: Vec::new(alloc),
     }))
-}
-
-/// An element to be stored to, whose index is evaluated.
-pub fn aimed_at<'a>(name: &'a Name, index: Answer) -> TargetResult<'a>
-    ensures { aimed_of result ≡ aimed name.now (answer_of index) }
-{
-    match index {
-        Answer::Raised(number) => TargetResult::Raised(number),
-        Answer::Word(at) => TargetResult::At(Target {
-            name,
-            index: Some(at),
-        }),
-    }
-}
-
-/// A stop for a value that the variable is to have.
-pub fn asks<'a>(
-    alloc: Global,
-    aim: TargetResult<'a>,
-    action: Action,
-) -> Result<RunResult<'a>, AllocError>
-    ensures { IfOk result (λ ran. (m : run_of.Memory) → ran_of ran m ≡
-        with_aimed (aimed_of aim.entry) m (λ t. run_of.stops (action_of action) []
-        (run_of.receive t ∷ []) m)) }
-{
-    match aim {
-        TargetResult::Raised(number) => Ok(RunResult::Fails(number)),
-        TargetResult::At(target) => stops(alloc, action, Some(Item::Receive(target))),
-    }
 }

@@ -5,15 +5,12 @@ ghost use Rattle.base.specs.Words.{is_true as is_truth};
 ghost use Rattle.syntax_tree.specs.Placed.{placed, placed_constant, plain, plain_constant};
 ghost use Rattle.source_semantics.specs.Names.{count_value, device_number as number_of_device, monitor_number as number_of_monitor};
 ghost use Rattle.source_semantics.specs.Run as run_of;
-ghost use Rattle.replay_state.specs.View.{home_of};
 ghost use Rattle.replay_calls.specs.Seen.{answer_of};
-ghost use Rattle.replay_calls.specs.Reach.{memory_of, site_of};
-ghost use Rattle.replay_next.specs.Ran.{aimed_of, ran_of, tested_run, with_aimed};
+ghost use Rattle.replay_calls.specs.Reach.{site_of};
+ghost use Rattle.replay_next.specs.Ran.{ran_of, tested_run};
 
-use crate::results::{RunResult, TargetResult, stops};
-use replay_calls::{
-    Answer, EvalContext, Memory, condition_here, device_number, is_true, monitor_number, store_to,
-};
+use crate::results::{RunResult, stops};
+use replay_calls::{Answer, EvalContext, condition_here, device_number, is_true, monitor_number};
 use replay_state::{Action, CallOwner, Item, count};
 use std::alloc::{AllocError, Global};
 use syntax_tree::{Constant, Name};
@@ -41,43 +38,6 @@ pub fn tested(answer: Answer) -> ConditionResult
                 ConditionResult::Not
             }
         }
-    }
-}
-
-/// What a store came to: the exception of range and index, where it was refused.
-fn after_store<'a>(done: bool) -> RunResult<'a>
-    ensures { (m : run_of.Memory) → ran_of result m ≡
-        cond done (run_of.goes m) (run_of.fails 3 m) }
-{
-    if done {
-        RunResult::Goes
-    } else {
-        RunResult::Fails(3)
-    }
-}
-
-/// An assignment to a variable.
-pub fn assigned<'a>(
-    alloc: Global,
-    home: CallOwner,
-    memory: &mut Memory<'_, 'a>,
-    aim: TargetResult<'a>,
-    answer: Answer,
-) -> Result<RunResult<'a>, AllocError>
-    ensures { IfOk result (λ ran. ran_of ran (memory_of memory.new) ≡
-        with_aimed (aimed_of aim.entry) (memory_of memory.old) (λ t.
-        run_of.with_value (answer_of answer) (memory_of memory.old) (λ v.
-        run_of.store_to (home_of home) (memory_of memory.old) t v))) }
-{
-    match aim {
-        TargetResult::Raised(number) => Ok(RunResult::Fails(number)),
-        TargetResult::At(target) => match answer {
-            Answer::Raised(number) => Ok(RunResult::Fails(number)),
-            Answer::Word(word) => {
-                let done = store_to(alloc, memory, home, target, word)?;
-                Ok(after_store(done))
-            }
-        },
     }
 }
 
@@ -159,7 +119,7 @@ pub fn waits<'a>(
     match home {
         CallOwner::Program | CallOwner::Process => Ok(RunResult::Goes),
         CallOwner::Monitor(mon) => {
-            let condition = condition_here(scope, home, depth, condition)?;
+            let condition = condition_here(scope, home, depth, condition);
             let action = Action::Waits {
                 condition,
                 limit: count(scope.declarations, limit),

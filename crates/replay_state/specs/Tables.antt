@@ -1,5 +1,6 @@
 -- Ranks and ceilings of a program by number, and the configurations of a program.
-use Rattle.std.specs.Prelude.{◌≡◌, ◌<◌, ◌&&◌, ℕ, Bool, true, List, [], ◌∷◌, None, is_some, length, not, slice_index, slice_index_or}
+use Rattle.std.specs.Prelude.{◌≡◌, ◌<◌, ℕ, Bool, List, None, is_some, length, not, slice_index, slice_index_or}
+use Rattle.std.specs.List.{list_all}
 use Rattle.syntax_tree.specs.Plain.{Program}
 use Rattle.source_semantics.specs.Names.{processes, monitors, condition_count}
 use Rattle.source_semantics.specs.Config.{Config, Hold}
@@ -20,5 +21,4 @@ pub record AreRanksOf (g : Program) (r : Ranks) : Type 0 where
 
 -- nobody is inside any of the monitors
 abbrev pub are_free : List Hold → Bool
-are_free [] = true
-are_free (h ∷ hs) = not (is_some h.occupant) && are_free hs
+are_free hs = list_all (λ h. not (is_some h.occupant)) hs

@@ -52,7 +52,7 @@ answers_of a = record { kind = plain_scalar (placed_scalar a.kind.now); value = 
 
 abbrev pub item_of : code_item.Item → run.Item
 item_of (item_is.DoAll ss) = run.do_all (plain_stmts (placed_stmts ss.now))
-item_of (item_is.TurnsLeft x v n ss) = run.turns_left x.now v n (plain_stmts (placed_stmts ss.now))
+item_of (item_is.TurnsLeft x t ss) = run.turns_left x.now t.value t.left (plain_stmts (placed_stmts ss.now))
 item_of (item_is.Receive t) = run.receive (target_of t)
 item_of (item_is.Store t v) = run.store (target_of t) v
 item_of (item_is.EnterAgain m) = run.enter_again m

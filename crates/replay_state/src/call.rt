@@ -1,5 +1,6 @@
 //! Calls in progress.
 
+use crate::turns::TurnsLeft;
 use crate::variables::Slot;
 use syntax_tree::{Expr, Name, Scalar, Stmt};
 
@@ -30,11 +31,10 @@ pub struct ResultExpr<'a> {
 #[derive(Clone, Copy)]
 pub enum Item<'a> {
     DoAll(&'a [Stmt]),
-    /// A loop with turns left, and the value of its variable in the next.
+    /// A loop with turns left.
     TurnsLeft {
         name: &'a Name,
-        value: i64,
-        left: u64,
+        turns: TurnsLeft,
         body: &'a [Stmt],
     },
     /// A store whose value is still to come.

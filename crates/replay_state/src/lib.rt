@@ -19,6 +19,7 @@ mod queues;
 mod raising;
 mod ranks;
 mod start;
+mod turns;
 mod variables;
 
 pub use call::{Action, Call, CallOwner, Item, NextAction, ResultExpr, Target};
@@ -29,4 +30,5 @@ pub use queues::{drop_all, drop_first, join, queue_at, released, take_out, wake,
 pub use raising::{AfterException, ProgramContext, count, prepare, raise};
 pub use ranks::Ranks;
 pub use start::{release, time_out};
+pub use turns::TurnsLeft;
 pub use variables::{Slot, SlotValue, Subrange, Words};

@@ -1,4 +1,3 @@
 pub mod Seeing
 pub mod Widths
-pub mod Ranges
 pub mod Tracing

@@ -3,5 +3,4 @@ pub mod Spans
 pub mod Responses
 pub mod Chart
 pub mod Columns
-pub mod Lengths
 pub mod Traces

@@ -7,20 +7,17 @@
 //!
 //! The lines are made of what is kept of each process while its run is drawn: `columns_of` gives
 //! the columns, a `Trace` keeps what a chart shows of a process, from letter to letter and from
-//! event to event (`specs/Traces.antt`), and `text_of` puts the lines of all.
+//! event to event (`specs/Traces.antt`). `vm_chart` puts the lines of all.
 #![tactic(auto)]
 
 mod column_widths;
 mod columns;
 mod letter;
 mod letters;
-mod lines;
-mod put;
 mod trace;
 
 pub use column_widths::{columns_of, end_of, first_tick};
 pub use columns::Columns;
 pub use letter::Letter;
 pub use letters::letter_of_picked;
-pub use lines::text_of;
 pub use trace::Trace;

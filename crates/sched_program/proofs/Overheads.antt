@@ -9,10 +9,10 @@ use Rattle.source_semantics.specs.Ranks.{rank}
 use Rattle.code_cost_spec.specs.Levels.{cost_of_process}
 use Rattle.sched_response.specs.declared.tasks.Task.{Task}
 use Rattle.sched_response.specs.Demand.{task_at}
-use Rattle.sched_slack.specs.Overhead.{with_overhead}
-use Rattle.sched_slack.specs.Overhead as overhead
-use Rattle.sched_slack.proofs.Overheads.{as_many}
-use Rattle.sched_slack.specs.Slack.{IsTimely}
+use Rattle.sched_sensitivity.specs.Overhead.{with_overhead}
+use Rattle.sched_sensitivity.specs.Overhead as overhead
+use Rattle.sched_sensitivity.proofs.Overheads.{as_many}
+use Rattle.sched_sensitivity.specs.Slack.{IsTimely}
 use Rattle.sched_program.specs.Tasks.{with_dispatches, AreTasksOf, IsInTime, IsTaskOf}
 use Rattle.sched_program.specs.WhyLaw.{HasOneTaskList, OverheadsAreAdded, OverheadsThatFitAreOfTheText, TasksInTimeAreProgramsInTime}
 use Rattle.sched_program.proofs.Within.{level_within}

@@ -4,9 +4,9 @@ use Rattle.syntax_tree.specs.Plain.{Process, Program}
 use Rattle.source_semantics.specs.Names.{processes}
 use Rattle.source_semantics.specs.Ranks.{rank}
 use Rattle.sched_response.specs.declared.tasks.Task.{Task}
-use Rattle.sched_slack.specs.declared.rows.ProcessFit.{ProcessFit}
-use Rattle.sched_slack.specs.Rows.{IsFitOf}
-use Rattle.sched_slack.specs.Lines.{fits_text}
+use Rattle.sched_sensitivity.specs.declared.rows.ProcessFit.{ProcessFit}
+use Rattle.sched_sensitivity.specs.Rows.{IsFitOf}
+use Rattle.sched_sensitivity.specs.Lines.{fits_text}
 use Rattle.sched_program.specs.Tasks.{AreTasksOf, IsInTime}
 
 -- ---- the overhead

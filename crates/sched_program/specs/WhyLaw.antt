@@ -7,8 +7,8 @@ use Rattle.sched_response.specs.declared.tasks.Task.{Task}
 use Rattle.sched_response.specs.Demand.{task_at, deadline_at, demand_at, AreTasks}
 use Rattle.sched_sections.specs.declared.levels.Level.{Level}
 use Rattle.sched_sections.specs.Levels.{level_at, tasks_in}
-use Rattle.sched_slack.specs.Slack.{IsTimely}
-use Rattle.sched_slack.specs.Overhead.{with_overhead, IsOverheadFit}
+use Rattle.sched_sensitivity.specs.Slack.{IsTimely}
+use Rattle.sched_sensitivity.specs.Overhead.{with_overhead, IsOverheadFit}
 use Rattle.sched_program.specs.Tasks.{AreTasksOf, IsInTime}
 use Rattle.sched_program.specs.Fits.{IsOverheadOf}
 use Rattle.sched_program.specs.Levels.{AreLevelsOf}

@@ -2,7 +2,7 @@
 //!
 //! The family Schedulability: the analysis, over numbers of tasks, and its theorems, over abstract
 //! runs. `sched_response` has the model and finds the least bounds, `sched_theorem` proves that
-//! they hold, `sched_timing` that runs of the machine are such runs; `sched_slack` and
+//! they hold, `sched_timing` that runs of the machine are such runs; `sched_sensitivity` and
 //! `sched_demand` are the two further tests, `sched_table` what is shown.
 //!
 //! `specs/Demand.antt` is the recurrence of the response times, in which suspension counts as

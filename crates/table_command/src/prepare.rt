@@ -5,6 +5,7 @@ ghost use Rattle.command_answers.specs.Acting.{CanBeDone, IsQuiet};
 ghost use Rattle.command_answers.specs.Acts.{outcome_of};
 ghost use Rattle.command_answers.specs.Contents.{IsContent};
 ghost use Rattle.command_answers.specs.Prepared.{Prepares};
+ghost use Rattle.command_answers.specs.OnlyReads.{OnlyReads};
 ghost use Rattle.command_answers.specs.Tried.{HasTried, status_of};
 ghost use Rattle.command_refusals.specs.Refusals.{Explains, IsExplained};
 ghost use Rattle.command_refusals.specs.Told.{IsTableTold};
@@ -13,7 +14,6 @@ ghost use Rattle.command_due.specs.CommandsDue.{told};
 ghost use Rattle.command_due.specs.TableDue.{IsTableDue, table_fault_line as line_of_fault};
 ghost use Rattle.command_words.specs.Calls as call;
 ghost use Rattle.message_table.specs.Message as message_of;
-ghost use Rattle.outside.specs.Outside.{AllStay, NoneFell};
 ghost use Rattle.table_format.specs.Program.{table_text as text_of_table};
 ghost use Rattle.table_format.specs.Rules.{longest_text};
 ghost use Rattle.table_reader.specs.Answer.{Answers};
@@ -169,13 +169,9 @@ pub fn prepare_table<'a, F: Files>(
 ) -> Result<PreparedCall<'a>, PrepareError<'a>>
     ensures prepared { Prepares F.tells (call.table tasks.now program.now) (F.state files.old)
         (F.state files.new) result }
-    ensures files { AllStay (F.state files.old).held (F.state files.new).held }
-    ensures read_counts { NoneFell (F.state files.old).read_faults (F.state files.new).read_faults }
-    ensures write_counts { NoneFell (F.state files.old).write_faults
-        (F.state files.new).write_faults }
+    ensures only_reads { OnlyReads (F.state files.old) (F.state files.new) }
     ensures reads { HasTried (tasks.now ∷ []) (F.state files.old).reads
         (F.state files.new).reads (status_of result) }
-    ensures writes { (F.state files.new).writes ≡ (F.state files.old).writes }
     ensures told { IfOk result (IsExplained F.tells (call.table tasks.now program.now)
         (F.state files.old).held message.new) }
 {

@@ -1,6 +1,11 @@
 //! Images from any hand under earliest deadline first.
 
-use image_loaded::{AdmittedRun, EdfFault, EdfImage, Shape, images_of_files_can_be_run};
+ghost use Rattle.std.specs.Prelude.{IfOk};
+ghost use Rattle.image_loaded.specs.Shape.{AreOf};
+
+use command_perform::Ready;
+use edf_admission::{EdfFault, EdfImage, images_of_files_can_be_run};
+use image_loaded::{FileFault, Shape};
 use outside::MemorySink;
 use sched_demand::Judgement;
 use script::read_script;
@@ -25,14 +30,25 @@ const TWO: &[u8] = &[
 const LOG: &str =
     "0 p release\n0 q release\n10 p put a 1\n14 p end\n25 q put a 2\n30 p release\n36 q put a 3\n40 q end\n51 p put a 1\n52 q release\n55 p end\n";
 
+/// The shape that the bytes are.
+fn load(alloc: Global, bytes: &[u8]) -> Result<Shape, Fail>
+    ensures { IfOk result (λ shape. AreOf bytes.now shape) }
+{
+    match Shape::load(alloc, Vec::from_slice(alloc, bytes)?) {
+        Ok(shape) => Ok(shape),
+        Err(FileFault::Memory) => Err(Fail::from(AllocError)),
+        Err(_) => Err(Fail::new("no shape")),
+    }
+}
+
 /// Puts the log of the image that the bytes are, over the script.
 fn put_log(alloc: Global, bytes: &[u8], text: &[u8], out: &mut MemorySink) -> Result<(), Fail> {
-    let shape = Shape::load(alloc, Vec::from_slice(alloc, bytes)?)?;
-    let image = EdfImage::admit(alloc, shape)?;
+    let image = EdfImage::admit(alloc, load(alloc, bytes)?)?;
     let script = read_script(alloc, text, image.shape().names())?;
     images_of_files_can_be_run(&image);
-    let mut run = AdmittedRun::new(alloc, &image, &script)?;
-    match run.run(&image, &script, out) {
+    let run = image.over(script);
+    let mut ready = Ready::new(alloc, &run)?;
+    match ready.put_log(out) {
         Ok(()) => Ok(()),
         Err(_) => Err(Fail::new("a put failed")),
     }
@@ -113,7 +129,7 @@ fn answers(alloc: Global, shape: Shape, want: Option<EdfFault>) -> Result<(), Fa
 fn answer(alloc: Global, bytes: &[u8], rows: &[Row]) -> Result<(), Fail> {
     for &(changes, want) in rows {
         let changed = with_changes(alloc, bytes, changes)?;
-        answers(alloc, Shape::load(alloc, changed)?, want)?;
+        answers(alloc, load(alloc, changed.as_slice())?, want)?;
     }
     Ok(())
 }

@@ -1,6 +1,8 @@
 //! What the loader tells of changed bytes.
 
-use image_loaded::{Image, Shape, ValidFault};
+use crate::images::load;
+use image_loaded::{FileFault, Image};
+use message_log::test_number;
 use std::alloc::{AllocError, Global};
 use std::test::Fail;
 
@@ -42,18 +44,22 @@ const CHANGED: &[Changed] = &[
     (97, 1, "I7 94"),
 ];
 
-fn told_image(alloc: Global, fault: Option<ValidFault>) -> Result<String, Fail> {
-    match fault {
-        None => Ok(String::from_str(alloc, "ok")?),
-        Some(fault) => Ok(format!(in alloc; "{fault}")?),
+/// The answer to bytes: ok, or the fault.
+fn told(alloc: Global, bytes: Vec<u8>) -> Result<String, Fail> {
+    match Image::load(alloc, bytes) {
+        Ok(_) => Ok(String::from_str(alloc, "ok")?),
+        Err(fault) => told_fault(alloc, &fault),
     }
 }
 
-/// The answer to bytes: ok, or the fault.
-fn told(alloc: Global, bytes: Vec<u8>) -> Result<String, Fail> {
-    match Shape::load(alloc, bytes) {
-        Ok(shape) => told_image(alloc, Image::of(shape).err()),
-        Err(fault) => Ok(format!(in alloc; "{fault}")?),
+fn told_fault(alloc: Global, fault: &FileFault) -> Result<String, Fail> {
+    match fault {
+        FileFault::Image { number, offset } => Ok(format!(in alloc; "I{number} {offset}")?),
+        FileFault::Invalid { fault, .. } => {
+            let number = test_number(fault.subject);
+            Ok(format!(in alloc; "V{number} {} {}", fault.a, fault.b)?)
+        }
+        FileFault::Memory => Err(Fail::from(AllocError)),
     }
 }
 
@@ -95,16 +101,10 @@ fn tells_each_changed_byte(rt: HostRuntime) -> Result<(), Fail> {
     answer(rt.alloc(), idle.as_slice(), CHANGED)
 }
 
-fn copy(alloc: Global, bytes: &[u8]) -> Result<Vec<u8>, Fail> {
-    Ok(Vec::from_slice(alloc, bytes)?)
-}
-
-/// The bytes that a shape keeps of these.
+/// The bytes that an image keeps of these.
 fn kept(alloc: Global, bytes: Vec<u8>) -> Result<Vec<u8>, Fail> {
-    let shape = Shape::load(alloc, bytes)?;
-    let bytes = copy(alloc, shape.bytes());
-    drop(shape);
-    bytes
+    let image = load(alloc, bytes)?;
+    Ok(Vec::from_slice(alloc, image.bytes())?)
 }
 
 fn are(bytes: &[u8], want: &[u8]) -> Result<(), Fail> {

@@ -10,6 +10,8 @@ mod admission;
 #[cfg(test)]
 mod changed_bytes;
 #[cfg(test)]
+mod images;
+#[cfg(test)]
 mod loads;
 #[cfg(test)]
 mod numbers;

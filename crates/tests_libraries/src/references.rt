@@ -1,7 +1,8 @@
 //! Parts of a loaded image by their numbers.
 
+use crate::images::load;
+use image_bytes::ImageBytes;
 use image_format::{SegBytes, SegItem};
-use image_loaded::Shape;
 use machine_isa::Instr;
 use std::test::Fail;
 
@@ -12,7 +13,7 @@ const ROOM: &str =
     "5254455500020000000100010000000000000001000000080161016d0000000000000001000102000000000000000000000000000000001000000000000000000000000700000001050000000000010100000002017000000000640000005a00000005000000010000001a0000000000000000000000000000001a000000000000000300000000000000050000000700020001000200000001040000000000002600000000000000000000000001000000070000000000000000070000000000000000000000002700000000000000000000000024000000000000000000000000230000000000000000000000003000000000000000000000000030000000000000000000000000";
 
 /// The numbers of the routine.
-fn has_routine(room: &Shape) -> bool {
+fn has_routine(room: &ImageBytes) -> bool {
     if room.routines() != 1 {
         return false;
     }
@@ -21,7 +22,7 @@ fn has_routine(room: &Shape) -> bool {
 }
 
 /// The tree of the routine.
-fn has_routine_tree(room: &Shape) -> bool {
+fn has_routine_tree(room: &ImageBytes) -> bool {
     if room.routines() != 1 {
         return false;
     }
@@ -40,7 +41,7 @@ fn has_line(tree: SegBytes<'_>, count: u32) -> bool {
 }
 
 /// The monitor.
-fn has_monitor(room: &Shape) -> bool {
+fn has_monitor(room: &ImageBytes) -> bool {
     if room.monitors() != 1 {
         return false;
     }
@@ -49,7 +50,7 @@ fn has_monitor(room: &Shape) -> bool {
 }
 
 /// The numbers of the process.
-fn has_process(room: &Shape) -> bool {
+fn has_process(room: &ImageBytes) -> bool {
     if room.processes() != 1 {
         return false;
     }
@@ -67,7 +68,7 @@ fn has_process(room: &Shape) -> bool {
 }
 
 /// The numbers that its handler takes.
-fn has_numbers(room: &Shape) -> bool {
+fn has_numbers(room: &ImageBytes) -> bool {
     if room.processes() != 1 {
         return false;
     }
@@ -76,7 +77,7 @@ fn has_numbers(room: &Shape) -> bool {
 }
 
 /// Its trees.
-fn has_process_trees(room: &Shape) -> bool {
+fn has_process_trees(room: &ImageBytes) -> bool {
     if room.processes() != 1 {
         return false;
     }
@@ -92,14 +93,14 @@ fn has_process_trees(room: &Shape) -> bool {
 }
 
 /// Its code.
-fn has_code(room: &Shape) -> bool {
+fn has_code(room: &ImageBytes) -> bool {
     room.code_len() == 8
         && room.instr(1) == Instr::Push { value: 7 }
         && room.instr(5) == Instr::Call { routine: 0 }
         && room.instr(7) == Instr::End
 }
 
-fn has_parts(room: &Shape) -> Result<(), Fail> {
+fn has_parts(room: &ImageBytes) -> Result<(), Fail> {
     if has_routine(room)
         && has_routine_tree(room)
         && has_monitor(room)
@@ -117,8 +118,8 @@ fn has_parts(room: &Shape) -> Result<(), Fail> {
 
 #[test]
 fn gives_parts_by_their_numbers(rt: HostRuntime) -> Result<(), Fail> {
-    let room = Shape::load(rt.alloc(), hex::decode(rt.alloc(), ROOM)?)?;
-    let held = has_parts(&room);
+    let room = load(rt.alloc(), hex::decode(rt.alloc(), ROOM)?)?;
+    let held = has_parts(room.image());
     drop(room);
     held
 }

@@ -1,10 +1,12 @@
 //! Scripts and logs, read for the names of a small program.
 
 ghost use Rattle.std.specs.Prelude.{◌≡◌, ◌+◌, ◌≤◌, ◌^◌, IfOk, OnOk, length};
+ghost use Rattle.event_log.specs.Finding.{AreFound};
 ghost use Rattle.event_log.specs.Logs.{AreFew};
+ghost use Rattle.event_log.specs.Reader.{IsReader};
 
 use base::{Act, Event};
-use event_log::read_log;
+use event_log::{LogFault, LogReader, NameIndex, condition_names};
 use image::{DeviceName, EventName, ImageNames};
 use script::{Script, ScriptLine, read_script};
 use std::alloc::{AllocError, Global};
@@ -194,22 +196,37 @@ const LOGS: &[Row] = &[
     ("L1 3", "0 p release\n10 p put valve 7\n14 p end"),
 ];
 
-fn reads_log(alloc: Global, names: &ImageNames, row: &Row) -> Result<(), Fail>
-    requires { AreFew names.now }
+fn read_lines(index: &NameIndex<'_, '_>, text: &[u8]) -> Result<(), LogFault>
+    requires { AreFound index.now }
 {
-    match read_log(alloc, row.1.as_bytes(), names).err() {
+    let mut reader = LogReader::new(index, text)?;
+    reader.read_to_end()
+}
+
+fn reads_log(alloc: Global, index: &NameIndex<'_, '_>, row: &Row) -> Result<(), Fail>
+    requires { AreFound index.now }
+{
+    match read_lines(index, row.1.as_bytes()).err() {
         None => is("ok", row),
         Some(fault) => tells(alloc, fault, row),
     }
 }
 
+fn reads_rows(alloc: Global, index: &NameIndex<'_, '_>, rows: &[Row]) -> Result<(), Fail>
+    requires { AreFound index.now }
+{
+    for row in rows {
+        reads_log(alloc, index, row)?;
+    }
+    Ok(())
+}
+
 fn reads_logs(alloc: Global, names: &ImageNames, rows: &[Row]) -> Result<(), Fail>
     requires { AreFew names.now }
 {
-    for row in rows {
-        reads_log(alloc, names, row)?;
-    }
-    Ok(())
+    let conditions = condition_names(alloc, names)?;
+    let index = NameIndex::new(alloc, names, &conditions)?;
+    reads_rows(alloc, &index, rows)
 }
 
 #[test]
@@ -220,33 +237,45 @@ fn logs_and_their_faults(rt: HostRuntime) -> Result<(), Fail> {
     read
 }
 
-fn has_events(events: &[Event], want: &[Event]) -> Result<(), Fail> {
-    if events == want {
+fn next_is(reader: &mut LogReader<'_>, want: Option<Event>) -> Result<(), Fail>
+    requires { IsReader reader.old }
+    ensures { OnOk result (IsReader reader.new) }
+{
+    if reader.next()? == want {
         return Ok(());
     }
-    Err(Fail::new("the log has other events"))
+    Err(Fail::new("the log has another event"))
+}
+
+fn has_events(index: &NameIndex<'_, '_>, text: &[u8]) -> Result<(), Fail>
+    requires { AreFound index.now }
+{
+    let mut reader = LogReader::new(index, text)?;
+    next_is(&mut reader, Some(FIRST))?;
+    next_is(&mut reader, Some(SECOND))?;
+    next_is(&mut reader, None)
 }
 
 fn is_log(alloc: Global, names: &ImageNames, text: &[u8]) -> Result<(), Fail>
     requires { AreFew names.now }
 {
-    let events = read_log(alloc, text, names)?;
-    has_events(events.as_slice(), EVENTS)
+    let conditions = condition_names(alloc, names)?;
+    let index = NameIndex::new(alloc, names, &conditions)?;
+    has_events(&index, text)
 }
 
 /// What the test's log tells.
-const EVENTS: &[Event] = &[
-    Event {
-        tick: 0,
-        proc: 0,
-        act: Act::Release,
-    },
-    Event {
-        tick: 9,
-        proc: 0,
-        act: Act::Get { dev: 1, value: -7 },
-    },
-];
+const FIRST: Event = Event {
+    tick: 0,
+    proc: 0,
+    act: Act::Release,
+};
+
+const SECOND: Event = Event {
+    tick: 9,
+    proc: 0,
+    act: Act::Get { dev: 1, value: -7 },
+};
 
 #[test]
 fn the_events_of_a_log(rt: HostRuntime) -> Result<(), Fail> {

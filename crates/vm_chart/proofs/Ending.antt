@@ -10,7 +10,6 @@ use Rattle.run_chart.specs.declared.columns.Columns.{Columns}
 use Rattle.run_chart.specs.declared.letter.Letter.{Letter}
 use Rattle.run_chart.specs.declared.letter.Letter.TheVariants.{Blank}
 use Rattle.run_chart.specs.Letters.{drawn, first_of, letter_at}
-use Rattle.run_chart.specs.Responses.{longest}
 use Rattle.run_chart.specs.Spans.{first_tick, shown}
 use Rattle.run_chart.specs.declared.trace.Trace.{Trace}
 use Rattle.run_chart.specs.Columns.{end_of}

@@ -3,3 +3,4 @@ pub mod Ending
 pub mod Few
 pub mod Tracing
 pub mod Following
+mod Ranges

@@ -18,6 +18,8 @@ use Rattle.run_chart.proofs.Seeing.{seen_to}
 use Rattle.vm_stretch.specs.RowLaws.{begun}
 use Rattle.vm_runner.specs.Alike.{StayAlike}
 use Rattle.vm_runner.specs.Standing.{events_between}
+use Rattle.vm_runner.specs.ByRanks.{by_ranks}
+use Rattle.vm_runner.proofs.ByRanks.{cut}
 use Rattle.vm_runner.proofs.Cut.{cut_at}
 use Rattle.vm_chart.specs.Follows.{Drawing, Each, IsBeforeLastTick, IsDrawnTo, IsFresh, begins, events_before}
 use Rattle.vm_chart.proofs.Alike.{same_letter}
@@ -66,7 +68,7 @@ module _ (image : Image) (script : Script) where
   pub before_later : (t u : ℕ) → t ≤ u → events_before image script u ≡ events_before image script t ++ events_between image script t u
   before_later t u later =
       sym (from_start u)
-      ∙ (cut_at image script 0 t u (omega arith) later ∙ ap (λ (es : List Event). es ++ events_between image script t u) (from_start t))
+      ∙ (cut_at (by_ranks image script) (cut image script) 0 t u (omega arith) later ∙ ap (λ (es : List Event). es ++ events_between image script t u) (from_start t))
 
   all_events : events image script ≡ events_before image script script.end_tick
   unfolding events

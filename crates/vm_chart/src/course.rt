@@ -14,13 +14,13 @@ use crate::traces::{end_all, note_all, see_all, traces_of};
 use run_chart::{Columns, Trace, end_of};
 use script::Script;
 use std::alloc::{AllocError, Global};
-use vm_runner::Machine;
+use vm_runner::{Machine, Ranking};
 use vm_state::DecodedImage;
 
 /// A run that is drawn: its machine, and by process what was seen of it.
 #[derive(Drop)]
 pub(crate) struct Course {
-    pub machine: Machine,
+    pub machine: Machine<Ranking>,
     pub traces: Vec<Trace>,
 }
 
@@ -42,7 +42,7 @@ impl Course {
           column = 0;
         }) course) }
     {
-        let machine = Machine::new(alloc, plan, script)?;
+        let machine = Machine::by_ranks(alloc, plan, script)?;
         let traces = traces_of(alloc, plan.processes.len())?;
         Ok(Course { machine, traces })
     }

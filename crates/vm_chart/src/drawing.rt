@@ -1,7 +1,6 @@
 //! The chart of a run.
 
 ghost use Rattle.std.specs.Prelude.{◌≡◌, ◌≤◌, All, IfOk};
-ghost use Rattle.image.specs.Raw.{image_of, named_of};
 ghost use Rattle.machine_semantics.specs.Run.{events};
 ghost use Rattle.run_chart.specs.Chart.{chart_in, chart_text};
 ghost use Rattle.vm_chart.specs.Follows.{AreColumns, Drawing, IsBeforeLastTick};
@@ -10,8 +9,9 @@ ghost use Rattle.vm_runner.specs.Runnable.{IsRunnable};
 ghost use Rattle.vm_state.specs.Plan.{IsOf};
 
 use crate::course::Course;
-use image::RawImage;
-use run_chart::{Columns, columns_of, text_of};
+use crate::lines::text_of;
+use image_bytes::ImageBytes;
+use run_chart::{Columns, columns_of};
 use script::Script;
 use std::alloc::{AllocError, Global};
 use syntax_tree::Text;
@@ -21,25 +21,25 @@ use vm_state::DecodedImage;
 /// memory is short.
 fn chart_in(
     alloc: Global,
-    image: &RawImage,
+    image: &ImageBytes,
     plan: &DecodedImage,
     script: &Script,
     columns: &Columns,
 ) -> Result<Text, AllocError>
     ghost drawing: { Drawing }
     requires drawing { drawing ≡ record {
-      image = image_of image.now;
+      image = image.now.image;
       script = script_of script.now;
       columns = columns.now;
       column = 0;
     } }
-    requires plan { IsOf (image_of image.now) plan.now }
-    requires runnable { IsRunnable (image_of image.now) (script_of script.now) }
-    requires timely { All IsBeforeLastTick (events (image_of image.now) (script_of script.now)) }
+    requires plan { IsOf image.now.image plan.now }
+    requires runnable { IsRunnable image.now.image (script_of script.now) }
+    requires timely { All IsBeforeLastTick (events image.now.image (script_of script.now)) }
     requires columns { AreColumns columns.now }
     requires limit { columns.now.end ≤ script.now.end }
     ensures { IfOk result (λ text. text ≡
-        chart_in (named_of image.now) (script_of script.now) columns.now) }
+        chart_in image.now (script_of script.now) columns.now) }
 {
     let mut course = Course::new(alloc, plan, script)?;
     course.go_to(plan, script, columns.first, columns.first.min(columns.end));
@@ -52,18 +52,18 @@ fn chart_in(
 /// is short.
 pub fn chart(
     alloc: Global,
-    image: &RawImage,
+    image: &ImageBytes,
     plan: &DecodedImage,
     script: &Script,
     first: u64,
     end: u64,
 ) -> Result<Text, AllocError>
-    requires plan { IsOf (image_of image.now) plan.now }
-    requires runnable { IsRunnable (image_of image.now) (script_of script.now) }
-    requires timely { All IsBeforeLastTick (events (image_of image.now) (script_of script.now)) }
+    requires plan { IsOf image.now.image plan.now }
+    requires runnable { IsRunnable image.now.image (script_of script.now) }
+    requires timely { All IsBeforeLastTick (events image.now.image (script_of script.now)) }
     requires short { script.now.end ≤ 1000000000 }
     ensures { IfOk result (λ text. text ≡
-        chart_text (named_of image.now) (script_of script.now) first end) }
+        chart_text image.now (script_of script.now) first end) }
 {
     let columns = columns_of(first, end.min(script.end()));
     chart_in(alloc, image, plan, script, &columns)

@@ -1,6 +1,6 @@
 //! The chart of a run, drawn.
 //!
-//! `run_chart` says what a chart is and puts its lines. `chart` lets the machine go by
+//! `run_chart` says what a chart is. `chart` lets the machine go by
 //! whole rows to the first tick that is shown, and then turn by turn to the last. In all ticks of a
 //! turn each process has the same letter (`letters`), so one look at each turn tells them; no turn
 //! passes the end of a column. Of the events it counts ends, and measures responses. It takes memory
@@ -12,6 +12,8 @@
 mod course;
 mod drawing;
 mod letters;
+mod lines;
+mod put;
 mod traces;
 
 pub use drawing::chart;

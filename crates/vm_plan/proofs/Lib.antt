@@ -1,5 +1,3 @@
-pub mod Lists
-pub mod PlanPlanning
 pub mod Growing
-pub mod PlanBytesPlanning
+pub mod PlanPlanning
 pub mod Planned

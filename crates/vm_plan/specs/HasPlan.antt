@@ -1,11 +1,9 @@
 -- What is asked of an image for its plan.
 use Rattle.std.specs.Prelude.{◌≡◌, ◌≤◌, ◌<◌, ◌+◌, ℕ, false, All, Option, Some, None, length, slice_get}
-use Rattle.image.specs.declared.raw.RawRoutine.{RawRoutine}
 use Rattle.machine_isa.specs.declared.instr.Instr.{Instr}
 use Rattle.machine_semantics.specs.Trees.{Segs, size}
 use Rattle.machine_semantics.specs.Image.{Image, Process, Routine, end_of}
 use Rattle.vm_state.specs.Plan.{HasNumbers}
-use Rattle.vm_instructions.specs.declared.calls.RoutineHeader.{RoutineHeader as Called}
 
 -- the tree of a handler, if there is one, ends in code of so many instructions
 abbrev pub HandlerEnds : ℕ → ℕ → Option Segs → Type 0
@@ -28,7 +26,3 @@ pub record HasPlan (image : Image) : Type 0 where
   pub processes : All (CanRun (length image.code)) image.processes
   pub few : length image.processes ≤ 64
   pub monitors : length image.monitors ≤ 64
-
--- what a call needs to know of a routine
-abbrev pub called_of : RawRoutine → Called
-called_of r = record { params = r.params; locals = r.locals; start = r.start }

@@ -3,13 +3,12 @@ use Rattle.std.specs.Prelude.{ℕ, List}
 use Rattle.base.specs.declared.event.Event.{Event}
 use Rattle.image.specs.declared.names.ImageNames.{ImageNames}
 use Rattle.event_log.specs.Line.{log_of}
-use Rattle.machine_semantics.specs.Image.{Image, Script}
-use Rattle.vm_runner.specs.Standing.{events_between}
+use Rattle.vm_runner.specs.Course.{Course, events_between}
 
 -- the events of the run from a tick up to the end of the script
-abbrev pub coming : Image → Script → ℕ → List Event
-coming image script from = events_between image script from script.end_tick
+abbrev pub coming : Course → ℕ → List Event
+coming c from = events_between c from c.script.end_tick
 
 -- their lines in the log
-abbrev pub log_to_come : Image → Script → ImageNames → ℕ → List ℕ
-log_to_come image script names from = log_of names (coming image script from)
+abbrev pub log_to_come : Course → ImageNames → ℕ → List ℕ
+log_to_come c names from = log_of names (coming c from)

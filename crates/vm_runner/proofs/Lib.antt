@@ -1,8 +1,10 @@
 pub mod Due
 pub mod Waiting
 pub mod Passing
+pub mod Going
 pub mod Rowing
 pub mod Turning
+pub mod ByRanks
 pub mod Ending
 pub mod Telling
 pub mod Cut

@@ -1,25 +1,22 @@
--- A turn of the process that is picked.
-use Rattle.std.proofs.Common.{◌≡◌, ◌≤◌, ◌<◌, ◌+◌, ◌-◌, ◌++◌, ℕ, zero, suc, false, List, [], Option, Some, None, inl, length, arith, refl, ap, sym, subst, ◌∙◌}
+-- A turn of the process that is picked, by ranks.
+use Rattle.std.proofs.Common.{◌≡◌, ◌≤◌, ◌<◌, ◌+◌, ◌-◌, ◌++◌, ℕ, false, List, [], Option, Some, None, length, arith, refl, ap, sym, subst, ◌∙◌}
 use Rattle.std.specs.Prelude.{slice_get}
 use Rattle.std.proofs.lemmas.List.{append-nil}
 use Rattle.std.proofs.lemmas.Option.{slice_get_within}
 use Rattle.base.specs.declared.event.Event.{Event}
-use Rattle.machine_isa.specs.declared.instr.Instr.{Instr}
 use Rattle.machine_semantics.specs.Image.{Image, Process, Script}
 use Rattle.machine_semantics.specs.State.{Job, Thread, Ready, State}
-use Rattle.machine_semantics.specs.Starts.{starts}
 use Rattle.machine_semantics.specs.Tick.{Ticked, owned_of, pick, settle}
 use Rattle.machine_semantics.specs.Run.{events_from, state_at}
-use Rattle.vm_stretch.specs.Stretch.{FitsIn, FitsThread, left, left_of, outcomes, pass, pass_thread, place_of}
+use Rattle.vm_stretch.specs.Stretch.{FitsIn, FitsThread, left, outcomes, pass, pass_thread, place_of}
 use Rattle.vm_stretch.specs.StretchDue.{time_out_of}
 use Rattle.vm_stretch.specs.StretchLaws.{IsTurnOfRun, turn, turn_events, turned}
 use Rattle.vm_stretch.specs.Quiet.{AreQuiet}
 use Rattle.vm_stretch.specs.RowLaws.{IsSafeRun, begun}
 use Rattle.vm_stretch.proofs.Runs.{turn_keeps_events, turn_stays_in_run}
-use Rattle.vm_turn.specs.Own.{IsEarly}
 use Rattle.vm_turn.specs.Settled.{CanPass}
 use Rattle.vm_turn.proofs.Safely.{Found, picked, turn_can_pass}
-use Rattle.vm_runner.specs.Turn.{AreEarly, HasPassed, Run}
+use Rattle.vm_runner.specs.Turn.{Run}
 use Rattle.vm_runner.specs.Waits.{WaitsFrom, is_some_at_queue}
 use Rattle.vm_runner.proofs.Waiting.{settle_alone, settle_from, settle_same}
 
@@ -46,19 +43,8 @@ is_ready image s k is =
     let ready : slice_get s.threads k ≡ Some (Ready f.job) = subst (λ (m : ℕ). slice_get s.threads m ≡ Some (Ready f.job)) same f.ready in
     record { job = f.job; ready = ready; below = slice_get_within s.threads k (Ready f.job) ready }
 
--- of what is early some is left
-pub some_left : (image : Image) (job : Job) → IsEarly image job → 1 ≤ left image job
-some_left image job early = by job.dispatch_ticks (slice_get image.code job.place) refl where
-  by : (b : ℕ) (o : Option Instr) → slice_get image.code job.place ≡ o → 1 ≤ left_of b job.done o
-  by (suc b) o at = omega arith
-  by zero None at = omega arith
-  by zero (Some instr) at = let below = early instr at in omega (arith, below)
-
 pub fits_in : (image : Image) (n k : ℕ) (s : State) (job : Job) → slice_get s.threads k ≡ Some (Ready job) → n ≤ left image job → FitsIn image n s (Some k)
 fits_in image n k s job ready fits = subst (λ (x : Option Thread). FitsThread image n x) (sym ready) fits
-
-pub are_early : (image : Image) (script : Script) (t : ℕ) (s : State) → IsSafeRun image script → s ≡ begun image script t → AreEarly image s
-are_early image script t s safe is k job at instr at_instr = safe.early t k job instr (ap (λ (x : State). slice_get x.threads k) (sym is) ∙ at) at_instr
 
 -- ---- the turn
 
@@ -121,10 +107,7 @@ idle_turn run t n s is who some quiet = may_turn run t n None (picked_at run t N
 pub turn_from : (run : Run) (t n : ℕ) (who : Option ℕ) (s : State) → s ≡ begun run.image run.script t → place_of (pick run.image s.threads) ≡ who → pass run.image t n s who ≡ turn_of run t n
 turn_from run t n who s is at = ap (λ (x : State). pass run.image t n x who) is ∙ sym (turn_is run t n who (picked_at run t who s is at))
 
-pub can_pass : (run : Run) (t n k : ℕ) (s : State) → IsSafeRun run.image run.script → s ≡ begun run.image run.script t → place_of (pick run.image s.threads) ≡ Some k → IsTurn run t n → CanPass run.image n k s
-can_pass run t n k s safe is at it = subst (λ (x : State). CanPass run.image n k x) (sym is) (turn_can_pass run.image run.script t n k safe it (picked_at run t (Some k) s is at))
-
--- ---- what has passed
+-- ---- its events
 
 pub none_from : (image : Image) (script : Script) (t : ℕ) (s : State) → events_from image script 0 t s ≡ []
 unfolding events_from
@@ -140,37 +123,3 @@ turn_alone image script t n safe it =
     ∙ turn_keeps_events image script t n 0 at it free
     ∙ ap (λ (xs : List Event). turn_events image script t n at ++ xs) (none_from image script (t + n) (turned image script t n at))
     ∙ append-nil (turn_events image script t n at)
-
--- a turn of the process that is picked
-pub picked_passes : (run : Run) (t n k : ℕ) (s s' : State) (es es' : List Event) → IsSafeRun run.image run.script → IsTurn run t n → s ≡ begun run.image run.script t → place_of (pick run.image s.threads) ≡ Some k → s' ≡ (turn_of run t n).state → es' ≡ es ++ (turn_of run t n).events
-    → HasPassed run t n s' es es'
-picked_passes run t n k s s' es es' safe it is at is' told =
-    let kept : KeepsWaits run t n k = keeps_waits run t n k safe it (picked_at run t (Some k) s is at) in
-    record {
-      some = it.some;
-      state = is' ∙ sym (turn_stays_in_run run.image run.script safe.unstuck t n it).1;
-      fell = (turn_of run t n).events;
-      told = told;
-      events = turn_alone run.image run.script t n safe it;
-      waits = subst (λ (x : State). WaitsFrom (t + n) (begun run.image run.script t).threads x.threads) (sym is') kept.later;
-      same = λ quiet j. ap (λ (x : State). time_out_of (slice_get x.threads j)) is' ∙ kept.same quiet j;
-      alone = λ quiet j apart.
-          ap (λ (x : State). slice_get x.threads j) is'
-          ∙ kept.alone quiet j (λ same. apart (picked_at run t (Some k) s is at ∙ ap (λ (m : ℕ). Some m) same));
-    }
-
--- a turn in which nobody runs
-pub idle_passes : (run : Run) (t n : ℕ) (s : State) (es : List Event) → IsSafeRun run.image run.script → s ≡ begun run.image run.script t → place_of (pick run.image s.threads) ≡ None → 1 ≤ n → AreQuiet run.image run.script t n s → HasPassed run t n s es es
-idle_passes run t n s es safe is none some quiet =
-    let it : IsTurn run t n = idle_turn run t n s is none some quiet in
-    let all : turn_of run t n ≡ record { state = s; events = []; stuck = false } = sym (turn_from run t n None s is none) in
-    record {
-      some = some;
-      state = ap (λ (x : Ticked). x.state) (sym all) ∙ sym (turn_stays_in_run run.image run.script safe.unstuck t n it).1;
-      fell = [];
-      told = sym (append-nil es);
-      events = turn_alone run.image run.script t n safe it ∙ ap (λ (x : Ticked). (starts run.image run.script t (state_at run.image run.script t)).events ++ x.events) all;
-      waits = λ j c d e job at. inl (ap (λ (x : State). slice_get x.threads j) (sym is) ∙ at);
-      same = λ quiet j. ap (λ (x : State). time_out_of (slice_get x.threads j)) is;
-      alone = λ quiet j apart. ap (λ (x : State). slice_get x.threads j) is;
-    }

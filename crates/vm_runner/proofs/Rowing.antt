@@ -1,4 +1,4 @@
--- A row of instructions of the process that is picked, and what ends it.
+-- A row of instructions of the process that is chosen, and what ends it.
 use Rattle.std.proofs.Common.{◌≡◌, ◌≤◌, ◌<◌, ◌+◌, ◌-◌, ◌++◌, inl, inr, ℕ, suc, Bool, true, false, List, [], ◌∷◌, Option, Some, length, arith, refl, ap, sym, subst, ◌∙◌}
 use Rattle.std.specs.Prelude.{ℤ, cond, nat_lt, slice_get, slice_set}
 use Rattle.std.proofs.lemmas.Bool.{cases_lt}
@@ -9,35 +9,30 @@ use Rattle.base.proofs.Lists.{get_set, get_other, some_at}
 use Rattle.base.specs.declared.event.Event.{Event}
 use Rattle.machine_isa.specs.declared.instr.Instr.{Instr}
 use Rattle.machine_isa.specs.Ticks.{ticks}
-use Rattle.machine_semantics.specs.Image.{Image, Process, Script}
+use Rattle.machine_semantics.specs.Image.{Image, Process}
 use Rattle.machine_semantics.specs.State.{Job, Thread, Ready, State}
-use Rattle.machine_semantics.specs.Starts.{Started, starts}
 use Rattle.machine_semantics.specs.Effect.{Own, Outcome, Goes, Raises, Stuck, effect}
-use Rattle.machine_semantics.specs.Tick.{Ticked, at_next, owned_of, pick, settle}
-use Rattle.machine_semantics.specs.Run.{events_from, state_at}
+use Rattle.machine_semantics.specs.Tick.{Ticked, at_next, owned_of, settle}
 use Rattle.vm_instructions.specs.declared.burst.Halt.{Halt}
 use Rattle.vm_instructions.specs.declared.burst.Halt.TheVariants as halt
 use Rattle.vm_instructions.specs.Rows.{Ended, Runs, Spends, stays}
 use Rattle.vm_instructions.specs.Silent.{RaisesAs}
 use Rattle.vm_stretch.specs.StretchDue.{time_out_of}
-use Rattle.vm_stretch.specs.Quiet.{AreQuiet, IsQuiet}
-use Rattle.vm_stretch.specs.RowLaws.{IsPicked, IsSafeRun, begun}
+use Rattle.vm_stretch.specs.Quiet.{AreQuiet}
 use Rattle.vm_stretch.specs.Silent.{Begins, Follows, IsAt, Leads, is_silent, next_own, with_process}
-use Rattle.vm_stretch.specs.Stretch.{left, left_at, left_of, outcome_at_once, outcomes, pass, pass_thread, place_of}
+use Rattle.vm_stretch.specs.Stretch.{left, left_at, left_of, outcome_at_once, outcomes, pass, pass_thread}
 use Rattle.vm_stretch.proofs.StretchMoving.{NotStuck, effect_same, moved, set_set, settled_same}
-use Rattle.vm_stretch.proofs.Quiet.{quiet_starts_nothing}
-use Rattle.vm_stretch.proofs.Rowing.{row_is_safe, row_is_turn, row_keeps_events, row_stays_in_run, quiet_with}
-use Rattle.vm_stretch.proofs.Runs.{turn_stays_in_run}
 use Rattle.vm_turn.specs.Own.{CanCome}
 use Rattle.vm_turn.specs.Rows.{CanEnd, CanRun, EndsIn, HasRun, IsSeenAt, effect_of, outcome_of, own_at}
 use Rattle.vm_state.specs.declared.machine_state.MachineState.{MachineState}
 use Rattle.vm_state.specs.Board.{IsBoardOf, rows_of, state_of}
-use Rattle.vm_turn.proofs.Safely.{Found, picked, can_of}
+use Rattle.vm_turn.proofs.Safely.{can_of}
 use Rattle.vm_stretch.proofs.Lists.{same_or_not}
 use Rattle.machine_semantics.specs.Queues.{AreQueued, waits_on}
-use Rattle.vm_runner.specs.Turn.{BurnsNothing, HasPassed, Run, unspent}
+use Rattle.vm_runner.specs.Course.{ComeTo, Course, GoesBySteps, IsChosen, IsRow, IsThere, begun}
+use Rattle.vm_runner.specs.Course as course
+use Rattle.vm_runner.specs.Turn.{BurnsNothing, HasPassed, unspent}
 use Rattle.vm_runner.specs.Waits.{WaitsFrom, is_some_at_queue}
-use Rattle.vm_runner.proofs.Passing.{turn_alone}
 use Rattle.vm_runner.proofs.Waiting.{from_then, ready_from, set_same, settle_alone, settle_from, settle_same}
 
 -- ---- the last instruction of a row
@@ -216,41 +211,38 @@ within_budget image first budget halt.Spent new runs = omega arith
 within_budget image first budget (halt.Raises rest number) new runs = runs.2
 within_budget image first budget (halt.Sees rest) new runs = runs.2
 
--- ---- the process that is picked, and its row
+-- ---- the process that is chosen, and its row
 
--- the process that is picked, and burns nothing, as it stands
-pub record RowStarts (run : Run) (t most k : ℕ) : Type 0 where
+-- the process that is chosen, and burns nothing, as it stands
+pub record RowStarts (c : Course) (t most k : ℕ) : Type 0 where
   pub job : Job
-  pub is : IsPicked run.image run.script t most k (own_at k job (begun run.image run.script t))
+  pub is : IsChosen c t most k (own_at k job (begun c t))
   pub burnt : job.dispatch_ticks ≡ 0
 
-starts_here : (run : Run) (t most k : ℕ) → let s : State = begun run.image run.script t in place_of (pick run.image s.threads) ≡ Some k → length s.owned ≡ length run.image.processes → AreQuiet run.image run.script t most s → BurnsNothing s k → RowStarts run t most k
-starts_here run t most k at words quiet burnt =
-    let s : State = begun run.image run.script t in
-    let f : Found run.image.processes s.threads 0 k = picked run.image s.threads k at in
-    let same : f.i ≡ k = omega (arith, f.place_is) in
-    let process : slice_get run.image.processes k ≡ Some f.p = subst (λ (m : ℕ). slice_get run.image.processes m ≡ Some f.p) same f.process in
-    let ready : slice_get s.threads k ≡ Some (Ready f.job) = subst (λ (m : ℕ). slice_get s.threads m ≡ Some (Ready f.job)) same f.ready in
-    let below = slice_get_within run.image.processes k f.p process in
+starts_here : (c : Course) → GoesBySteps c → (t most k : ℕ) → c.chosen t ≡ Some k → length (begun c t).owned ≡ length c.image.processes → AreQuiet c.image c.script t most (begun c t) → BurnsNothing (begun c t) k → RowStarts c t most k
+starts_here c goes t most k at words quiet burnt =
+    let s : State = begun c t in
+    let r : IsThere c.image s k = goes.chosen t k at in
+    let below = slice_get_within c.image.processes k r.p r.process in
     let row = some_at s.owned k (omega (arith, below, words)) in
     record {
-      job = f.job;
+      job = r.job;
       is = record {
-        p = f.p;
-        process = process;
-        picked = at;
-        ready = ready;
-        owned = row.1 ∙ ap (λ (o : Option (List ℤ)). Some (owned_of o)) (sym row.1);
+        p = r.p;
+        process = r.process;
+        chosen = at;
+        ready = r.ready;
+        owned = row.1 ∙ sym (ap (λ (x : Option (List ℤ)). Some (owned_of x)) row.1);
         shared = refl;
         quiet = quiet;
       };
-      burnt = burnt f.job ready;
+      burnt = burnt r.job r.ready;
     }
 
-pub row_starts : (run : Run) (t most k : ℕ) (s : State) → s ≡ begun run.image run.script t → place_of (pick run.image s.threads) ≡ Some k → length s.owned ≡ length run.image.processes → AreQuiet run.image run.script t most s → BurnsNothing s k → RowStarts run t most k
-row_starts run t most k s is at words quiet burnt =
-    starts_here run t most k (subst (λ (x : State). place_of (pick run.image x.threads) ≡ Some k) is at) (subst (λ (x : State). length x.owned ≡ length run.image.processes) is words)
-    (subst (λ (x : State). AreQuiet run.image run.script t most x) is quiet) (subst (λ (x : State). BurnsNothing x k) is burnt)
+pub row_starts : (c : Course) → GoesBySteps c → (t most k : ℕ) (s : State) → s ≡ begun c t → c.chosen t ≡ Some k → length s.owned ≡ length c.image.processes → AreQuiet c.image c.script t most s → BurnsNothing s k → RowStarts c t most k
+row_starts c goes t most k s same at words quiet burnt =
+    starts_here c goes t most k at (subst (λ (x : State). length x.owned ≡ length c.image.processes) same words)
+    (subst (λ (x : State). AreQuiet c.image c.script t most x) same quiet) (subst (λ (x : State). BurnsNothing x k) same burnt)
 
 -- each process has its row of words
 pub words_count : (image : Image) (b : MachineState) → IsBoardOf image b → length (state_of b).owned ≡ length image.processes
@@ -259,69 +251,30 @@ words_count image b board = count b.owned.items ∙ board.owned where
   count [] = refl
   count (v ∷ vs) = ap suc (count vs)
 
-pub can_run : (run : Run) (t most k : ℕ) (s : State) → IsSafeRun run.image run.script → s ≡ begun run.image run.script t → RowStarts run t most k → CanRun run.image most k s
-can_run run t most k s safe is row =
-    subst (λ (x : State). CanRun run.image most k x) (sym is) (record {
+pub can_run : (c : Course) → GoesBySteps c → (t most k : ℕ) (s : State) → s ≡ begun c t → RowStarts c t most k → CanRun c.image most k s
+can_run c goes t most k s same row =
+    subst (λ (x : State). CanRun c.image most k x) (sym same) (record {
       p = row.is.p;
       process = row.is.process;
       job = row.job;
       ready = row.is.ready;
-      safe = row_is_safe run.image run.script t most k (own_at k row.job (begun run.image run.script t)) row.is row.burnt safe;
+      safe = goes.safe t most k (own_at k row.job (begun c t)) row.is row.burnt;
     })
 
 -- ---- what the row comes to
 
 -- a row of so many ticks that has run up to here, and what it comes to in its last tick
-pub record RowRan (run : Run) (t k passed : ℕ) (h : Halt) (new : Own) : Type 0 where
+pub record RowRan (c : Course) (t k passed : ℕ) (h : Halt) (new : Own) : Type 0 where
   pub p : Process
-  pub process : slice_get run.image.processes k ≡ Some p
-  pub seen : IsSeenAt run.image h new.job.place
+  pub process : slice_get c.image.processes k ≡ Some p
+  pub seen : IsSeenAt c.image h new.job.place
   pub some : 1 ≤ passed
+  pub step : IsRow c t passed
   pub after : Ticked
-  pub settled : after ≡ settle run.image (t + (passed - 1)) k p new.job (with_process k new (begun run.image run.script t)) (outcome_of run.image (with_process k new (begun run.image run.script t)) h new)
-  pub free : after.stuck ≡ false
-  pub state : state_at run.image run.script (t + passed) ≡ after.state
-  pub events : events_from run.image run.script passed t (state_at run.image run.script t) ≡ (starts run.image run.script t (state_at run.image run.script t)).events ++ after.events
-  pub ready : slice_get (with_process k new (begun run.image run.script t)).threads k ≡ Some (Ready new.job)
-  pub words : own_at k new.job (with_process k new (begun run.image run.script t)) ≡ new
-
--- where n ticks have led
-pub record HasLed (image : Image) (script : Script) (t n k m : ℕ) (o : Own) (all : Ticked) : Type 0 where
-  pub free : all.stuck ≡ false
-  pub state : state_at image script (t + n + m) ≡ all.state
-  pub events : events_from image script (n + m) t (state_at image script t) ≡ (starts image script t (state_at image script t)).events ++ all.events
-
-has_led : (image : Image) (script : Script) (t most k n m : ℕ) (first o : Own) → IsSafeRun image script → IsPicked image script t most k first → Leads image first n o → 1 ≤ m → m ≤ left image o.job → n + m ≤ most
-    → HasLed image script t n k m o (pass image (t + n) m (with_process k o (begun image script t)) (Some k))
-has_led image script t most k n m first o safe is leads some fits within =
-    let s : State = begun image script t in
-    let w : State = with_process k o s in
-    let u : ℕ = t + n in
-    let at : State = state_at image script u in
-    let it = row_is_turn image script t most k first is n o leads (omega (arith, some, within)) m some fits within in
-    let stay = turn_stays_in_run image script safe.unstuck u m it.0 in
-    let all : Ticked = pass image u m w (Some k) in
-    let more : events_from image script m u at ≡ (starts image script u at).events ++ all.events =
-    turn_alone image script u m safe it.0 ∙ ap (λ (x : Ticked). (starts image script u at).events ++ x.events) it.1 in
-    record {
-      free = ap (λ (x : Ticked). x.stuck) (sym it.1) ∙ stay.0;
-      state = stay.1 ∙ ap (λ (x : Ticked). x.state) it.1;
-      events = elim (cases_lt 0 n) [
-        | inl later ↦
-            let quiet : IsQuiet image script u w = quiet_with image script u k o s (is.quiet u (omega (arith, later)) (omega (arith, some, within))) in
-            let none : (starts image script u at).events ≡ [] =
-            ap (λ (x : State). (starts image script u x).events) (row_stays_in_run image script t most k first is n o leads later (omega (arith, within))) ∙ ap (λ (a : Started). a.events) (quiet_starts_nothing image script u w quiet) in
-            row_keeps_events image script t most k first is n o leads later (omega (arith, within)) m
-            ∙ ap (λ (es : List Event). (starts image script t (state_at image script t)).events ++ es) (more ∙ ap (λ (es : List Event). es ++ all.events) none)
-        | inr none ↦
-            let same : u ≡ t = omega (arith, none) in
-            let count : n + m ≡ m = omega (arith, none) in
-            ap (λ (c : ℕ). events_from image script c t (state_at image script t)) count
-            ∙ ap (λ (v : ℕ). events_from image script m v (state_at image script v)) (sym same)
-            ∙ more
-            ∙ ap (λ (v : ℕ). (starts image script v (state_at image script v)).events ++ all.events) same
-      ];
-    }
+  pub settled : after ≡ settle c.image (t + (passed - 1)) k p new.job (with_process k new (begun c t)) (outcome_of c.image (with_process k new (begun c t)) h new)
+  pub come : ComeTo c t passed after
+  pub ready : slice_get (with_process k new (begun c t)).threads k ≡ Some (Ready new.job)
+  pub words : own_at k new.job (with_process k new (begun c t)) ≡ new
 
 pub passes_as : (image : Image) (u k m : ℕ) (p : Process) (first o : Own) (s : State) → slice_get image.processes k ≡ Some p → slice_get s.threads k ≡ Some (Ready first.job) → slice_get s.owned k ≡ Some first.owned
     → pass image u m (with_process k o s) (Some k) ≡ settle image (u + (m - 1)) k p o.job (with_process k o s) (comes image s k m o)
@@ -351,51 +304,50 @@ seen_at image first budget (halt.Sees rest) new runs =
           ap (λ (x : Instr). is_silent x) (sym same) ∙ silent,
     )
 
-row_ran : (run : Run) (t most k : ℕ) (h : Halt) (new : Own) → IsSafeRun run.image run.script → 1 ≤ most → (row : RowStarts run t most k) → Runs run.image (own_at k row.job (begun run.image run.script t)) most h new → RowRan run t k (most - unspent h) h new
-row_ran run t most k h new safe some row runs =
-    let image = run.image in
-    let script = run.script in
-    let s : State = begun image script t in
+row_ran : (c : Course) → GoesBySteps c → (t most k : ℕ) (h : Halt) (new : Own) → 1 ≤ most → (row : RowStarts c t most k) → Runs c.image (own_at k row.job (begun c t)) most h new → RowRan c t k (most - unspent h) h new
+row_ran c goes t most k h new some row runs =
+    let image = c.image in
+    let s : State = begun c t in
     let first : Own = own_at k row.job s in
     let is = row.is in
     let passed : ℕ = most - unspent h in
     let e : RowEnds image s k is.p first passed h new = row_ends image s k is.p first most h new is.ready some runs in
     let m_some : 1 ≤ e.m = e.some in
     let all : e.n + e.m ≡ passed = e.all in
-    let l = has_led image script t most k e.n e.m first e.o safe is e.leads e.some e.fits (omega (arith, all)) in
+    let step : IsRow c t passed = record { budget = most; k = k; first = first; chosen = is; led = e.n; o = e.o; leads = e.leads; m = e.m; some = e.some; fits = e.fits; all = e.all; within = omega arith } in
+    let after : Ticked = course.row c t passed step in
+    let come : ComeTo c t passed after = goes.rows t passed step in
     let end : t + e.n + (e.m - 1) ≡ t + (passed - 1) = omega (arith, all, m_some) in
-    let there : t + passed ≡ t + e.n + e.m = omega (arith, all) in
-    let by : pass image (t + e.n) e.m (with_process k e.o s) (Some k) ≡ settle image (t + (passed - 1)) k is.p e.o.job (with_process k e.o s) (comes image s k e.m e.o) =
+    let by : after ≡ settle image (t + (passed - 1)) k is.p e.o.job (with_process k e.o s) (comes image s k e.m e.o) =
     passes_as image (t + e.n) k e.m is.p first e.o s is.process is.ready is.owned ∙ ap (λ (u : ℕ). settle image u k is.p e.o.job (with_process k e.o s) (comes image s k e.m e.o)) end in
     record {
       p = is.p;
       process = is.process;
       seen = seen_at image first most h new runs;
       some = omega (arith, all, m_some);
-      after = pass image (t + e.n) e.m (with_process k e.o s) (Some k);
-      settled = by ∙ sym (e.same (t + (passed - 1)) (ap (λ (x : Ticked). x.stuck) (sym by) ∙ l.free));
-      free = l.free;
-      state = ap (λ (v : ℕ). state_at image script v) there ∙ l.state;
-      events = ap (λ (c : ℕ). events_from image script c t (state_at image script t)) (sym all) ∙ l.events;
+      step = step;
+      after = after;
+      settled = by ∙ sym (e.same (t + (passed - 1)) (ap (λ (x : Ticked). x.stuck) (sym by) ∙ come.free));
+      come = come;
       ready = get_set s.threads k (Ready new.job) (Ready row.job) is.ready;
       words = ap (λ (x : Option (List ℤ)). record { job = new.job; owned = owned_of x; shared = new.shared }) (get_set s.owned k new.owned first.owned is.owned);
     }
 
 -- how it ran, from what code says
-pub record Ran (run : Run) (t k passed : ℕ) (h : Halt) (s' : State) : Type 0 where
+pub record Ran (c : Course) (t k passed : ℕ) (h : Halt) (s' : State) : Type 0 where
   pub new : Own
-  pub row : RowRan run t k passed h new
-  pub is : s' ≡ with_process k new (begun run.image run.script t)
+  pub row : RowRan c t k passed h new
+  pub is : s' ≡ with_process k new (begun c t)
 
-pub ran : (run : Run) (t most k : ℕ) (s s' : State) (h : Halt) → IsSafeRun run.image run.script → 1 ≤ most → s ≡ begun run.image run.script t → RowStarts run t most k → HasRun run.image most k s h s' → Ran run t k (most - unspent h) h s'
-ran run t most k s s' h safe some is row has =
-    let r = subst (λ (x : State). HasRun run.image most k x h s') is has row.job row.is.ready in
-    record { new = r.0; row = row_ran run t most k h r.0 safe some row r.1; is = r.2 }
+pub ran : (c : Course) → GoesBySteps c → (t most k : ℕ) (s s' : State) (h : Halt) → 1 ≤ most → s ≡ begun c t → RowStarts c t most k → HasRun c.image most k s h s' → Ran c t k (most - unspent h) h s'
+ran c goes t most k s s' h some same row has =
+    let r = subst (λ (x : State). HasRun c.image most k x h s') same has row.job row.is.ready in
+    record { new = r.0; row = row_ran c goes t most k h r.0 some row r.1; is = r.2 }
 
-pub enough : (run : Run) (t most k : ℕ) (s s' : State) (h : Halt) → s ≡ begun run.image run.script t → RowStarts run t most k → HasRun run.image most k s h s' → unspent h ≤ most
-enough run t most k s s' h is row has =
-    let r = subst (λ (x : State). HasRun run.image most k x h s') is has row.job row.is.ready in
-    within_budget run.image (own_at k row.job (begun run.image run.script t)) most h r.0 r.1
+pub enough : (c : Course) (t most k : ℕ) (s s' : State) (h : Halt) → s ≡ begun c t → RowStarts c t most k → HasRun c.image most k s h s' → unspent h ≤ most
+enough c t most k s s' h same row has =
+    let r = subst (λ (x : State). HasRun c.image most k x h s') same has row.job row.is.ready in
+    within_budget c.image (own_at k row.job (begun c t)) most h r.0 r.1
 
 -- ---- what code asks for at its end
 
@@ -407,33 +359,33 @@ queued_row k o job s ready queued c j =
       | inr differ ↦ ap (λ (x : Option Thread). waits_on c x) (sym (get_other s.threads k j (Ready o.job) differ))
     ]
 
-pub row_queued : (run : Run) (t most k passed : ℕ) (h : Halt) (s' : State) → RowStarts run t most k → Ran run t k passed h s' → AreQueued (begun run.image run.script t) → AreQueued s'
-row_queued run t most k passed h s' row has queued = subst (λ (x : State). AreQueued x) (sym has.is) (queued_row k has.new row.job (begun run.image run.script t) row.is.ready queued)
+pub row_queued : (c : Course) (t most k passed : ℕ) (h : Halt) (s' : State) → RowStarts c t most k → Ran c t k passed h s' → AreQueued (begun c t) → AreQueued s'
+row_queued c t most k passed h s' row has queued = subst (λ (x : State). AreQueued x) (sym has.is) (queued_row k has.new row.job (begun c t) row.is.ready queued)
 
-pub can_end : (run : Run) (t k passed : ℕ) (h : Halt) (s' : State) → IsSafeRun run.image run.script → Ran run t k passed h s' → CanEnd run.image k s' h
-can_end run t k passed h s' safe has =
+pub can_end : (c : Course) → GoesBySteps c → (t k passed : ℕ) (h : Halt) (s' : State) → Ran c t k passed h s' → CanEnd c.image k s' h
+can_end c goes t k passed h s' has =
     let r = has.row in
-    let w : State = with_process k has.new (begun run.image run.script t) in
+    let w : State = with_process k has.new (begun c t) in
     let u : ℕ = t + (passed - 1) in
-    let out : Outcome = outcome_of run.image w h has.new in
+    let out : Outcome = outcome_of c.image w h has.new in
     let can : CanCome r.p.stack out =
-    can_of run.image u k r.p has.new.job w out (ap (λ (x : Ticked). x.stuck) (sym r.settled) ∙ r.free)
-    (λ th at. safe.stack (t + passed) k r.p th r.process (ap (λ (x : State). slice_get x.threads k) (r.state ∙ ap (λ (x : Ticked). x.state) r.settled) ∙ at)) r.ready in
-    subst (λ (x : State). CanEnd run.image k x h) (sym has.is) (record {
+    can_of c.image u k r.p has.new.job w out (ap (λ (x : Ticked). x.stuck) (sym r.settled) ∙ r.come.free)
+    (λ th at. goes.stack (t + passed) k r.p th r.process (ap (λ (x : State). slice_get x.threads k) (r.come.state ∙ ap (λ (x : Ticked). x.state) r.settled) ∙ at)) r.ready in
+    subst (λ (x : State). CanEnd c.image k x h) (sym has.is) (record {
       p = r.p;
       process = r.process;
       job = has.new.job;
       ready = r.ready;
       seen = r.seen;
-      can = subst (λ (o : Own). CanCome r.p.stack (outcome_of run.image w h o)) (sym r.words) can;
+      can = subst (λ (o : Own). CanCome r.p.stack (outcome_of c.image w h o)) (sym r.words) can;
     })
 
 -- ---- what has passed
 
-pub row_passes : (run : Run) (t most k passed : ℕ) (h : Halt) (s' s'' : State) (es es' : List Event) → RowStarts run t most k → Ran run t k passed h s' → EndsIn run.image (t + (passed - 1)) k s' h s'' es es' → HasPassed run t passed s'' es es'
-row_passes run t most k passed h s' s'' es es' row has ends =
-    let image = run.image in
-    let s : State = begun image run.script t in
+pub row_passes : (c : Course) (t most k passed : ℕ) (h : Halt) (s' s'' : State) (es es' : List Event) → RowStarts c t most k → Ran c t k passed h s' → EndsIn c.image (t + (passed - 1)) k s' h s'' es es' → HasPassed c t passed s'' es es'
+row_passes c t most k passed h s' s'' es es' row has ends =
+    let image = c.image in
+    let s : State = begun c t in
     let r = has.row in
     let w : State = with_process k has.new s in
     let u : ℕ = t + (passed - 1) in
@@ -445,10 +397,11 @@ row_passes run t most k passed h s' s'' es es' row has ends =
     let last : t + passed ≤ u + 1 = (let some = r.some in omega (arith, some)) in
     record {
       some = r.some;
-      state = state ∙ sym r.state;
+      step = inr r.step;
+      state = state ∙ sym r.come.state;
       fell = r.after.events;
       told = e.1 ∙ ap (λ (x : Ticked). es ++ x.events) same;
-      events = r.events;
+      events = r.come.events;
       waits = subst (λ (x : State). WaitsFrom (t + passed) s.threads x.threads) (sym now)
           (from_then (t + passed) s.threads w.threads (settle image u k r.p has.new.job w out).state.threads (ready_from (t + passed) s.threads k has.new.job) (settle_from image u k r.p has.new.job w out (t + passed) last));
       same = λ quiet j.
@@ -456,7 +409,7 @@ row_passes run t most k passed h s' s'' es es' row has ends =
           ∙ settle_same image u k r.p has.new.job w out j (ap (λ (x : Ticked). is_some_at_queue x.events) (sym r.settled) ∙ quiet) r.ready
           ∙ set_same s.threads k j (Ready has.new.job) (Ready row.job) row.is.ready refl refl;
       alone = λ quiet j apart.
-          let differ : k ≡ j → ⊥ = λ same. apart (row.is.picked ∙ ap (λ (m : ℕ). Some m) same) in
+          let differ : k ≡ j → ⊥ = λ same. apart (row.is.chosen ∙ ap (λ (m : ℕ). Some m) same) in
           ap (λ (x : State). slice_get x.threads j) now
           ∙ settle_alone image u k r.p has.new.job w out j (ap (λ (x : Ticked). is_some_at_queue x.events) (sym r.settled) ∙ quiet) differ
           ∙ get_other s.threads k j (Ready has.new.job) differ;

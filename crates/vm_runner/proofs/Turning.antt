@@ -1,25 +1,22 @@
 -- Slots before and after a turn, and the machine in its run.
-use Rattle.std.proofs.Common.{◌≡◌, ◌≤◌, ◌<◌, ◌+◌, ◌-◌, ◌*◌, ◌++◌, inl, inr, ℕ, false, List, Option, Some, length, get_or, arith, refl, ap, sym, subst, ◌∙◌}
+use Rattle.std.proofs.Common.{◌≡◌, ◌≤◌, ◌<◌, ◌+◌, ◌-◌, ◌*◌, inl, inr, ℕ, false, List, Option, Some, length, get_or, arith, refl, ap, sym, subst, ◌∙◌}
 use Rattle.std.specs.Prelude.{slice_get, slice_set}
 use Rattle.std.proofs.lemmas.Bool.{cases_lt}
 use Rattle.std.proofs.lemmas.List.{length-set}
 use Rattle.std.proofs.lemmas.Option.{slice_get_within}
 use Rattle.base.proofs.Lists.{get_other, get_set, some_at}
-use Rattle.base.specs.declared.event.Event.{Event}
 use Rattle.machine_semantics.specs.Image.{Image, Script}
 use Rattle.machine_semantics.specs.State.{Thread, State}
 use Rattle.machine_semantics.specs.Starts.{starts}
 use Rattle.machine_semantics.specs.Tick.{tick}
-use Rattle.machine_semantics.specs.Run.{at_start, events_from, state_at}
+use Rattle.machine_semantics.specs.Run.{at_start, state_at}
 use Rattle.vm_stretch.specs.StretchDue.{HasSlots, NoneBefore, time_out_of}
 use Rattle.vm_stretch.specs.Steps.{HasWaits}
 use Rattle.vm_stretch.proofs.Lists.{same_or_not}
 use Rattle.vm_state.specs.declared.threads.ControlBlock.{ControlBlock}
 use Rattle.vm_state.specs.Threads.{thread_of, threads_of}
 use Rattle.vm_releases.specs.Begin.{WaitsAlone}
-use Rattle.vm_runner.specs.Turn.{HasPassed, Run}
 use Rattle.vm_runner.specs.Waits.{WaitsFrom}
-use Rattle.vm_runner.specs.Standing.{events_between}
 use Rattle.machine_semantics.specs.Whole.{HasNoOverrun}
 use Rattle.vm_runner.proofs.Waiting.{is_waiting}
 use Rattle.vm_state.proofs.Waking.{thread_at}
@@ -115,14 +112,3 @@ tick_overrun image script t s = refl
 -- no start event of the tick is an overrun
 pub starts_calm : (image : Image) (script : Script) (t : ℕ) (s : State) → HasNoOverrun image script → t < script.end_tick → s ≡ state_at image script t → (starts image script t s).overrun ≡ false
 starts_calm image script t s calm before is = ap (λ (x : State). (starts image script t x).overrun) is ∙ sym (tick_overrun image script t (state_at image script t)) ∙ calm t before
-
--- the start events and what fell after them are the events of the ticks that passed
-pub told : (run : Run) (t n : ℕ) (s s' : State) (es es' : List Event) → HasPassed run t n s' es es' → s ≡ state_at run.image run.script t → es ≡ (starts run.image run.script t s).events → es' ≡ events_between run.image run.script t (t + n)
-told run t n s s' es es' has is begins =
-    let image = run.image in
-    let script = run.script in
-    let at : State = state_at image script t in
-    let count : n ≡ (t + n) - t = omega arith in
-    has.told ∙ ap (λ (xs : List Event). xs ++ has.fell) (begins ∙ ap (λ (x : State). (starts image script t x).events) is)
-    ∙ sym has.events
-    ∙ ap (λ (k : ℕ). events_from image script k t at) count

@@ -1,6 +1,10 @@
 pub mod Waits
 pub mod Runnable
+pub mod Course
+pub mod Dispatching
 pub mod Turn
+pub mod ByRanks
+pub mod Setup
 pub mod Standing
 pub mod Ends
 pub mod Completing

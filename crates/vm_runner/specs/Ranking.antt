@@ -1,5 +1,5 @@
 -- By what the process that is picked is chosen, in code: how each stands in the choice.
-use Rattle.std.specs.Prelude.{◌≡◌, ◌<◌, ◌≤◌, ◌⊎◌, ℕ, List, Option, Some, None, length, slice_get}
+use Rattle.std.specs.Prelude.{◌≡◌, ◌≢◌, ◌<◌, ◌≤◌, ◌⊎◌, ℕ, List, Option, Some, None, length, slice_get}
 use Rattle.machine_semantics.specs.Image.{Image, Process}
 use Rattle.machine_semantics.specs.State.{Thread, Idle, Ready, Waiting}
 use Rattle.machine_semantics.specs.Tick.{active_rank, pick}
@@ -13,7 +13,6 @@ use Rattle.vm_stretch.specs.Picks.{is_inside_one}
 use Rattle.vm_stretch.specs.Stretch.{place_of}
 use Rattle.vm_runner.specs.declared.ranking.Candidate.{Candidate}
 use Rattle.vm_runner.specs.declared.ranking.Ranking.{Ranking}
-use Rattle.vm_runner.specs.Turn.{Run}
 
 -- how a process that is ready stands, inside this monitor or outside of all
 abbrev pub ready_one : Image → Process → Option ℕ → Candidate
@@ -37,10 +36,9 @@ pub record Standing : Type 0 where
   pub image : Image
   pub threads : List Thread
 
--- the run that a row is of, and how its processes stand before
-pub record RowOf : Type 0 where
-  pub run : Run
-  pub threads : List Thread
+-- each other process stands as before
+abbrev pub StandAsBefore : (before now : List Thread) → (who : ℕ) → Type 0
+StandAsBefore before now who = (j : ℕ) → j ≢ who → slice_get now j ≡ slice_get before j
 
 -- ---- the first of candidates
 

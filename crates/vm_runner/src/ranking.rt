@@ -1,21 +1,19 @@
 //! Which process is picked, kept from row to row.
 
-ghost use Rattle.std.specs.Prelude.{◌≡◌, ◌≢◌, ◌<◌, ℕ, false, true};
-ghost use Rattle.std.specs.Prelude.{length, slice_get, slice_set, vec_len};
+ghost use Rattle.std.specs.Prelude.{◌≡◌, ◌<◌, ℕ, false, true, length, slice_set, vec_len};
 ghost use Rattle.machine_semantics.specs.Image.{Image};
-ghost use Rattle.machine_semantics.specs.Tick.{pick};
-ghost use Rattle.vm_stretch.specs.Stretch.{place_of};
 ghost use Rattle.vm_state.specs.Board.{IsBoardOf, state_of};
 ghost use Rattle.vm_state.specs.Plan.{IsOf};
-ghost use Rattle.vm_turn.specs.Chosen.{IsCeiling};
 ghost use Rattle.vm_runner.specs.Ranking.{IsBehind, IsCandidate, IsFirst, IsNoLater, IsRanking};
-ghost use Rattle.vm_runner.specs.Ranking.{IsReadyOne, IsThere, Standing, StandsAsWell};
-ghost use Rattle.vm_runner.specs.Waits.{is_some_at_queue};
+ghost use Rattle.vm_runner.specs.Ranking.{IsReadyOne, IsThere, StandAsBefore, Standing};
+ghost use Rattle.vm_runner.specs.Ranking.{StandsAsWell};
 
+use crate::Dispatch;
 use crate::waits::is_some_at_queue;
 use arrayvec::ArrayVec;
 use base::Event;
 use vm_state::{ControlBlock, DecodedImage, DecodedProcess, MachineState, SchedulingState};
+use vm_turn::{ceiling_of, choose};
 
 /// How a process that is ready stands in the choice: the lower active rank comes first, and of two
 /// alike one inside a monitor.
@@ -27,21 +25,9 @@ struct Candidate {
 
 /// How each process stands, where it is ready, and which of them is picked.
 #[derive(Drop)]
-pub(crate) struct Ranking {
+pub struct Ranking {
     candidates: ArrayVec<Option<Candidate>, 64>,
     first: Option<usize>,
-}
-
-/// The ceiling of a monitor; 0 where there is none.
-#[inline(always)]
-fn ceiling_of(ceilings: &[u16], monitor: u16) -> u16
-    ensures { IsCeiling ceilings.now monitor result }
-{
-    let place = usize::from(monitor);
-    if place < ceilings.len() {
-        return ceilings[place];
-    }
-    0
 }
 
 /// How a process that is ready stands, inside this monitor or outside of all.
@@ -167,7 +153,7 @@ fn first_after(
 
 impl Ranking {
     /// Room for all processes; none is known.
-    pub(crate) fn new() -> Ranking {
+    pub fn new() -> Ranking {
         Ranking {
             candidates: ArrayVec::new(),
             first: None,
@@ -175,11 +161,10 @@ impl Ranking {
     }
 
     /// Notes how all processes stand.
-    pub(crate) fn fill(&mut self, plan: &DecodedImage, board: &MachineState)
-        ghost image: { Image }
-        requires plan { IsOf image plan.now }
-        requires board { IsBoardOf image board.now }
-        ensures { IsRanking image (state_of board.now).threads self.new }
+    fn note_all(&mut self, plan: &DecodedImage, board: &MachineState)
+        requires { (image : Image) × IsOf image plan.now × IsBoardOf image board.now }
+        ensures { (image : Image) → IsOf image plan.now → IsBoardOf image board.now →
+            IsRanking image (state_of board.now).threads self.new }
     {
         self.candidates.clear();
         for k in 0..board.cells.len() {
@@ -189,27 +174,16 @@ impl Ranking {
         self.first = first_of(self.candidates.as_slice());
     }
 
-    /// The process that is picked.
-    #[inline(always)]
-    pub(crate) fn first(&self) -> Option<usize>
-        ghost at: { Standing }
-        requires { IsRanking at.image at.threads self.now }
-        ensures { result ≡ place_of (pick at.image at.threads) }
-    {
-        self.first
-    }
-
     /// Notes how a process stands, where all others stand as before.
     #[inline(always)]
     fn note(&mut self, plan: &DecodedImage, board: &MachineState, who: usize)
-        ghost at: { Standing }
-        requires plan { IsOf at.image plan.now }
-        requires board { IsBoardOf at.image board.now }
         requires who { who < vec_len board.now.cells }
-        requires ranking { IsRanking at.image at.threads self.old }
-        requires others { (j : ℕ) → j ≢ who →
-            slice_get (state_of board.now).threads j ≡ slice_get at.threads j }
-        ensures { IsRanking at.image (state_of board.now).threads self.new }
+        requires ranking { (at : Standing) × IsOf at.image plan.now ×
+            IsBoardOf at.image board.now × IsRanking at.image at.threads self.old }
+        ensures { (at : Standing) → IsOf at.image plan.now → IsBoardOf at.image board.now →
+            IsRanking at.image at.threads self.old →
+            StandAsBefore at.threads (state_of board.now).threads who →
+            IsRanking at.image (state_of board.now).threads self.new }
     {
         let before = self.candidates.as_slice()[who];
         self.candidates.as_mut_slice()[who] = candidate_of(
@@ -219,30 +193,48 @@ impl Ranking {
         );
         self.first = first_after(self.candidates.as_slice(), self.first, who, before);
     }
+}
 
-    /// Notes how all stand after a row of the process, in which these events fell: where none of
-    /// them is at a queue, all others stand as before.
+impl Dispatch for Ranking {
+    ghost use Rattle.vm_runner.specs.ByRanks.{Knows, ranks};
+    ghost use Rattle.vm_runner.specs.Runnable.{IsRunnable};
+
+    ghost behaviour = { ranks };
+
+    ghost CanRun = { IsRunnable };
+
+    ghost Knows = { Knows };
+
     #[inline(always)]
-    pub(crate) fn follow(
-        &mut self,
-        plan: &DecodedImage,
-        board: &MachineState,
-        who: usize,
-        events: &[Event],
-    )
-        ghost at: { Standing }
-        requires plan { IsOf at.image plan.now }
-        requires board { IsBoardOf at.image board.now }
-        requires who { who < vec_len board.now.cells }
-        requires ranking { IsRanking at.image at.threads self.old }
-        requires others { is_some_at_queue events.now ≡ false → (j : ℕ) → j ≢ who →
-            slice_get (state_of board.now).threads j ≡ slice_get at.threads j }
-        ensures { IsRanking at.image (state_of board.now).threads self.new }
-    {
+    fn before_starts(&mut self, _board: &MachineState) {}
+
+    #[inline(always)]
+    fn after_starts(&mut self, _board: &MachineState, _tick: u64) {}
+
+    #[inline(always)]
+    fn choose(&mut self, plan: &DecodedImage, board: &MachineState) -> Option<usize> {
+        choose(plan, board)
+    }
+
+    #[inline(always)]
+    fn fill(&mut self, plan: &DecodedImage, board: &MachineState) {
+        self.note_all(plan, board);
+    }
+
+    #[inline(always)]
+    fn first(&mut self, _plan: &DecodedImage, _board: &MachineState) -> Option<usize> {
+        self.first
+    }
+
+    /// Where none of the events is at a queue, all others stand as before.
+    #[inline(always)]
+    fn follow(&mut self, plan: &DecodedImage, board: &MachineState, who: usize, events: &[Event]) {
         if is_some_at_queue(events) {
-            self.fill(plan, board);
+            self.note_all(plan, board);
         } else {
             self.note(plan, board, who);
         }
     }
+
+    fn goes_by_steps() {}
 }

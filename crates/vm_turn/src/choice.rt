@@ -32,7 +32,7 @@ pub fn left(plan: &DecodedImage, board: &MachineState, who: usize) -> u32
 
 /// The ceiling of a monitor; 0 where there is none.
 #[inline(always)]
-fn ceiling_of(ceilings: &[u16], monitor: u16) -> u16
+pub fn ceiling_of(ceilings: &[u16], monitor: u16) -> u16
     ensures { IsCeiling ceilings.now monitor result }
 {
     let place = usize::from(monitor);

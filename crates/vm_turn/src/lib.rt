@@ -17,7 +17,7 @@ mod turn;
 pub mod turn_law;
 mod visible_steps;
 
-pub use choice::{choose, left};
+pub use choice::{ceiling_of, choose, left};
 pub use outcome::Outcome;
 pub use rows::{end_row, run_row};
 pub use turn::pass;

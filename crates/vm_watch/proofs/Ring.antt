@@ -5,7 +5,7 @@ use Rattle.circular_buffer.specs.Buffer.{keep_last}
 use Rattle.base.specs.declared.event.Event.{Event}
 use Rattle.machine_semantics.specs.Image.{Image, Script}
 use Rattle.machine_semantics.specs.Run.{events_from, state_at}
-use Rattle.vm_runner.proofs.Cut.{cut}
+use Rattle.vm_runner.proofs.ByRanks.{cut}
 use Rattle.vm_runner.specs.Standing.{events_between}
 use Rattle.command_due.specs.Text.{events_before, recent}
 

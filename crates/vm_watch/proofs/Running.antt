@@ -2,12 +2,11 @@
 use Rattle.std.proofs.Common.{◌≡◌, ◌≤◌, ◌-◌, ℕ, List, [], ◌∷◌, map, length, refl, arith, ap, subst, ◌∙◌}
 use Rattle.std.specs.Prelude.{All}
 use Rattle.std.proofs.lemmas.List.Elements.{All-drop}
-use Rattle.command_answers.specs.declared.act.PreparedRun.{PreparedRun}
 use Rattle.command_answers.specs.Acts.{CanRunByRanks}
 use Rattle.script.specs.Meaning.{line_said}
 use Rattle.command_due.specs.Script.{run_of}
 use Rattle.base.specs.declared.event.Event.{Event}
-use Rattle.image.specs.Raw.{image_of}
+use Rattle.image.specs.Named.{NamedImage}
 use Rattle.code_lifting.specs.Compiled as lifted
 use Rattle.event_log.specs.InRange.{AreIn}
 use Rattle.vm_law.proofs.Ticking.{valid_runs_have_lines}
@@ -15,7 +14,9 @@ use Rattle.machine_semantics.specs.Image.{Image, Line, Script}
 use Rattle.machine_semantics.specs.Run.{events, events_from, state_at}
 use Rattle.vm_run.specs.Coming.{coming}
 use Rattle.vm_run.proofs.Rest.{lines_now}
+use Rattle.vm_runner.specs.ByRanks.{by_ranks}
 use Rattle.vm_runner.specs.Runnable.{IsRunnable}
+use Rattle.vm_runner.proofs.ByRanks.{cut}
 use Rattle.vm_runner.specs.Standing.{events_between}
 use Rattle.vm_law.proofs.Runnable.{valid_runs_are_runnable}
 use Rattle.script.specs.declared.script.ScriptLine.{ScriptLine}
@@ -43,12 +44,12 @@ same_script script =
 
 -- ---- the machine
 
-pub is_runnable : (run : PreparedRun) → CanRunByRanks run → IsRunnable (image_of run.image) (script_of run.script)
-is_runnable run can = valid_runs_are_runnable (image_of run.image) (script_of run.script) can.limits can.valid can.script.frames can.script.order (let end = can.script.end in omega (arith, end))
+pub is_runnable : (n : NamedImage) (script : Read) → CanRunByRanks n script → IsRunnable n.image (script_of script)
+is_runnable n script can = valid_runs_are_runnable n.image (script_of script) can.limits can.valid can.script.frames can.script.order (let end = can.script.end in omega (arith, end))
 
 -- ---- the lines
 
-all_coming : (image : Image) (script : Script) → events image script ≡ coming image script 0
+all_coming : (image : Image) (script : Script) → events image script ≡ coming (by_ranks image script) 0
 unfolding events state_at
 all_coming image script =
     let all : script.end_tick ≡ script.end_tick - 0 = omega arith in
@@ -61,12 +62,12 @@ from_start image script t =
     ap (λ (n : ℕ). events_from image script n 0 (state_at image script 0)) all
 
 -- the last events before a tick have lines
-pub recent_lines : (run : PreparedRun) (t : ℕ) → CanRunByRanks run → t ≤ run.script.end → All (AreIn run.image.names) (recent (events_before (image_of run.image) (script_of run.script) t))
-recent_lines run t can within =
-    let image : Image = image_of run.image in
-    let script : Script = script_of run.script in
-    let lines : All (AreIn run.image.names) (events image script) = valid_runs_have_lines run.image.names image script can.limits can.valid can.names can.script.end in
-    let come : All (AreIn run.image.names) (coming image script 0) = subst (λ (es : List Event). All (AreIn run.image.names) es) (all_coming image script) lines in
-    let before : All (AreIn run.image.names) (events_between image script 0 t) = lines_now image script run.image.names 0 t (omega arith) within come in
-    let all : All (AreIn run.image.names) (events_before image script t) = subst (λ (es : List Event). All (AreIn run.image.names) es) (from_start image script t) before in
-    All-drop (AreIn run.image.names) (length (events_before image script t) - 16) (events_before image script t) all
+pub recent_lines : (n : NamedImage) (read : Read) (t : ℕ) → CanRunByRanks n read → t ≤ read.end → All (AreIn n.names) (recent (events_before n.image (script_of read) t))
+recent_lines n read t can within =
+    let image : Image = n.image in
+    let script : Script = script_of read in
+    let lines : All (AreIn n.names) (events image script) = valid_runs_have_lines n.names image script can.limits can.valid can.names can.script.end in
+    let come : All (AreIn n.names) (coming (by_ranks image script) 0) = subst (λ (es : List Event). All (AreIn n.names) es) (all_coming image script) lines in
+    let before : All (AreIn n.names) (events_between image script 0 t) = lines_now (by_ranks image script) (cut image script) n.names 0 t (omega arith) within come in
+    let all : All (AreIn n.names) (events_before image script t) = subst (λ (es : List Event). All (AreIn n.names) es) (from_start image script t) before in
+    All-drop (AreIn n.names) (length (events_before image script t) - 16) (events_before image script t) all

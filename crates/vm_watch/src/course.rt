@@ -15,7 +15,7 @@ use circular_buffer::HeapCircularBuffer;
 use command_words::Breakpoint;
 use script::Script;
 use std::alloc::{AllocError, Global};
-use vm_runner::Machine;
+use vm_runner::{Machine, Ranking};
 use vm_state::DecodedImage;
 use vm_stretch::Completed;
 
@@ -25,7 +25,7 @@ const SHOWN_EVENTS: usize = 16;
 /// A run that is followed: its machine, and the last events before the machine's tick.
 #[derive(Drop)]
 pub(crate) struct Course {
-    pub machine: Machine,
+    pub machine: Machine<Ranking>,
     pub recent: HeapCircularBuffer<Event>,
 }
 
@@ -52,7 +52,7 @@ impl Course {
         ensures start { IfOk result (λ course. course.machine.tick ≡ 0) }
         ensures follows { IfOk result (Follows image (script_of script.now)) }
     {
-        let machine = Machine::new(alloc, plan, script)?;
+        let machine = Machine::by_ranks(alloc, plan, script)?;
         let recent = HeapCircularBuffer::with_capacity(alloc, SHOWN_EVENTS)?;
         Ok(Course { machine, recent })
     }

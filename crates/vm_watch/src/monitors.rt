@@ -2,7 +2,6 @@
 
 ghost use Rattle.std.specs.Prelude.{◌≡◌, ◌<◌, ◌↔◌, true, None, Some, length, slice_get};
 ghost use Rattle.std.specs.List.{position};
-ghost use Rattle.image.specs.Raw.{image_of};
 ghost use Rattle.machine_semantics.specs.Run.{state_at};
 ghost use Rattle.machine_semantics.specs.State.{is_free, thread_inside};
 ghost use Rattle.vm_state.specs.Threads.{thread_of};
@@ -11,8 +10,8 @@ ghost use Rattle.vm_runner.specs.Turn.{Run};
 ghost use Rattle.vm_state.specs.Board.{state_of};
 ghost use Rattle.vm_stretch.specs.View.{monitor_words, occupant as occupant_of};
 
-use image::RawImage;
-use vm_runner::Machine;
+use image_bytes::ImageBytes;
+use vm_runner::{Machine, Ranking};
 use vm_state::{ControlBlock, MachineState, SchedulingState};
 
 /// Whether a process is inside a monitor.
@@ -41,7 +40,7 @@ fn occupant_on(board: &MachineState, monitor: u16) -> Option<usize>
 }
 
 /// The process that is inside a monitor; `None` exactly where the monitor is free.
-pub fn occupant(machine: &Machine, monitor: u16) -> Option<usize>
+pub fn occupant(machine: &Machine<Ranking>, monitor: u16) -> Option<usize>
     ghost run: { Run }
     requires { StandsIn run.image run.script machine.now }
     ensures occupant { result ≡
@@ -53,20 +52,25 @@ pub fn occupant(machine: &Machine, monitor: u16) -> Option<usize>
 }
 
 /// A word of a monitor on the board.
-fn monitor_word_on(image: &RawImage, board: &MachineState, monitor: usize, word: usize) -> i32
+fn monitor_word_on(image: &ImageBytes, board: &MachineState, monitor: u16, word: usize) -> i32
     requires { word <
-        length (monitor_words (image_of image.now) (state_of board.now) monitor) }
+        length (monitor_words image.now.image (state_of board.now) monitor) }
     ensures { slice_get
-        (monitor_words (image_of image.now) (state_of board.now) monitor) word ≡ Some result }
+        (monitor_words image.now.image (state_of board.now) monitor) word ≡ Some result }
 {
-    let base = image.monitors.as_slice()[monitor].base as usize;
+    let base = image.monitor(monitor).base as usize;
     board.shared[base + word]
 }
 
 /// The word with this number, from 0, of those of a monitor.
-pub fn monitor_word(image: &RawImage, machine: &Machine, monitor: usize, word: usize) -> i32
+pub fn monitor_word(
+    image: &ImageBytes,
+    machine: &Machine<Ranking>,
+    monitor: u16,
+    word: usize,
+) -> i32
     ghost run: { Run }
-    requires image { run.image ≡ image_of image.now }
+    requires image { run.image ≡ image.now.image }
     requires stands { StandsIn run.image run.script machine.now }
     requires word { word < length (monitor_words run.image
         (state_at run.image run.script machine.now.tick) monitor) }

@@ -9,7 +9,7 @@ ghost use Rattle.vm_state.specs.Board.{state_of};
 ghost use Rattle.vm_state.specs.Plan.{IsOf};
 ghost use Rattle.vm_stretch.specs.View.{process_words, view_of};
 
-use vm_runner::Machine;
+use vm_runner::{Machine, Ranking};
 use vm_state::{DecodedImage, MachineState, SchedulingState};
 use vm_stretch::View;
 use vm_turn::left;
@@ -34,7 +34,7 @@ fn view_on(plan: &DecodedImage, board: &MachineState, process: usize) -> View
 }
 
 /// How a process stands.
-pub fn view(plan: &DecodedImage, machine: &Machine, process: usize) -> View
+pub fn view(plan: &DecodedImage, machine: &Machine<Ranking>, process: usize) -> View
     ghost run: { Run }
     requires plan { IsOf run.image plan.now }
     requires stands { StandsIn run.image run.script machine.now }
@@ -54,7 +54,7 @@ fn word_on(board: &MachineState, process: usize, word: usize) -> i32
 }
 
 /// The word with this number, from 0, of those that a process keeps.
-pub fn word(machine: &Machine, process: usize, word: usize) -> i32
+pub fn word(machine: &Machine<Ranking>, process: usize, word: usize) -> i32
     ghost run: { Run }
     requires stands { StandsIn run.image run.script machine.now }
     requires word { word <

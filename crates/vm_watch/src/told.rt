@@ -2,7 +2,6 @@
 
 ghost use Rattle.std.specs.Prelude.{◌≡◌, ◌++◌, ◌≤◌, ◌<◌, IfOk, OnOk, length, take};
 ghost use Rattle.std.specs.List.{flat_map, range_with_len};
-ghost use Rattle.image.specs.Raw.{image_of};
 ghost use Rattle.machine_semantics.specs.Run.{state_at};
 ghost use Rattle.vm_runner.specs.Standing.{StandsIn};
 ghost use Rattle.vm_runner.specs.Turn.{Run};
@@ -13,37 +12,37 @@ ghost use Rattle.vm_watch.specs.Inspect.{HasItsWords};
 ghost use Rattle.vm_watch.specs.Shown.{IsShownOfMonitor, IsShownOfProcess};
 
 use crate::{monitor_word, occupant, put_monitor, put_process, view, word};
-use image::RawImage;
+use image_bytes::ImageBytes;
 use std::alloc::{AllocError, Global};
 use syntax_tree::Text;
-use vm_runner::Machine;
+use vm_runner::{Machine, Ranking};
 use vm_state::DecodedImage;
 
 /// How many words are shown at most.
 const SHOWN_WORDS: usize = 16;
 
 /// How many words of a process are shown.
-fn shown_of_process(image: &RawImage, process: usize) -> usize
-    requires { process < length image.now.processes }
-    ensures { IsShownOfProcess image.now process result }
+fn shown_of_process(image: &ImageBytes, process: u16) -> usize
+    requires { process < length image.now.image.processes }
+    ensures { IsShownOfProcess image.now.image process result }
 {
-    let count = image.processes.as_slice()[process].words as usize;
+    let count = image.process(process).words as usize;
     count.min(SHOWN_WORDS)
 }
 
 /// How many words of a monitor are shown.
-fn shown_of_monitor(image: &RawImage, monitor: usize) -> usize
-    requires { monitor < length image.now.monitors }
-    ensures { IsShownOfMonitor image.now monitor result }
+fn shown_of_monitor(image: &ImageBytes, monitor: u16) -> usize
+    requires { monitor < length image.now.image.monitors }
+    ensures { IsShownOfMonitor image.now.image monitor result }
 {
-    let count = image.monitors.as_slice()[monitor].words as usize;
+    let count = image.monitor(monitor).words as usize;
     count.min(SHOWN_WORDS)
 }
 
 /// The first words of a process, so many.
 fn words_of_process(
     alloc: Global,
-    machine: &Machine,
+    machine: &Machine<Ranking>,
     process: usize,
     count: usize,
 ) -> Result<Vec<i32>, AllocError>
@@ -64,13 +63,13 @@ fn words_of_process(
 /// The first words of a monitor, so many.
 fn words_of_monitor(
     alloc: Global,
-    image: &RawImage,
-    machine: &Machine,
-    monitor: usize,
+    image: &ImageBytes,
+    machine: &Machine<Ranking>,
+    monitor: u16,
     count: usize,
 ) -> Result<Vec<i32>, AllocError>
     ghost run: { Run }
-    requires image { run.image ≡ image_of image.now }
+    requires image { run.image ≡ image.now.image }
     requires stands { StandsIn run.image run.script machine.now }
     requires count { count ≤ length (monitor_words run.image
         (state_at run.image run.script machine.now.tick) monitor) }
@@ -88,67 +87,68 @@ fn words_of_monitor(
 fn put_one_process(
     alloc: Global,
     text: &mut Text,
-    image: &RawImage,
+    image: &ImageBytes,
     plan: &DecodedImage,
-    machine: &Machine,
-    process: usize,
+    machine: &Machine<Ranking>,
+    process: u16,
 ) -> Result<(), AllocError>
     ghost run: { Run }
-    requires image { run.image ≡ image_of image.now }
+    requires image { run.image ≡ image.now.image }
     requires plan { IsOf run.image plan.now }
     requires stands { StandsIn run.image run.script machine.now }
     requires words { HasItsWords run.image (state_at run.image run.script machine.now.tick) }
-    requires process { process < length image.now.processes }
+    requires process { process < length image.now.image.processes }
     ensures { OnOk result (text.new ≡ text.old ++ process_line image.now.names run.image
         (state_at run.image run.script machine.now.tick) process) }
 {
+    let at = usize::from(process);
     let count = shown_of_process(image, process);
-    let words = words_of_process(alloc, machine, process, count)?;
-    let seen = view(plan, machine, process);
-    put_process(text, &image.names, process, seen, words.as_slice())
+    let words = words_of_process(alloc, machine, at, count)?;
+    let seen = view(plan, machine, at);
+    put_process(text, image.names(), at, seen, words.as_slice())
 }
 
 /// Puts the line of a monitor.
 fn put_one_monitor(
     alloc: Global,
     text: &mut Text,
-    image: &RawImage,
-    machine: &Machine,
-    monitor: usize,
+    image: &ImageBytes,
+    machine: &Machine<Ranking>,
+    monitor: u16,
 ) -> Result<(), AllocError>
     ghost run: { Run }
-    requires image { run.image ≡ image_of image.now }
+    requires image { run.image ≡ image.now.image }
     requires stands { StandsIn run.image run.script machine.now }
     requires words { HasItsWords run.image (state_at run.image run.script machine.now.tick) }
-    requires monitor { monitor < length image.now.monitors }
-    requires few { length image.now.monitors ≤ 64 }
+    requires monitor { monitor < length image.now.image.monitors }
     ensures { OnOk result (text.new ≡ text.old ++ monitor_line image.now.names run.image
         (state_at run.image run.script machine.now.tick) monitor) }
 {
     let count = shown_of_monitor(image, monitor);
     let words = words_of_monitor(alloc, image, machine, monitor, count)?;
-    let inside = occupant(machine, monitor as u16);
-    put_monitor(text, &image.names, monitor, inside, words.as_slice())
+    let inside = occupant(machine, monitor);
+    let at = usize::from(monitor);
+    put_monitor(text, image.names(), at, inside, words.as_slice())
 }
 
 /// Puts the lines of all processes.
 fn put_processes(
     alloc: Global,
     text: &mut Text,
-    image: &RawImage,
+    image: &ImageBytes,
     plan: &DecodedImage,
-    machine: &Machine,
+    machine: &Machine<Ranking>,
 ) -> Result<(), AllocError>
     ghost run: { Run }
-    requires image { run.image ≡ image_of image.now }
+    requires image { run.image ≡ image.now.image }
     requires plan { IsOf run.image plan.now }
     requires stands { StandsIn run.image run.script machine.now }
     requires words { HasItsWords run.image (state_at run.image run.script machine.now.tick) }
     ensures { OnOk result (text.new ≡ text.old ++ flat_map (process_line image.now.names run.image
         (state_at run.image run.script machine.now.tick))
-        (range_with_len 0 (length image.now.processes))) }
+        (range_with_len 0 (length image.now.image.processes))) }
 {
-    for process in 0..image.processes.len() {
+    for process in 0..image.processes() {
         put_one_process(alloc, text, image, plan, machine, process)?;
     }
     Ok(())
@@ -158,19 +158,18 @@ fn put_processes(
 fn put_monitors(
     alloc: Global,
     text: &mut Text,
-    image: &RawImage,
-    machine: &Machine,
+    image: &ImageBytes,
+    machine: &Machine<Ranking>,
 ) -> Result<(), AllocError>
     ghost run: { Run }
-    requires image { run.image ≡ image_of image.now }
+    requires image { run.image ≡ image.now.image }
     requires stands { StandsIn run.image run.script machine.now }
     requires words { HasItsWords run.image (state_at run.image run.script machine.now.tick) }
-    requires few { length image.now.monitors ≤ 64 }
     ensures { OnOk result (text.new ≡ text.old ++ flat_map (monitor_line image.now.names run.image
         (state_at run.image run.script machine.now.tick))
-        (range_with_len 0 (length image.now.monitors))) }
+        (range_with_len 0 (length image.now.image.monitors))) }
 {
-    for monitor in 0..image.monitors.len() {
+    for monitor in 0..image.monitors() {
         put_one_monitor(alloc, text, image, machine, monitor)?;
     }
     Ok(())
@@ -180,16 +179,15 @@ fn put_monitors(
 pub(crate) fn put_state(
     alloc: Global,
     text: &mut Text,
-    image: &RawImage,
+    image: &ImageBytes,
     plan: &DecodedImage,
-    machine: &Machine,
+    machine: &Machine<Ranking>,
 ) -> Result<(), AllocError>
     ghost run: { Run }
-    requires image { run.image ≡ image_of image.now }
+    requires image { run.image ≡ image.now.image }
     requires plan { IsOf run.image plan.now }
     requires stands { StandsIn run.image run.script machine.now }
     requires words { HasItsWords run.image (state_at run.image run.script machine.now.tick) }
-    requires few { length image.now.monitors ≤ 64 }
     ensures { OnOk result (text.new ≡ text.old ++ state_text image.now.names run.image
         (state_at run.image run.script machine.now.tick)) }
 {

@@ -3,7 +3,7 @@ use Rattle.image.specs.Raw.{process_of}
 use Rattle.image.specs.declared.raw.RawProcess.{RawProcess}
 use Rattle.sched_response.specs.declared.tasks.Task.{Task}
 use Rattle.sched_response.specs.Demand.{AreTasks}
-use Rattle.sched_slack.specs.Overhead.{with_overhead}
+use Rattle.sched_sensitivity.specs.Overhead.{with_overhead}
 use Rattle.analysis_command.proofs.Ready as ready
 use Rattle.analysis_command.proofs.fit.rows.Goals as goal
 

@@ -14,7 +14,7 @@ use Rattle.command.proofs.carry.carry.Goals as goal
 pub returns-in-Ok-clause-went : goal.returns-in-Ok-clause-went
 returns-in-Ok-clause-went g c =
     performed (call_of c.args.command.now) (g.F.Files.state c.args.files.now) (g.F.Files.state c.prepare.new.files) (g.F.Files.state c.perform.new.files) (g.O.Sink.state c.args.out.now) (g.O.Sink.state c.perform.new.out)
-    c.in-Ok.act (number_of c.perform.result) c.in-Ok.ensures.files c.in-Ok.ensures.write_counts g.F.Files.tells c.in-Ok.ensures.prepared c.perform.ensures.performed
+    c.in-Ok.act (number_of c.perform.result) c.in-Ok.ensures.only_reads.files c.in-Ok.ensures.only_reads.write_counts g.F.Files.tells c.in-Ok.ensures.prepared c.perform.ensures.performed
 
 pub returns-in-Ok-clause-reads : goal.returns-in-Ok-clause-reads
 returns-in-Ok-clause-reads g c =
@@ -24,12 +24,12 @@ returns-in-Ok-clause-reads g c =
 pub returns-in-Ok-clause-writes : goal.returns-in-Ok-clause-writes
 returns-in-Ok-clause-writes g c =
     performed_writes (call_of c.args.command.now) c.in-Ok.act.store _ _ _ (number_of c.in-Ok.act.status) (number_of c.perform.result)
-    c.in-Ok.ensures.prepared.at c.in-Ok.ensures.prepared.stored c.in-Ok.ensures.writes c.perform.ensures.performed.written c.perform.ensures.performed.range
+    c.in-Ok.ensures.prepared.at c.in-Ok.ensures.prepared.stored c.in-Ok.ensures.only_reads.writes c.perform.ensures.performed.written c.perform.ensures.performed.range
 
 pub returns-in-Ok-clause-cause : goal.returns-in-Ok-clause-cause
 returns-in-Ok-clause-cause g c =
     performed_cause (call_of c.args.command.now) (g.F.Files.state c.args.files.now) (g.F.Files.state c.prepare.new.files) (g.F.Files.state c.perform.new.files) (g.O.Sink.state c.args.out.now) (g.O.Sink.state c.perform.new.out)
-    c.in-Ok.act.store c.perform.result c.in-Ok.ensures.prepared.at c.in-Ok.ensures.read_counts c.in-Ok.ensures.write_counts c.perform.ensures.cause
+    c.in-Ok.act.store c.perform.result c.in-Ok.ensures.prepared.at c.in-Ok.ensures.only_reads.read_counts c.in-Ok.ensures.only_reads.write_counts c.perform.ensures.cause
 
 pub returns-in-Err-Unread-clause-cause : goal.returns-in-Err-Unread-clause-cause
 returns-in-Err-Unread-clause-cause g c =

@@ -7,5 +7,5 @@ use Rattle.command_images.proofs.charting.chart_on.Goals as goal
 
 pub returns-in-Ok-clause-due : goal.returns-in-Ok-clause-due
 returns-in-Ok-clause-due g c =
-    of_held g.F.Files.tells ((g.F.Files.state c.args.files.now).held c.args.script.now) (IsContent longest_text c.in_ok-content.content) (λ text. IsDrawnDue c.args.first c.args.end c.args.raw.now text (outcome_of c.in-Ok.act))
+    of_held g.F.Files.tells ((g.F.Files.state c.args.files.now).held c.args.script.now) (IsContent longest_text c.in_ok-content.content) (λ text. IsDrawnDue c.args.first c.args.end c.args.image.now text (outcome_of c.in-Ok.act))
     c.in_ok-content.ensures.content c.in-Ok.ensures.due

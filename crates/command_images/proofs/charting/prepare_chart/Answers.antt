@@ -11,16 +11,16 @@ use Rattle.command_images.proofs.charting.prepare_chart.Goals as goal
 pub returns-in-Ok-clause-prepared : goal.returns-in-Ok-clause-prepared
 returns-in-Ok-clause-prepared g c =
     chart_prepares g.F.Files.tells c.args.image.now c.args.script.now c.args.first c.args.end (g.F.Files.state c.args.files.now) (g.F.Files.state c.read.new.files) (g.F.Files.state c.chart_on.new.files)
-    (IsContent longest c.in_ok-content.content) c.in-Ok.raw c.chart_on.result c.in_ok-content.ensures.content c.in-Ok.ensures.loads c.in_ok-content.ensures.files c.in_ok-content.ensures.read_counts
+    (IsContent longest c.in_ok-content.content) c.in-Ok.loaded c.chart_on.result c.in_ok-content.ensures.content c.in-Ok.ensures c.in_ok-content.ensures.only_reads.files c.in_ok-content.ensures.only_reads.read_counts
     c.chart_on.ensures.due c.chart_on.ensures.quiet c.chart_on.ensures.failed
 
 pub returns-in-Ok-refuse_image-clause-prepared : goal.returns-in-Ok-refuse_image-clause-prepared
 returns-in-Ok-refuse_image-clause-prepared g c =
     acted g.F.Files.tells (call.chart c.args.image.now c.args.script.now c.args.first c.args.end) (g.F.Files.state c.args.files.now) c.in-Ok-refuse_image.act (c.in-Ok-refuse_image.ensures.quiet None)
     (chart_stops g.F.Files.tells c.args.first c.args.end ((g.F.Files.state c.args.files.now).held c.args.image.now) ((g.F.Files.state c.args.files.now).held c.args.script.now) (IsContent longest c.in_ok-content.content)
-    (outcome_of c.in-Ok-refuse_image.act) c.in_ok-content.ensures.content (λ bytes is. c.in-Ok-refuse_image.ensures.due bytes (c.in-Err.ensures.loads bytes is)))
+    (outcome_of c.in-Ok-refuse_image.act) c.in_ok-content.ensures.content (λ bytes is. c.in-Ok-refuse_image.ensures.due bytes (c.in-Err.ensures bytes is)))
 
 pub returns-in-Ok-clause-told : goal.returns-in-Ok-clause-told
 returns-in-Ok-clause-told g c =
     script_explained g.F.Files.tells c.args.image.now c.args.script.now (g.F.Files.state c.args.files.now).held (g.F.Files.state c.read.new.files).held c.chart_on.new.message
-    (IsContent longest c.in_ok-content.content) c.in-Ok.raw c.chart_on.result c.in_ok-content.ensures.content c.in-Ok.ensures.loads c.in_ok-content.ensures.files c.chart_on.ensures.told
+    (IsContent longest c.in_ok-content.content) c.in-Ok.loaded c.chart_on.result c.in_ok-content.ensures.content c.in-Ok.ensures c.in_ok-content.ensures.only_reads.files c.chart_on.ensures.told

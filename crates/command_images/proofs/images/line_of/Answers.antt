@@ -1,6 +1,6 @@
 use Rattle.std.proofs.Common.{ℕ, List, Err, sym, subst}
 use Rattle.command_due.specs.CommandsDue.{IsImageRefused, image_fault_line, told, valid_fault_line}
-use Rattle.command_images.specs.Loading.{Loads}
+use Rattle.image_loaded.specs.Answers.{Loads}
 use Rattle.command_refusals.specs.Told.{IsImageTold}
 use Rattle.command_images.proofs.Refused.{invalid_image, invalid_told, misread_image}
 use Rattle.command_answers.proofs.Judged.{of_made}

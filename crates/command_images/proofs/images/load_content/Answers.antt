@@ -5,6 +5,6 @@ use Rattle.command_answers.specs.Contents.{IsContent}
 use Rattle.command_images.proofs.Refused.{long_image}
 use Rattle.command_images.proofs.images.load_content.Goals as goal
 
-pub returns-in-TooLong-clause-loads : goal.returns-in-TooLong-clause-loads
-returns-in-TooLong-clause-loads c =
+pub returns-in-TooLong : goal.returns-in-TooLong
+returns-in-TooLong c =
     λ bytes is. (let long : longest < length bytes = subst (λ (found : Content). IsContent longest found bytes) c.in-TooLong.is is in long_image bytes long)

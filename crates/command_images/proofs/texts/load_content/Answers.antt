@@ -5,6 +5,6 @@ use Rattle.command_answers.specs.Contents.{IsContent}
 use Rattle.command_images.proofs.PrepareImagesTold.{long_text}
 use Rattle.command_images.proofs.texts.load_content.Goals as goal
 
-pub returns-in-TooLong-clause-loads : goal.returns-in-TooLong-clause-loads
-returns-in-TooLong-clause-loads c =
+pub returns-in-TooLong : goal.returns-in-TooLong
+returns-in-TooLong c =
     λ text is. (let long : longest_text < length text = subst (λ (found : Content). IsContent longest_text found text) c.in-TooLong.is is in long_text text long)

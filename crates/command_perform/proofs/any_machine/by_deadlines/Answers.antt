@@ -1,21 +1,20 @@
-use Rattle.std.proofs.Common.{◌≡◌, ℕ, List, map, subst, sym}
+use Rattle.std.proofs.Common.{ℕ, List, refl, subst, sym}
 use Rattle.edf_machine.specs.Marks.{HasDeadlines}
-use Rattle.image.specs.declared.raw.RawProcess.{RawProcess}
 use Rattle.command_perform.proofs.Earliest.{can_by_deadlines, has_deadlines, is_runnable, made_by_deadlines}
 use Rattle.command_perform.proofs.any_machine.by_deadlines.Goals as goal
 
-pub new-requires : goal.new-requires
-new-requires g c =
+pub machine_by_deadlines-requires : goal.machine_by_deadlines-requires
+machine_by_deadlines-requires g c =
     let run = c.args.run.now in
     let deadlines = c.in_ok-deadlines.deadlines.items in
     let can = can_by_deadlines run c.requires.1.1.0 c.requires.1.1.1 in
-    let taken = subst (λ (ps : List RawProcess). deadlines ≡ map (λ (p : RawProcess). p.deadline) ps) c.as_slice.ensures c.in_ok-deadlines.ensures in (
+    let has = has_deadlines run g.image c.requires.0 c.image.result.now deadlines c.image.ensures c.in_ok-deadlines.ensures in (
       c.requires.1.0,
-      (subst (λ (ds : List ℕ). HasDeadlines g.image ds) (sym c.as_slice-2.ensures.value) (has_deadlines run g.image c.requires.0 deadlines taken), is_runnable run g.image c.requires.0 can),
+      (refl, (subst (λ (ds : List ℕ). HasDeadlines g.image ds) (sym c.as_slice.ensures.value) has, is_runnable run g.image c.requires.0 can)),
     )
 
 pub returns : goal.returns
 returns g c =
     let run = c.args.run.now in
     let can = can_by_deadlines run c.requires.1.1.0 c.requires.1.1.1 in
-    made_by_deadlines run g.image c.requires.0 c.new.result c.requires.1.1.0 can c.new.ensures.start c.new.ensures.stands
+    made_by_deadlines run g.image c.requires.0 c.machine_by_deadlines.result c.requires.1.1.0 can c.machine_by_deadlines.ensures.start c.machine_by_deadlines.ensures.stands

@@ -2,8 +2,8 @@ use Rattle.std.proofs.Common.{◌≡◌, ◌+◌, ◌∙◌, IfOk, ℕ, List, ap
 use Rattle.image.specs.Raw.{process_of}
 use Rattle.sched_response.specs.declared.tasks.Task.{Task}
 use Rattle.sched_response.specs.Demand.{with_run}
-use Rattle.sched_slack.specs.Slack.{with_more, IsTimely}
-use Rattle.sched_slack.proofs.More.{put_back}
+use Rattle.sched_sensitivity.specs.Slack.{with_more, IsTimely}
+use Rattle.sched_sensitivity.proofs.More.{put_back}
 use Rattle.command_due.specs.Lines.{AreLeastBounds}
 use Rattle.command_programs.specs.Levels.{HaveLevels}
 use Rattle.command_programs.proofs.Ranks.{levels_more}

@@ -9,7 +9,7 @@ use Rattle.command_answers.proofs.Judged.{can_run, bad_over, ran_over}
 use Rattle.command_programs.proofs.going.go_act.Goals as goal
 
 pub run_built-requires-clause-runs : goal.run_built-requires-clause-runs
-run_built-requires-clause-runs c = can_run c.args.built.image c.in-Ok.lines c.requires.image c.in-Ok.ensures.some
+run_built-requires-clause-runs c = can_run (named_of c.args.built.image) c.in-Ok.lines c.requires.image c.in-Ok.ensures.some
 
 pub returns-in-Ok-clause-due : goal.returns-in-Ok-clause-due
 returns-in-Ok-clause-due c =

@@ -12,7 +12,7 @@ use Rattle.command_programs.proofs.going.prepare_go.Goals as goal
 pub returns-in-Ok-clause-prepared : goal.returns-in-Ok-clause-prepared
 returns-in-Ok-clause-prepared g c =
     go_prepares g.F.Files.tells c.args.program.now c.args.image.now c.args.script.now c.args.over (g.F.Files.state c.args.files.now) (g.F.Files.state c.read.new.files) (g.F.Files.state c.go_on.new.files)
-    (IsContent longest_text c.in_ok-content.content) c.in-Ok.built c.go_on.result c.in_ok-content.ensures.content c.in-Ok.ensures.compiles c.in_ok-content.ensures.files c.in_ok-content.ensures.read_counts
+    (IsContent longest_text c.in_ok-content.content) c.in-Ok.built c.go_on.result c.in_ok-content.ensures.content c.in-Ok.ensures.compiles c.in_ok-content.ensures.only_reads.files c.in_ok-content.ensures.only_reads.read_counts
     c.go_on.ensures.due c.go_on.ensures.done c.go_on.ensures.failed
 
 pub returns-in-Ok-refuse-clause-prepared : goal.returns-in-Ok-refuse-clause-prepared
@@ -25,7 +25,7 @@ pub returns-in-Ok-clause-told : goal.returns-in-Ok-clause-told
 returns-in-Ok-clause-told g c =
     IfOk-weaker c.go_on.result _ _
     (λ act told. go_explained g.F.Files.tells c.args.program.now c.args.image.now c.args.script.now c.args.over (g.F.Files.state c.args.files.now).held (g.F.Files.state c.read.new.files).held
-    (IsContent longest_text c.in_ok-content.content) c.in-Ok.built _ act c.in_ok-content.ensures.content c.in-Ok.ensures.compiles c.in_ok-content.ensures.files told)
+    (IsContent longest_text c.in_ok-content.content) c.in-Ok.built _ act c.in_ok-content.ensures.content c.in-Ok.ensures.compiles c.in_ok-content.ensures.only_reads.files told)
     c.go_on.ensures.told
 
 pub returns-in-Ok-refuse-clause-told : goal.returns-in-Ok-refuse-clause-told

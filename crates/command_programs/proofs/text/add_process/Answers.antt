@@ -3,7 +3,7 @@ use Rattle.std.specs.Prelude.{slice_index_or}
 use Rattle.image.specs.Raw.{image_of, process_of}
 use Rattle.image.specs.declared.raw.RawProcess.{RawProcess}
 use Rattle.sched_response.specs.declared.tasks.Task.{Task}
-use Rattle.sched_slack.specs.Slack.{with_more}
+use Rattle.sched_sensitivity.specs.Slack.{with_more}
 use Rattle.command_due.specs.Lines.{slack_line, AreLeastBounds}
 use Rattle.valid_image.specs.Tasks.{with_rank as index_of_rank}
 use Rattle.command_programs.proofs.Growing.{added, then_ok}

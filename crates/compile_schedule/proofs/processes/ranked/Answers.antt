@@ -1,21 +1,19 @@
-use Rattle.std.proofs.Common.{◌<◌, ◌≤◌, ◌∙◌, List, length, get_or, ap, subst}
+use Rattle.std.proofs.Common.{◌≡◌, List, length, ap, subst, sym, arith}
 use Rattle.image.specs.declared.raw.RawProcess.{RawProcess}
-use Rattle.image.specs.Raw.{image_of}
-use Rattle.compile_schedule.proofs.Filling.{none_ranked, one_ranked, all_ranked}
+use Rattle.compile_schedule.specs.Ranking.{HaveRanks}
+use Rattle.compile_schedule.proofs.Filling.{one_ranked, all_ranked}
 use Rattle.compile_schedule.proofs.processes.ranked.Goals as goal
-
-pub loop-number-init : goal.loop-number-init
-loop-number-init c = none_ranked (image_of c.args.image.now) c.args.image.now.processes c.new-all.result c.new-all.ensures
 
 pub loop-number-preserved : goal.loop-number-preserved
 loop-number-preserved c =
-    let p = c.index-processes-number.result in
-    let k = c.loop-number.number in
-    one_ranked (image_of c.args.image.now) c.args.image.now.processes c.loop-number.all c.push.new.self k (record { rank = c.rank_of-rank.result; block = 0; bound = 0 }) p c.in_ok-process.process
-    (subst (λ (ps : List RawProcess). k < length ps) c.as_slice-processes.ensures c.loop-number-test.true)
-    (c.index-processes-number.is ∙ ap (λ (ps : List RawProcess). get_or ps k p) c.as_slice-processes.ensures) c.loop-number.invariant c.in_ok-push.ensures.ok c.in_ok-process.ensures c.rank_of-rank.ensures
+    let all : length c.into_vec-processes.result.items ≡ length c.args.processes = ap (λ (xs : List RawProcess). length xs) c.into_vec-processes.ensures in
+    let many : c.len-number-end.result ≡ length c.args.processes = omega (arith, all, c.len-number-end.ensures, c.into_vec-processes.result.ok.0) in
+    one_ranked c.args.ranks.now c.args.processes c.loop-number.processes.items c.loop-number.number c.index_mut.result.now c.requires (omega (arith, many, c.loop-number-test.true)) c.index_mut.ensures.value
+    c.loop-number.invariant
 
 pub returns : goal.returns
 returns c =
-    all_ranked (image_of c.args.image.now) c.args.image.now.processes c.loop-number.all c.loop-number.number
-    (subst (λ (ps : List RawProcess). length ps ≤ c.loop-number.number) c.as_slice-processes.ensures c.loop-number-test.false) c.loop-number.invariant
+    let all : length c.into_vec-processes.result.items ≡ length c.args.processes = ap (λ (xs : List RawProcess). length xs) c.into_vec-processes.ensures in
+    let many : c.len-number-end.result ≡ length c.args.processes = omega (arith, all, c.len-number-end.ensures, c.into_vec-processes.result.ok.0) in
+    subst (λ (xs : List RawProcess). HaveRanks c.args.ranks.now c.args.processes xs) (sym c.from_vec.ensures)
+    (all_ranked c.args.ranks.now c.args.processes c.loop-number.processes.items c.loop-number.number (omega (arith, many, c.loop-number-test.false)) c.loop-number.invariant)

@@ -1,15 +1,19 @@
-use Rattle.std.proofs.Common.{refl}
-use Rattle.compile_schedule.proofs.Growing.{none_bounded, one_bounded, all_bounded}
+use Rattle.std.proofs.Common.{◌≡◌, List, length, ap, subst, sym, arith}
+use Rattle.image.specs.declared.raw.RawProcess.{RawProcess}
+use Rattle.compile_schedule.specs.Bounding.{AreBounded}
+use Rattle.compile_schedule.proofs.Filling.{one_bounded, all_bounded}
 use Rattle.compile_schedule.proofs.with_bounds_filled.bounded.Goals as goal
-
-pub loop-number-init : goal.loop-number-init
-loop-number-init c = none_bounded c.args.bounds.now c.args.processes.now c.new-all.result c.new-all.ensures
 
 pub loop-number-preserved : goal.loop-number-preserved
 loop-number-preserved c =
-    let p = c.index-processes-number.result in
-    one_bounded c.args.bounds.now c.args.processes.now c.loop-number.all c.push.new.self c.loop-number.number (record { rank = p.rank; block = p.block; bound = c.unwrap_or-bound.result }) p c.in_ok-timed.timed c.bound_at-there.result
-    c.loop-number-test.true c.index-processes-number.is c.loop-number.invariant c.in_ok-push.ensures.ok c.in_ok-timed.ensures refl refl c.bound_at-there.ensures c.unwrap_or-bound.ensures
+    let all : length c.into_vec-processes.result.items ≡ length c.args.processes = ap (λ (xs : List RawProcess). length xs) c.into_vec-processes.ensures in
+    let many : c.len.result ≡ length c.args.processes = omega (arith, all, c.len.ensures, c.into_vec-processes.result.ok.0) in
+    one_bounded c.args.bounds.now c.args.processes c.loop-number.processes.items c.loop-number.number c.unwrap_or-process.result c.index_mut-process.result.now
+    (omega (arith, many, c.min-number-end.ensures, c.loop-number-test.true)) c.index_mut-process.ensures.value c.unwrap_or-process.ensures c.loop-number.invariant
 
 pub returns : goal.returns
-returns c = all_bounded c.args.bounds.now c.args.processes.now c.loop-number.all c.loop-number.number c.loop-number-test.false c.loop-number.invariant
+returns c =
+    let all : length c.into_vec-processes.result.items ≡ length c.args.processes = ap (λ (xs : List RawProcess). length xs) c.into_vec-processes.ensures in
+    let many : c.len.result ≡ length c.args.processes = omega (arith, all, c.len.ensures, c.into_vec-processes.result.ok.0) in
+    subst (λ (xs : List RawProcess). AreBounded c.args.bounds.now c.args.processes xs) (sym c.from_vec.ensures)
+    (all_bounded c.args.bounds.now c.args.processes c.loop-number.processes.items c.loop-number.number (omega (arith, many, c.min-number-end.ensures, c.loop-number-test.false)) c.loop-number.invariant)

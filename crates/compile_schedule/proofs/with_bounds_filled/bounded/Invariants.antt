@@ -1,5 +1,5 @@
-use Rattle.compile_schedule.proofs.Growing.{BoundedSoFar}
+use Rattle.compile_schedule.proofs.Filling.{BoundedSoFar}
 use Rattle.compile_schedule.proofs.with_bounds_filled.bounded.Given as goal
 
 abbrev pub invariant-loop-number : goal.invariant-loop-number
-invariant-loop-number l = BoundedSoFar l.bounds l.processes l.number l.all
+invariant-loop-number l = BoundedSoFar l.bounds l.fn.processes l.number l.processes.items

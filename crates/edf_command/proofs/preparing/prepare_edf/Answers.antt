@@ -19,7 +19,7 @@ pub returns-in-Ok-clause-prepared : goal.returns-in-Ok-clause-prepared
 returns-in-Ok-clause-prepared g c =
     edf_prepares g.F.Files.tells c.args.program.now c.args.script.now (g.F.Files.state c.args.files.now) (g.F.Files.state c.read.new.files) (g.F.Files.state c.judged_on.new.files)
     (IsContent longest_text c.in_ok-content.content) (named_of c.in-Ok.subject.image) c.in-Ok.subject.answer c.judged_on.result c.in_ok-content.ensures.content c.in-Ok.ensures.judged
-    c.in_ok-content.ensures.files c.in_ok-content.ensures.read_counts c.judged_on.ensures.due c.judged_on.ensures.done c.judged_on.ensures.failed
+    c.in_ok-content.ensures.only_reads.files c.in_ok-content.ensures.only_reads.read_counts c.judged_on.ensures.due c.judged_on.ensures.done c.judged_on.ensures.failed
 
 pub returns-in-Ok-refuse_source-clause-prepared : goal.returns-in-Ok-refuse_source-clause-prepared
 returns-in-Ok-refuse_source-clause-prepared g c =
@@ -36,7 +36,7 @@ pub returns-in-Ok-clause-told : goal.returns-in-Ok-clause-told
 returns-in-Ok-clause-told g c =
     IfOk-weaker c.judged_on.result _ _
     (λ act. edf_explained c.args.program.now c.args.script.now c.judged_on.new.message c.in-Ok.subject act g.F.Files.tells (g.F.Files.state c.args.files.now).held (g.F.Files.state c.read.new.files).held
-    (IsContent longest_text c.in_ok-content.content) c.in_ok-content.ensures.content c.in-Ok.ensures.judged c.in_ok-content.ensures.files)
+    (IsContent longest_text c.in_ok-content.content) c.in_ok-content.ensures.content c.in-Ok.ensures.judged c.in_ok-content.ensures.only_reads.files)
     c.judged_on.ensures.told
 
 pub returns-in-Ok-refuse_source-clause-told : goal.returns-in-Ok-refuse_source-clause-told

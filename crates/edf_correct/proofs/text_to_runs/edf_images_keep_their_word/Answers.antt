@@ -3,5 +3,5 @@ use Rattle.edf_correct.proofs.text_to_runs.edf_images_keep_their_word.Goals as g
 
 pub returns : goal.returns
 returns c =
-    edf_images_keep_their_word c.checked_programs_are_ready.ensures c.generated_code_is_code.ensures c.names_have_frames.ensures c.scripts_for_the_names_suit.ensures
-    c.scripts_suit.ensures.framed c.edf_runs_are_right.ensures
+    edf_images_keep_their_word c.checked_programs_are_ready.ensures c.generated_code_is_code.ensures c.scripts_for_the_names_suit.ensures
+    c.scripts_are_in_order.ensures c.edf_runs_are_right.ensures

@@ -1,24 +1,12 @@
-use Rattle.std.proofs.Common.{◌≡◌, arith, drop, subst, sym, take, List}
-use Rattle.std.proofs.lemmas.List.{length-take-le, take-append-drop}
-use Rattle.base.specs.declared.event.Event.{Event}
+use Rattle.std.proofs.Common.{[], ◌∷◌, ◌++◌, ◌∙◌}
 use Rattle.replay_state.specs.View.{config_of}
 use Rattle.replay_script.specs.Cursors.{script_in}
 use Rattle.replay_accept.specs.Running.{program_of}
-use Rattle.replay_reason_spec.specs.Reasons.{IsReason}
+use Rattle.replay.proofs.ReplayingLemmas.{found_refused}
 use Rattle.replay.proofs.judge_events.refuse.Goals as goal
 
-pub returns : goal.returns
-returns c = λ begun allowed.
-    let es = c.args.events.now in
-    let k = c.args.at in
-    let reached = config_of c.args.running.now.config in
-    record {
-      earlier = take k es;
-      later = drop k es;
-      parts = sym (take-append-drop k es);
-      line = omega (arith, length-take-le k es c.requires.at);
-      reached = reached;
-      allowed = allowed;
-      stops = c.requires.stops;
-      reason = subst (λ (l : List Event). IsReason (program_of c.args.running.now.rules) (script_in c.args.script.now) reached l c.in_ok-reason.reason) c.events_from.ensures c.in_ok-reason.ensures;
-    }
+pub returns-clause-found : goal.returns-clause-found
+returns-clause-found c = λ begun text before read allowed.
+    let e = c.args.event.now in
+    found_refused (program_of c.args.running.now.rules) (script_in c.args.script.now) begun (config_of c.args.running.now.config) c.args.reader.now c.read_to_end.new.self text before e c.lines-line.result c.in_ok-reason.reason
+    (c.in_ok-read_to_end.ensures.all text (before ++ e ∷ []) read) c.in_ok-read_to_end.ensures.names (c.lines-line.ensures ∙ read.lines) allowed c.requires.stops c.in_ok-reason.ensures

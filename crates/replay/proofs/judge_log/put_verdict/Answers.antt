@@ -7,6 +7,6 @@ use Rattle.replay.proofs.judge_log.put_verdict.Goals as goal
 
 pub returns-in_ok-refused_line-in-Refused-clause-told : goal.returns-in_ok-refused_line-in-Refused-clause-told
 returns-in_ok-refused_line-in-Refused-clause-told c = λ log content short refused.
-    refused_told c.args.names.now c.args.file.now log _ _ c.args.found.now _ _ c.in-Refused.is
+    refused_told c.args.names.now c.args.file.now log _ _ c.args.judged.now.finding _ _ c.in-Refused.is
     (put_comes_to status.Log _ c.put-in-Refused.result c.put-in-Refused.ensures ∙ ap (told 9) c.in_ok-refused_line-in-Refused.ensures)
     (c.in_ok-message-in-Refused.ensures log content short)

@@ -14,8 +14,8 @@ use Rattle.replay.proofs.preparing.prepare_replay.Goals as goal
 pub returns-in-Ok-clause-prepared : goal.returns-in-Ok-clause-prepared
 returns-in-Ok-clause-prepared g c =
     replay_prepares g.F.Files.tells c.args.program.now c.args.script.now c.args.log.now (g.F.Files.state c.args.files.now) (g.F.Files.state c.read.new.files) (g.F.Files.state c.script_on.new.files)
-    (IsContent longest_text c.in_ok-content.content) (placed c.in-Ok.source.program) c.script_on.result c.in_ok-content.ensures.content c.in-Ok.ensures.written c.in_ok-content.ensures.files
-    c.in_ok-content.ensures.read_counts c.script_on.ensures.due c.script_on.ensures.quiet c.script_on.ensures.failed
+    (IsContent longest_text c.in_ok-content.content) (placed c.in-Ok.source.program) c.script_on.result c.in_ok-content.ensures.content c.in-Ok.ensures.written c.in_ok-content.ensures.only_reads.files
+    c.in_ok-content.ensures.only_reads.read_counts c.script_on.ensures.due c.script_on.ensures.quiet c.script_on.ensures.failed
 
 pub returns-in-Ok-refuse_source-clause-prepared : goal.returns-in-Ok-refuse_source-clause-prepared
 returns-in-Ok-refuse_source-clause-prepared g c =
@@ -29,7 +29,7 @@ returns-in-Ok-clause-told g c =
     IfOk-weaker c.script_on.result _ _
     (λ act. replay_explained c.args.program.now c.args.script.now c.args.log.now c.script_on.new.message (placed c.in-Ok.source.program) act
     g.F.Files.tells (g.F.Files.state c.args.files.now).held (g.F.Files.state c.read.new.files).held (IsContent longest_text c.in_ok-content.content) c.in_ok-content.ensures.content
-    c.in-Ok.ensures.written c.in_ok-content.ensures.files)
+    c.in-Ok.ensures.written c.in_ok-content.ensures.only_reads.files)
     c.script_on.ensures.told
 
 pub returns-in-Ok-refuse_source-clause-told : goal.returns-in-Ok-refuse_source-clause-told

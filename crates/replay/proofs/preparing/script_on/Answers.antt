@@ -13,13 +13,13 @@ pub returns-in-Ok-clause-due : goal.returns-in-Ok-clause-due
 returns-in-Ok-clause-due g c =
     log_due g.F.Files.tells (placed c.args.source.now.program) c.args.source.now.names c.requires.names.same c.args.script.now c.args.log.now
     (g.F.Files.state c.args.files.now) (g.F.Files.state c.read.new.files) (g.F.Files.state c.log_on.new.files) (IsContent longest_text c.in_ok-content.content)
-    c.in-Ok.lines.lines c.in-Ok.lines.end c.log_on.result c.in_ok-content.ensures.content c.in-Ok.ensures.script c.in_ok-content.ensures.files c.log_on.ensures.due
+    c.in-Ok.lines.lines c.in-Ok.lines.end c.log_on.result c.in_ok-content.ensures.content c.in-Ok.ensures.script c.in_ok-content.ensures.only_reads.files c.log_on.ensures.due
 
 pub returns-in-Ok-clause-failed : goal.returns-in-Ok-clause-failed
 returns-in-Ok-clause-failed g c =
     log_failed g.F.Files.tells (placed c.args.source.now.program) c.args.source.now.names c.requires.names.same c.args.script.now c.args.log.now
     (g.F.Files.state c.args.files.now) (g.F.Files.state c.read.new.files) (g.F.Files.state c.log_on.new.files) (IsContent longest_text c.in_ok-content.content)
-    c.in-Ok.lines.lines c.in-Ok.lines.end c.log_on.result c.in_ok-content.ensures.content c.in-Ok.ensures.script c.in_ok-content.ensures.read_counts c.log_on.ensures.failed
+    c.in-Ok.lines.lines c.in-Ok.lines.end c.log_on.result c.in_ok-content.ensures.content c.in-Ok.ensures.script c.in_ok-content.ensures.only_reads.read_counts c.log_on.ensures.failed
 
 pub returns-in-Ok-refuse_script-clause-due : goal.returns-in-Ok-refuse_script-clause-due
 returns-in-Ok-refuse_script-clause-due g c =
@@ -32,7 +32,7 @@ returns-in-Ok-clause-told g c =
     IfOk-weaker c.log_on.result _ _
     (λ act. log_told (placed c.args.source.now.program) c.args.source.now.names c.requires.names.same c.args.script.now c.args.log.now c.log_on.new.message act g.F.Files.tells
     ((g.F.Files.state c.args.files.now).held c.args.script.now) ((g.F.Files.state c.read.new.files).held c.args.log.now) ((g.F.Files.state c.args.files.now).held c.args.log.now)
-    (IsContent longest_text c.in_ok-content.content) c.in-Ok.lines.lines c.in-Ok.lines.end c.in_ok-content.ensures.content c.in-Ok.ensures.script (c.in_ok-content.ensures.files c.args.log.now))
+    (IsContent longest_text c.in_ok-content.content) c.in-Ok.lines.lines c.in-Ok.lines.end c.in_ok-content.ensures.content c.in-Ok.ensures.script (c.in_ok-content.ensures.only_reads.files c.args.log.now))
     c.log_on.ensures.told
 
 pub returns-in-Ok-refuse_script-clause-told : goal.returns-in-Ok-refuse_script-clause-told

@@ -4,7 +4,6 @@ use Rattle.std.proofs.lemmas.Int.{to_z-of_z}
 use Rattle.std.proofs.lemmas.Option.{slice_get_read}
 use Rattle.base.proofs.Lists.{map_get}
 use Rattle.replay_state.specs.View.{slot_of, vars_of}
-use Rattle.replay_calls.proofs.Elements.{mapped_get}
 use Rattle.replay_calls.specs.Stores.{IsTried, put_slot}
 use Rattle.replay_calls.proofs.Placing.{mapped_set, stored_at}
 use Rattle.replay_calls.proofs.storing.store_at.Goals as goal

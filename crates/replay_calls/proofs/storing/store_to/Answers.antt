@@ -3,7 +3,7 @@ use Rattle.std.proofs.lemmas.Int.{to_z-of_z}
 use Rattle.source_semantics.specs.Run as run
 use Rattle.replay_state.specs.View.{home_of, target_of, vars_of}
 use Rattle.replay_calls.specs.Reach.{area_of, memory_of}
-use Rattle.replay_calls.specs.Stores.{IsStored, accepted, put_named, store_run}
+use Rattle.replay_calls.specs.Stores.{IsStored, put_named, store_run}
 use Rattle.replay_calls.proofs.Puts.{beside_over}
 use Rattle.replay_calls.proofs.storing.store_to.Goals as goal
 

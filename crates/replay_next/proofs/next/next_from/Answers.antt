@@ -9,12 +9,12 @@ use Rattle.replay_state.specs.View.{action_of, calls_of, home_of, item_of, next_
 use Rattle.replay_state.specs.declared.call.Call.{Call}
 use Rattle.replay_state.specs.declared.call.Item.{Item}
 use Rattle.replay_calls.specs.Reach.{area_of, memory_of}
-use Rattle.replay_next.specs.Came.{came_of}
+use Rattle.replay_next.specs.Remains.{came_of}
 use Rattle.replay_next.specs.Ran.{ran_of}
 use Rattle.replay_next.specs.declared.results.RunResult.{RunResult}
 use Rattle.replay_next.specs.declared.results.RunResult.TheVariants as ran_is
-use Rattle.replay_next.specs.declared.items.ItemResult.{ItemResult}
-use Rattle.replay_next.specs.declared.items.ItemResult.TheVariants as came_is
+use Rattle.replay_next.specs.declared.remains.ItemResult.{ItemResult}
+use Rattle.replay_next.specs.declared.remains.ItemResult.TheVariants as came_is
 use Rattle.replay_next.proofs.NextTurning.{call_as, call_turned, next_as}
 use Rattle.replay_next.proofs.Oks.{ok_told}
 use Rattle.replay_next.proofs.next.next_from.Goals.{in-Gives, in-Ran+in-Goes}

@@ -1,6 +1,5 @@
 use Rattle.std.proofs.Common.{◌≡◌, ℕ, IfOk, arith, refl, ap, subst, ◌∙◌}
 use Rattle.std.specs.Prelude.{min}
-use Rattle.image.specs.Raw.{named_of}
 use Rattle.run_chart.specs.Chart.{chart_in, chart_text}
 use Rattle.run_chart.specs.Spans.{columns_of}
 use Rattle.run_chart.specs.declared.columns.Columns.{Columns}
@@ -20,5 +19,5 @@ pub returns : goal.returns
 unfolding chart_text
 returns c =
     let end : c.min.result ≡ min c.args.end c.args.script.now.end = omega arith in
-    subst (λ (columns : Columns). IfOk c.chart_in.result (λ text. text ≡ chart_in (named_of c.args.image.now) (script_of c.args.script.now) columns))
+    subst (λ (columns : Columns). IfOk c.chart_in.result (λ text. text ≡ chart_in c.args.image.now (script_of c.args.script.now) columns))
     (c.columns_of-columns.ensures.are ∙ ap (λ (e : ℕ). columns_of c.args.first e) end) c.chart_in.ensures

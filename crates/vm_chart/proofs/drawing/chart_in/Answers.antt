@@ -1,7 +1,5 @@
-use Rattle.std.proofs.Common.{◌≡◌, ◌+◌, ◌*◌, IfOk, List, length, map, arith, refl, ap, sym, subst}
+use Rattle.std.proofs.Common.{◌≡◌, ◌+◌, ◌*◌, IfOk, List, arith, refl, ap, sym, subst}
 use Rattle.std.specs.Prelude.{All}
-use Rattle.std.proofs.lemmas.List.{length-map}
-use Rattle.image.specs.Raw.{image_of, named_of, process_of}
 use Rattle.machine_semantics.specs.Image.{Image, Script}
 use Rattle.machine_semantics.specs.Run.{events}
 use Rattle.run_chart.specs.Chart.{chart_in}
@@ -28,7 +26,7 @@ go_to-requires g c =
     let columns = c.args.columns.now in
     let run = script_of c.args.script.now in
     let course = c.in_ok-course.course in
-    let here : Follows (record { image = image_of c.args.image.now; script = run; columns = columns; column = 0 }) course =
+    let here : Follows (record { image = c.args.image.now.image; script = run; columns = columns; column = 0 }) course =
     subst (λ (i : Image). Follows (record { image = i; script = run; columns = columns; column = 0 }) course) (ap (λ (d : Drawing). d.image) is) (c.in_ok-course.ensures.follows columns) in
     let begin : begins g.drawing ≡ columns.first + 0 * columns.width = ap (λ (d : Drawing). begins d) is in (
       subst (λ (d : Drawing). IsOf d.image c.args.plan.now) back c.requires.1.0,
@@ -60,7 +58,7 @@ draw-requires g c =
     let columns = c.args.columns.now in
     let run = script_of c.args.script.now in
     let course = c.go_to.new.self in
-    let there : Follows (record { image = image_of c.args.image.now; script = run; columns = columns; column = 0 }) course = subst (λ (d : Drawing). Follows d course) is c.go_to.ensures.follows in (
+    let there : Follows (record { image = c.args.image.now.image; script = run; columns = columns; column = 0 }) course = subst (λ (d : Drawing). Follows d course) is c.go_to.ensures.follows in (
       subst (λ (d : Drawing). IsOf d.image c.args.plan.now) back c.requires.1.0,
       (
         subst (λ (d : Drawing). IsRunnable d.image run) back c.requires.1.1.0,
@@ -87,18 +85,17 @@ text_of-requires g c =
     let run = script_of c.args.script.now in
     let course = c.draw.new.self in
     let drawn : AreDrawn g.drawing.image run columns course.traces.items =
-    all_drawn (record { image = g.drawing.image; script = run; columns = columns; column = columns.count }) course refl c.in_ok-draw.ensures.there c.in_ok-draw.ensures.follows in
-    let count = length-map c.args.image.now.processes process_of in (
+    all_drawn (record { image = g.drawing.image; script = run; columns = columns; column = columns.count }) course refl c.in_ok-draw.ensures.there c.in_ok-draw.ensures.follows in (
       c.requires.1.1.1.1.0.few,
       (
-        subst (λ (s : Script). AreDrawn (image_of c.args.image.now) s columns c.deref.result.now) (sym (ap (λ (d : Drawing). d.script) is))
+        subst (λ (s : Script). AreDrawn c.args.image.now.image s columns c.deref.result.now) (sym (ap (λ (d : Drawing). d.script) is))
             (subst (λ (i : Image). AreDrawn i run columns c.deref.result.now) (ap (λ (d : Drawing). d.image) is)
             (subst (λ (ts : List Trace). AreDrawn g.drawing.image run columns ts) (sym c.deref.ensures.value) drawn)),
-        omega (arith, c.requires.1.0.few, count),
+        c.requires.1.0.few,
       ),
     )
 
 pub returns : goal.returns
 returns g c =
-    subst (λ (s : Script). IfOk c.text_of.result (λ text. text ≡ chart_in (named_of c.args.image.now) s c.args.columns.now))
+    subst (λ (s : Script). IfOk c.text_of.result (λ text. text ≡ chart_in c.args.image.now s c.args.columns.now))
     (ap (λ (d : Drawing). d.script) c.requires.0) c.text_of.ensures

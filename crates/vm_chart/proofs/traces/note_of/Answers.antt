@@ -1,4 +1,4 @@
-use Rattle.std.proofs.Common.{◌+◌, ◌^◌, ◌<◌, ◌++◌, List, get_or, length, arith, refl, subst, sym, ◌∙◌}
+use Rattle.std.proofs.Common.{◌^◌, ◌<◌, ◌++◌, List, get_or, length, arith, refl, subst, sym, ◌∙◌}
 use Rattle.std.proofs.lemmas.List.{append-nil, take_all}
 use Rattle.std.proofs.lemmas.Option.{slice_get-get_or}
 use Rattle.base.specs.declared.event.Act.TheVariants as act

@@ -1,10 +1,6 @@
 use Rattle.std.proofs.Common.{◌≡◌, ◌≤◌, ◌∙◌, List, length, arith, ap, sym, subst}
 use Rattle.std.specs.Prelude.{All}
-use Rattle.std.proofs.lemmas.List.{length-map}
-use Rattle.command_answers.specs.declared.act.PreparedRun.{PreparedRun as Ran}
-use Rattle.command_answers.specs.Acts.{by_ranks}
 use Rattle.base.specs.declared.event.Event.{Event}
-use Rattle.image.specs.Raw.{image_of, monitor_of, named_of}
 use Rattle.vm_watch.specs.Inspect.{HasItsWords}
 use Rattle.event_log.specs.InRange.{AreIn}
 use Rattle.machine_semantics.specs.Image.{Image, Script}
@@ -20,34 +16,29 @@ use Rattle.vm_watch.proofs.watching.watch_by.Goals as goal
 
 pub new-requires : goal.new-requires
 new-requires g c =
-    let run : Ran = by_ranks c.args.image.now c.args.script.now in
-    (c.requires.1.1.0, subst (λ (x : Image). IsRunnable x (script_of c.args.script.now)) (sym c.requires.0) (is_runnable run c.requires.1.1.1))
+    (c.requires.1.1.0, subst (λ (x : Image). IsRunnable x (script_of c.args.script.now)) (sym c.requires.0) (is_runnable c.args.image.now c.args.script.now c.requires.1.1.1))
 
 pub run-requires : goal.run-requires
-run-requires g c =
-    let run : Ran = by_ranks c.args.image.now c.args.script.now in (
-      c.requires.1.1.0,
-      (
-        subst (λ (x : Image). IsRunnable x (script_of c.args.script.now)) (sym c.requires.0) (is_runnable run c.requires.1.1.1),
-        (c.in_ok-course.ensures.follows, c.in_ok-course.ensures.start),
-      ),
-    )
+run-requires g c = (
+  c.requires.1.1.0,
+  (
+    subst (λ (x : Image). IsRunnable x (script_of c.args.script.now)) (sym c.requires.0) (is_runnable c.args.image.now c.args.script.now c.requires.1.1.1),
+    (c.in_ok-course.ensures.follows, c.in_ok-course.ensures.start),
+  ),
+)
 
 pub tell-requires : goal.tell-requires
 tell-requires g c =
-    let raw = c.args.image.now in
+    let n = c.args.image.now in
     let script = script_of c.args.script.now in
-    let run : Ran = by_ranks raw c.args.script.now in
     let can = c.requires.1.1.1 in
-    let same : g.run.image ≡ image_of raw = c.requires.0 in
+    let same : g.run.image ≡ n.image = c.requires.0 in
     let course = c.run.new.self in
     let t = course.machine.tick in
     let follows : Follows g.run.image script course = c.run.ensures.follows in
-    let words : HasItsWords (image_of raw) (state_at (image_of raw) g.run.script t) = c.words_are_declared.ensures (image_of raw) can.limits can.valid g.run.script t in
-    let most : length (image_of raw).monitors ≤ 64 = can.plan.monitors in
-    let count : length (image_of raw).monitors ≡ length raw.monitors = length-map raw.monitors monitor_of in
-    let lines : All (AreIn raw.names) (recent (events_before (image_of raw) script t)) = recent_lines run t can follows.stands.within in
-    let are : course.recent.items ≡ recent (events_before (image_of raw) script t) = follows.recent_are ∙ ap (λ (x : Image). recent (events_before x script t)) same in (
+    let words : HasItsWords n.image (state_at n.image g.run.script t) = c.words_are_declared.ensures n.image can.limits can.valid g.run.script t in
+    let lines : All (AreIn n.names) (recent (events_before n.image script t)) = recent_lines n c.args.script.now t can follows.stands.within in
+    let are : course.recent.items ≡ recent (events_before n.image script t) = follows.recent_are ∙ ap (λ (x : Image). recent (events_before x script t)) same in (
       same,
       (
         c.requires.1.1.0,
@@ -55,7 +46,7 @@ tell-requires g c =
           subst (λ (x : Script). Follows g.run.image x course) (sym c.requires.1.0) follows,
           (
             subst (λ (x : Image). HasItsWords x (state_at x g.run.script t)) (sym same) words,
-            (omega (arith, most, count), subst (λ (es : List Event). All (AreIn raw.names) es) (sym are) lines),
+            subst (λ (es : List Event). All (AreIn n.names) es) (sym are) lines,
           ),
         ),
       ),
@@ -63,14 +54,14 @@ tell-requires g c =
 
 pub returns : goal.returns
 returns g c =
-    let raw = c.args.image.now in
+    let n = c.args.image.now in
     let read = c.args.script.now in
     let t = c.run.new.self.machine.tick in
     let script : g.run.script ≡ script_of read = c.requires.1.0 in
-    let stop : IsStop (image_of raw) (script_of read) c.args.stop t = subst (λ (x : Image). IsStop x (script_of read) c.args.stop t) c.requires.0 c.run.ensures.stop in
+    let stop : IsStop n.image (script_of read) c.args.stop t = subst (λ (x : Image). IsStop x (script_of read) c.args.stop t) c.requires.0 c.run.ensures.stop in
     if_ok c.tell.result _ _
     (λ text told. (
       t,
-      subst (λ (x : Script). IsStop (image_of raw) x c.args.stop t) (sym (same_script read)) stop,
-      told ∙ ap (λ (x : Script). stop_text (named_of raw) x t) (script ∙ sym (same_script read)),
+      subst (λ (x : Script). IsStop n.image x c.args.stop t) (sym (same_script read)) stop,
+      told ∙ ap (λ (x : Script). stop_text n x t) (script ∙ sym (same_script read)),
     )) c.tell.ensures

@@ -1,4 +1,5 @@
+use Rattle.vm_releases.specs.Begin.{script_of}
 use Rattle.vm_chart.proofs.course.Course.new.Given as goal
 
-abbrev pub ghost-new : goal.ghost-new
-ghost-new g a = g.image
+abbrev pub ghost-by_ranks : goal.ghost-by_ranks
+ghost-by_ranks g a = record { image = g.image; script = script_of a.script.now }

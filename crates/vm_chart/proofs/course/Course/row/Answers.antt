@@ -7,9 +7,6 @@ use Rattle.vm_chart.proofs.Following.{each_at, each_unseen, fell_between, few_ev
 use Rattle.vm_chart.proofs.Tracing.{timely_between}
 use Rattle.vm_chart.proofs.course.Course.row.Goals as goal
 
-pub advance_row_to-requires : goal.advance_row_to-requires
-advance_row_to-requires g c = (c.requires.0, (c.requires.1.0, (c.requires.1.1.0, (c.requires.1.1.1.1.1.0.stands, (c.requires.1.1.1.1.1.1.0, c.requires.1.1.1.1.1.1.1.1.0)))))
-
 pub note_all-requires : goal.note_all-requires
 note_all-requires g c =
     let d = g.drawing in

@@ -12,9 +12,6 @@ use Rattle.vm_chart.proofs.Following.{each_alike, each_at, fell_between, few_eve
 use Rattle.vm_chart.proofs.Tracing.{timely_between}
 use Rattle.vm_chart.proofs.course.Course.turn.Goals as goal
 
-pub begin_turn-requires : goal.begin_turn-requires
-begin_turn-requires g c = (c.requires.0, (c.requires.1.0, (c.requires.1.1.0, (c.requires.1.1.1.1.1.0.stands, omega (arith, c.requires.1.1.1.1.1.1.1.1.0, c.requires.1.1.1.1.1.1.0)))))
-
 pub see_all-requires : goal.see_all-requires
 see_all-requires g c =
     let d = g.drawing in

@@ -1,22 +1,19 @@
-use Rattle.std.proofs.Common.{◌∙◌, ℕ, arith, sym, subst}
-use Rattle.machine_semantics.specs.State.{State}
-use Rattle.vm_stretch.specs.StartLawsDue.{HasDue}
-use Rattle.vm_releases.specs.Begin.{script_of}
-use Rattle.vm_state.specs.Board.{state_of}
-use Rattle.vm_runner.proofs.Turning.{at_start_is}
+use Rattle.std.proofs.Common.{◌∙◌, arith, sym}
 use Rattle.vm_runner.proofs.machine.Machine.new.Goals as goal
+
+-- requires: runnable, setup, knows
 
 pub returns-clause-stands : goal.returns-clause-stands
 returns-clause-stands g c =
-    let script = script_of c.args.script.now in
-    let begins = c.in_ok-new.ensures g.image c.requires.0 in
-    let agenda = c.in_ok-new-2.field-0 in
-    let e = c.in_ok-new-2.ensures in
+    let goes = c.goes_by_steps.ensures.steps g.run.image g.run.script c.requires.1.0 in
+    let is = c.requires.1.1.0 in
+    let none = is.done in
     record {
       within = omega arith;
-      state = begins.0 ∙ sym (at_start_is g.image script);
-      board = begins.1;
-      due = subst (λ (d : ℕ). HasDue g.image script 0 d (state_of c.in_ok-new.field-0) agenda.slots) (sym e.done) (subst (λ (s : State). HasDue g.image script 0 0 s agenda.slots) (sym begins.0) e.due);
-      done = omega (arith, e.done);
-      order = e.order;
+      state = is.state ∙ sym goes.first;
+      board = is.board;
+      due = is.due;
+      done = omega (arith, none);
+      order = is.order;
+      knows = c.requires.1.1.1;
     }

@@ -1,5 +1,5 @@
-use Rattle.vm_state.specs.Board.{state_of}
+use Rattle.vm_runner.specs.Course.{course}
 use Rattle.vm_runner.proofs.machine.Machine.row_on.Given as goal
 
-abbrev pub ghost-take_row : goal.ghost-take_row
-ghost-take_row g a = record { run = g.run; threads = (state_of a.board.now).threads }
+abbrev pub ghost-take_ticks : goal.ghost-take_ticks
+ghost-take_ticks g a = course g.D.Dispatch.behaviour g.run.image g.run.script

@@ -1,4 +1,0 @@
-use Rattle.edf_machine.proofs.machine.EdfMachine.row_on.Given as goal
-
-abbrev pub ghost-take_turn : goal.ghost-take_turn
-ghost-take_turn g a = g.run

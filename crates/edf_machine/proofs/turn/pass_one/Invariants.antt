@@ -1,7 +1,0 @@
-use Rattle.edf_machine.proofs.turn.pass_one.Given as goal
-
-abbrev pub ghost-ticks_left : goal.ghost-ticks_left
-ghost-ticks_left g a = g.run
-
-abbrev pub ghost-pass : goal.ghost-pass
-ghost-pass g a = g.run.image

@@ -1,7 +1,0 @@
-use Rattle.edf_machine.proofs.turn.pass_row.Given as goal
-
-abbrev pub ghost-run_row : goal.ghost-run_row
-ghost-run_row g a = g.run.image
-
-abbrev pub ghost-end_row : goal.ghost-end_row
-ghost-end_row g a = g.run.image

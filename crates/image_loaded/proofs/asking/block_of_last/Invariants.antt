@@ -1,5 +1,0 @@
-use Rattle.image_loaded.specs.Steps.{IsLastSoFar}
-use Rattle.image_loaded.proofs.asking.block_of_last.Given as goal
-
-abbrev pub invariant-loop-other : goal.invariant-loop-other
-invariant-loop-other l = IsLastSoFar l.shape.image l.own.deadline l.other l.rank l.block

@@ -1,6 +1,0 @@
-use Rattle.std.proofs.Common.{ℕ, ◌<◌}
-use Rattle.image_loaded.specs.Steps.{HasRank}
-use Rattle.image_loaded.proofs.asking.with_rank.Given as goal
-
-abbrev pub invariant-loop-number : goal.invariant-loop-number
-invariant-loop-number l = (k : ℕ) → k < l.number → HasRank l.shape.image l.rank k → ⊥

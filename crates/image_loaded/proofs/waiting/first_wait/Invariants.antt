@@ -1,6 +1,0 @@
-use Rattle.std.proofs.Common.{ℕ, ◌<◌}
-use Rattle.image_loaded.specs.Admitted.{IsWait}
-use Rattle.image_loaded.proofs.waiting.first_wait.Given as goal
-
-abbrev pub invariant-loop-at : goal.invariant-loop-at
-invariant-loop-at l = (a : ℕ) → a < l.at → IsWait l.shape.image a → ⊥

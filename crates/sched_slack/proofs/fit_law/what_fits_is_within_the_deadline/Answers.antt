@@ -1,5 +1,0 @@
-use Rattle.sched_slack.proofs.Changed.{within_deadline}
-use Rattle.sched_slack.proofs.fit_law.what_fits_is_within_the_deadline.Goals as goal
-
-pub returns : goal.returns
-returns c = within_deadline

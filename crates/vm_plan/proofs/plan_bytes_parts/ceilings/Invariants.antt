@@ -1,5 +1,0 @@
-use Rattle.std.proofs.Common.{◌≡◌, map, take}
-use Rattle.vm_plan.proofs.plan_bytes_parts.ceilings.Given as goal
-
-abbrev pub invariant-loop-number : goal.invariant-loop-number
-invariant-loop-number l = l.ceilings.items ≡ map (λ m. m.ceiling) (take l.number l.image.image.monitors)

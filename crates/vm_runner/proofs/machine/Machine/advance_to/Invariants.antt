@@ -1,4 +1,0 @@
-use Rattle.vm_runner.proofs.machine.Machine.advance_to.Given as goal
-
-abbrev pub ghost-go_on : goal.ghost-go_on
-ghost-go_on g a = g.image

@@ -1,7 +1,0 @@
-use Rattle.vm_runner.proofs.turn.take_turn.Given as goal
-
-abbrev pub ghost-pass_ticks : goal.ghost-pass_ticks
-ghost-pass_ticks g a = g.run
-
-abbrev pub ghost-note_waits : goal.ghost-note_waits
-ghost-note_waits g a = g.run.image
