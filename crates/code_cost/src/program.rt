@@ -10,7 +10,7 @@ ghost use Rattle.code_cost.specs.Sums.{held};
 
 use crate::expressions::{check, expr};
 use crate::loops::count_from;
-use crate::measure::{Measure, RoutineMeasure, cap, hold};
+use crate::measure::{MOST, Measure, RoutineMeasure, cap, hold};
 use crate::statements::stmts;
 use base::Cost;
 use codegen_spec::{Lookup, Lookups, Owner, ValueRange};
@@ -76,12 +76,19 @@ fn inner<L: Lookup>(
     Ok(body.then(answer(names, rows, routine)))
 }
 
+/// Words, up to `MOST`.
+fn held_words(words: u128) -> u64
+    ensures { result ≡ held words }
+{
+    words.min(u128::from(MOST)) as u64
+}
+
 /// What is known of a routine, from those before it; its parameters and variables take so many
 /// words.
 fn row<L: Lookup>(
     alloc: Global,
     names: &L,
-    words: usize,
+    words: u128,
     rows: &[RoutineMeasure],
     routine: &Routine,
 ) -> Result<RoutineMeasure, AllocError>
@@ -98,7 +105,7 @@ fn row<L: Lookup>(
         cost: size.cost,
         stay,
         height: size.height,
-        words: count_from(words as u64, routine.body.as_slice()),
+        words: count_from(held_words(words), routine.body.as_slice()),
         length: size.length,
     })
 }

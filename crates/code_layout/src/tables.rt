@@ -133,6 +133,6 @@ impl<'a> Tables<'a> {
     pub fn device(&self, name: &Name) -> i32
         ensures { result ≡ fit (pos (device_number (plain (placed self.now)) name.now)) }
     {
-        fit_word(number(&self.devices, name) as u64)
+        fit_word(number(&self.devices, name) as u128)
     }
 }

@@ -1,6 +1,6 @@
 //! The code of a whole program.
 
-ghost use Rattle.std.specs.Prelude.{◌≡◌, OnOk, IfOk};
+ghost use Rattle.std.specs.Prelude.{◌≡◌, ◌<◌, ◌^◌, OnOk, IfOk};
 ghost use Rattle.syntax_tree.specs.Placed.{placed_process, placed_routine, plain_process, plain_routine};
 ghost use Rattle.source_semantics.specs.Names.{processes as processes_of};
 ghost use Rattle.code_spec.specs.Numbering.{numbered};
@@ -61,9 +61,10 @@ impl Maker {
     fn routine<L: Lookup>(
         &mut self,
         names: &L,
-        words: usize,
+        words: u128,
         routine: &Routine,
     ) -> Result<(), AllocError>
+        requires { words < 2 ^ 127 }
         ensures { OnOk result (self.new ≡ routine_made (L.program names.now)
             (L.scope names.now) words (plain_routine (placed_routine routine.now)) self.old) }
     {

@@ -10,6 +10,7 @@ ghost use Rattle.codegen_spec.specs.Made.{aim as aim_of, aim_one as aim_one_of, 
 
 use crate::code_builder::CodeBuilder;
 use crate::errors::tri;
+use code_layout::fit_word;
 use codegen_branches::{end_arm, end_first, end_second, fit};
 use codegen_spec::Lookup;
 use image_format::{Seg, Segs};
@@ -156,10 +157,11 @@ impl CodeBuilder {
     fn first_number(&mut self, low: i32) -> Result<(), AllocError>
         ensures { OnOk result (self.new ≡ counted (counting low self.old)) }
     {
-        let word = fit(self.word);
+        let word = fit_word(self.word);
         tri!(self.push(Instr::Push { value: low }));
         tri!(self.push(Instr::StoreLocal { word }));
-        self.count()
+        self.count();
+        Ok(())
     }
 
     /// A loop begins: its variable gets its first number, and the segments before it are taken.

@@ -13,6 +13,7 @@ ghost use Rattle.codegen.specs.Of.{args_of, expr_of, index_of, put_of, stmt_of, 
 
 use crate::code_builder::CodeBuilder;
 use crate::errors::tri;
+use code_layout::fit_word;
 use codegen_branches::fit;
 use codegen_spec::{Lookup, Loop, Owner};
 use image_format::Seg;
@@ -210,7 +211,7 @@ impl CodeBuilder {
         names: &L,
         loops: &mut Vec<Loop>,
         name: &Name,
-        word: usize,
+        word: u128,
         body: &[Stmt],
     ) -> Result<(), AllocError>
         ensures out { let g = L.program names.now in
@@ -267,7 +268,7 @@ impl CodeBuilder {
         let (turns, before) = tri!(self.begin_turns(names, low, high));
         let start = self.code.len();
         tri!(self.body(names, loops, name, word, body));
-        tri!(self.step(fit(word)));
+        tri!(self.step(fit_word(word)));
         self.end_loop(turns, start, before)
     }
 

@@ -1,6 +1,6 @@
 //! Texts that are put together.
 
-ghost use Rattle.std.specs.Prelude.{◌≡◌, ◌+◌, IfOk, OnErr, OnOk, Some, length};
+ghost use Rattle.std.specs.Prelude.{◌≡◌, ◌<◌, ◌+◌, ◌^◌, IfOk, OnErr, OnOk, Some, length};
 ghost use Rattle.syntax_tree.specs.Placed.{placed, placed_process, placed_routine, plain, plain_process, plain_routine};
 ghost use Rattle.source_semantics.specs.Names.{processes as processes_of};
 ghost use Rattle.code_spec.specs.Layout.{routine_vars_words};
@@ -43,14 +43,14 @@ impl<'t, 'a, N: Lookup> Model for TextsBuilder<'t, 'a, N> {
     ghost invariant = { λ b. AreFirst (plain (placed b.tables.now)) (map (told_routine N.program N.scope) b.routines.items) (map (told_process N.program N.scope) b.processes.items) };
 }
 
-/// The words of a routine's parameters and variables. Where they are more than a number can tell,
-/// there is not memory enough for them.
-fn words(alloc: Global, values: &ConstantValues<'_>, routine: &Routine) -> Result<usize, AllocError>
-    ensures { IfOk result (λ words. words ≡ routine_vars_words (plain (placed values.now))
+/// The words of a routine's parameters and variables.
+fn words(alloc: Global, values: &ConstantValues<'_>, routine: &Routine) -> Result<u128, AllocError>
+    ensures exact { IfOk result (λ words. words ≡ routine_vars_words (plain (placed values.now))
         (plain_routine (placed_routine routine.now))) }
+    ensures small { IfOk result (λ words. words < 2 ^ 100) }
 {
     let laid = laid_routine(alloc, values, routine)?;
-    Ok(laid.word as usize)
+    Ok(laid.word)
 }
 
 impl<'t, 'a, N: Lookup + Drop> TextsBuilder<'t, 'a, N> {

@@ -9,7 +9,7 @@ ghost use Rattle.codegen_spec.specs.Told.{fit};
 ghost use Rattle.code_names.specs.Parts.{seen_monitors};
 ghost use Rattle.codegen_texts.specs.Shared.{conditions_from, count_from, number_among};
 
-use code_layout::{Tables, number};
+use code_layout::{Tables, fit_word, number};
 use code_names::NameList;
 use std::alloc::{AllocError, Global};
 use syntax_tree::{Member, Monitor, Name};
@@ -110,23 +110,12 @@ pub fn program_conditions<'a>(
     numbered_conditions(alloc, tables.numbering().directory().monitors())
 }
 
-/// The number of a condition as it fits into an operand.
-fn fit_number(number: u128) -> i32
-    ensures { result ≡ fit (pos number) }
-{
-    if number > 2_147_483_647 {
-        i32::MAX
-    } else {
-        number as i32
-    }
-}
-
 /// The number of a condition among those of a monitor, which begin at their first.
 fn own_number(own: &MonitorConditions<'_>, name: &Name) -> i32
     ensures { result ≡ fit (pos (own.now.first + place_of name.now own.now.names)) }
 {
     let place = number(&own.names, name) as u128;
-    fit_number(own.first.saturating_add(place))
+    fit_word(own.first.saturating_add(place))
 }
 
 /// The number of a condition of a monitor; how many there are where there is no such monitor.
@@ -136,6 +125,6 @@ pub fn condition_number(conditions: &Conditions<'_>, monitor: usize, name: &Name
 {
     match conditions.lists.get(monitor) {
         Some(own) => own_number(own, name),
-        None => fit_number(conditions.count),
+        None => fit_word(conditions.count),
     }
 }

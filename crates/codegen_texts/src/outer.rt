@@ -1,6 +1,6 @@
 //! The variables of processes and monitors.
 
-ghost use Rattle.std.specs.Prelude.{◌≡◌, ◌+◌, IfOk};
+ghost use Rattle.std.specs.Prelude.{◌≡◌, ◌+◌, IfOk, min};
 ghost use Rattle.syntax_tree.specs.Placed.{placed, placed_process, plain, plain_process};
 ghost use Rattle.source_semantics.specs.Names.{monitors as monitors_in, processes as processes_in};
 ghost use Rattle.code_names.specs.Parts.{seen_monitors, seen_processes};
@@ -48,6 +48,14 @@ fn processes_spots<'a>(
     Ok(tables)
 }
 
+/// A word behind those of a monitor, or the first that is told as this one is: 2^32 is greater than
+/// any operand.
+fn behind(word: u128) -> u128
+    ensures { result ≡ min word 4294967296 }
+{
+    word.min(4_294_967_296)
+}
+
 /// The variables of each monitor, in one area: the words of each behind those of the one before.
 fn monitors_spots<'a>(
     alloc: Global,
@@ -58,10 +66,10 @@ fn monitors_spots<'a>(
         monitor_tables (plain (placed values.now)) 0 (seen_monitors monitors.now)) }
 {
     let mut tables = Vec::new(alloc);
-    let mut base: u64 = 0;
+    let mut base = 0;
     for monitor in monitors {
         let laid = laid_monitor(alloc, values, base, monitor)?;
-        base = laid.word;
+        base = behind(laid.word);
         let spots = VarLocations::new(alloc, laid)?;
         tables.push(spots)?;
     }

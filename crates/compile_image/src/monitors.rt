@@ -29,7 +29,7 @@ fn raw_monitor(
     ensures words { IfOk result (λ raw. raw.words ≡ words_of (plain (placed values.now))
         (monitor_vars (plain_monitor (placed_monitor monitor.now)))) }
 {
-    let laid = tri!(laid_monitor(alloc, values, u64::from(base), monitor));
+    let laid = tri!(laid_monitor(alloc, values, u128::from(base), monitor));
     let end = laid.word as u32;
     Ok(RawMonitor {
         base,

@@ -3,7 +3,7 @@
 ghost use Rattle.std.specs.Prelude.{◌≡◌, IfOk, true};
 ghost use Rattle.image_format.specs.View.{views};
 ghost use Rattle.image_format.specs.Gives.{Gives};
-ghost use Rattle.image_format.specs.TreeBytes.{tree_bytes};
+ghost use Rattle.image_format.specs.TreeBytes.{RowsFit, tree_bytes};
 ghost use Rattle.image_format.specs.TreeFormat.{tree_format, within_limits};
 ghost use Rattle.image_format.specs.Stands.{tree_in};
 ghost use Rattle.image_format.specs.Whole.{any_tree, deepest_kept};
@@ -17,8 +17,9 @@ use crate::{Limits, ReadError, Seg, Segs};
 use std::alloc::{AllocError, Global};
 use std::marker::Model;
 
-/// How deep a tree that is kept may nest.
-pub const DEEPEST_KEPT: u32 = u32::MAX;
+/// How deep a tree that is kept may nest: 2^62 levels, each of four bytes, are more than there is
+/// room for.
+pub const DEEPEST_KEPT: u64 = 4_611_686_018_427_387_904;
 
 /// A segment tree, kept as the bytes that an image has of it. Contracts see it as the tree.
 #[derive(Drop)]
@@ -43,6 +44,7 @@ impl Model for SegTree {
 impl SegTree {
     /// The tree of these segments. An error says that memory is short.
     pub fn of(alloc: Global, segs: &[Seg]) -> Result<SegTree, AllocError>
+        requires { RowsFit (views segs.now) }
         ensures { IfOk result (λ tree. tree ≡ views segs.now) }
     {
         let mut bytes = Vec::new(alloc);
@@ -61,7 +63,7 @@ impl SegTree {
         ensures { Gives (λ x. (x.0, x.1.now)) result
             ((tree_format (within_limits limits) depth).read bytes.now) }
     {
-        let (_view, rest) = tree_at(limits, depth, bytes)?;
+        let (_view, rest) = tree_at(limits, u64::from(depth), bytes)?;
         are_bytes(bytes);
         let taken = &bytes[..bytes.len() - rest.len()];
         let bytes = Vec::from_slice(alloc, taken)?;

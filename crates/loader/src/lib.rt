@@ -27,7 +27,7 @@ pub use costs::{cost_fault, process_shortfall, routine_shortfall};
 pub use due_ranks::{ceiling_of, needed_block, rank_of};
 pub use handlers::{handler_fault, waits_table};
 pub use longest_stay::{Stays, longest_stays};
-pub use parts::{CodeCosts, ProcessCost, shape_fault};
+pub use parts::{CodeCosts, ProcessCost, known_routine, process_due, routine_due, shape_fault};
 pub use parts_in_order::{ValidityFault, fault_before_bounds, first_fault};
 pub use ranks::rank_fault;
 pub use sizes::{size_fault, stack_shortfall};

@@ -63,7 +63,7 @@ impl CodeCosts {
 }
 
 /// What those that call a routine know of it.
-fn known_routine(routine: &RawRoutine, depth: u32) -> RoutineCost
+pub fn known_routine(routine: &RawRoutine, depth: u32) -> RoutineCost
     ensures { known_of result ≡ record {
       params = routine.now.params;
       results = count
@@ -88,7 +88,7 @@ fn known_routine(routine: &RawRoutine, depth: u32) -> RoutineCost
 }
 
 /// The code of a routine, which has to start at an address.
-fn routine_due(
+pub fn routine_due(
     code: &[Instr],
     known: &[RoutineCost],
     routine: &RawRoutine,
@@ -138,7 +138,7 @@ fn handler_found(
 }
 
 /// The code of a process, which has to start at an address.
-fn process_due(
+pub fn process_due(
     code: &[Instr],
     known: &[RoutineCost],
     process: &RawProcess,

@@ -1,135 +1,19 @@
 //! Starts, trees, heights and coverage, each with its routine or process.
 
-ghost use Rattle.std.specs.Prelude.{◌≡◌, ◌≤◌, ◌<◌, ◌+◌, [], IfNone, IfOk, IfSome, length, map, nat_eq};
-ghost use Rattle.base.specs.Capped.{cap};
-ghost use Rattle.image.specs.Raw.{image_of, process_of, routine_of};
-ghost use Rattle.machine_semantics.specs.Trees.{size};
+ghost use Rattle.std.specs.Prelude.{◌≡◌, ◌≤◌, [], IfNone, IfOk, length};
+ghost use Rattle.image.specs.Raw.{image_of};
 ghost use Rattle.valid_image.specs.Fault.{first_in};
-ghost use Rattle.valid_image.specs.Found.{amount, guard};
-ghost use Rattle.valid_image.specs.Pieces.{due_start, handler_length, pieces};
-ghost use Rattle.valid_image.specs.Tables.{count, handler_start, monitor_of, part_found as defined_part, routine_found as defined_routine};
-ghost use Rattle.valid_image_law.specs.Held.{hold};
-ghost use Rattle.loader_code.specs.TreesTold.{known_of, told, told_part};
-ghost use Rattle.loader_code.specs.Whole.{stay_in};
-ghost use Rattle.loader.specs.Found.{guard_two, handler_in, told_process, two};
+ghost use Rattle.valid_image.specs.Pieces.{due_start, pieces};
 ghost use Rattle.loader.specs.Parts.{AreParts, AreRoutines};
 ghost use Rattle.faulty_part.specs.declared.part.FaultyPart.TheVariants as part;
 ghost use Rattle.faulty_part.specs.declared.part.Subject.TheVariants as subject;
 ghost use Rattle.faulty_part.specs.Parts.{code_of_process, code_of_routine, code_part};
 
-use base::Cost;
 use faulty_part::{FaultyPart, PartFault, Subject};
-use image::{RawImage, RawProcess, RawRoutine};
-use image_format::SegTree;
-use loader::{CodeCosts, ProcessCost};
-use loader_code::{CodeCost, PartCost, RoutineCost, part_found, routine_found};
-use machine_isa::Instr;
+use image::RawImage;
+use loader::{CodeCosts, ProcessCost, known_routine, process_due, routine_due};
+use loader_code::PartCost;
 use std::alloc::AllocError;
-use syntax_tree::List;
-
-/// What those that call a routine know of it.
-fn known_routine(routine: &RawRoutine, depth: u32) -> RoutineCost
-    ensures { known_of result ≡ record {
-      params = routine.now.params;
-      results = count
-          routine.now.result;
-      locals = routine.now.locals;
-      depth = depth;
-      cost = amount
-          routine.now.run routine.now.susp routine.now.waits;
-    } }
-{
-    RoutineCost {
-        params: routine.params,
-        result: routine.result,
-        locals: routine.locals,
-        depth,
-        cost: Cost {
-            run: u64::from(routine.run),
-            susp: u64::from(routine.susp),
-            waits: u64::from(routine.waits),
-        },
-    }
-}
-
-/// The code of a routine, which has to start at an address.
-fn routine_due(
-    code: &[Instr],
-    known: &[RoutineCost],
-    routine: &RawRoutine,
-    due: usize,
-) -> Option<PartCost>
-    requires { due ≤ length code.now }
-    ensures value { told_part result ≡ hold (guard (nat_eq routine.now.start due)
-        (defined_routine code.now (map known_of known.now) (routine_of routine.now))) }
-    ensures ends { IfSome result (λ f. f.found.next ≡ routine.now.start +
-        size routine.now.tree) }
-    ensures within { IfSome result (λ f. f.found.next < length code.now) }
-    ensures stay { IfSome result (λ f. f.stay ≡
-        cap (stay_in (monitor_of (routine_of routine.now))
-        (defined_routine code.now (map known_of known.now) (routine_of routine.now)))) }
-{
-    if routine.start as usize != due {
-        return None;
-    }
-    routine_found(code, known, routine)
-}
-
-/// The code of a handler, where there is one, and the address behind its END.
-fn handler_found(
-    code: &[Instr],
-    known: &[RoutineCost],
-    tree: &Option<SegTree>,
-    at: usize,
-) -> Option<CodeCost>
-    requires { at ≤ length code.now }
-    ensures value { told result ≡ hold (handler_in code.now (map known_of known.now)
-        tree.now at) }
-    ensures ends { IfSome result (λ f. f.next ≡ at + handler_length tree.now) }
-    ensures within { IfSome result (λ f. f.next ≤ length code.now) }
-{
-    match tree {
-        None => Some(CodeCost::nothing(at, 0)),
-        Some(tree) => {
-            let found = part_found(code, known, tree, at)?;
-            Some(CodeCost {
-                next: found.next + 1,
-                height: found.height,
-                cost: found.cost,
-                depth: found.depth,
-            })
-        }
-    }
-}
-
-/// The code of a process, which has to start at an address.
-fn process_due(
-    code: &[Instr],
-    known: &[RoutineCost],
-    process: &RawProcess,
-    due: usize,
-) -> Option<ProcessCost>
-    requires { due ≤ length code.now }
-    ensures value { told_process result ≡ guard_two (nat_eq process.now.start due)
-        (two (hold (defined_part code.now (map known_of known.now)
-        process.now.body process.now.start))
-        (hold (handler_in code.now (map known_of known.now)
-        process.now.handler_tree (handler_start (process_of process.now))))) }
-    ensures ends { IfSome result (λ f. f.end ≡ handler_start (process_of process.now) +
-        handler_length process.now.handler_tree) }
-    ensures within { IfSome result (λ f. f.end ≤ length code.now) }
-{
-    if process.start as usize != due {
-        return None;
-    }
-    let body = part_found(code, known, &process.body, due)?;
-    let handler = handler_found(code, known, &process.handler_tree, body.next + 1)?;
-    Some(ProcessCost {
-        body,
-        handler,
-        end: handler.next,
-    })
-}
 
 /// The fault of the routine behind those that are kept, which is declared to start there.
 fn wrong_routine(kept: &[PartCost], start: u32) -> PartFault
