@@ -13,8 +13,9 @@ use crate::acts::put;
 use crate::reading::Content;
 use crate::{PreparedCall, Status, script_fault_line};
 use image::ImageNames;
+use out_of_memory::OutOfMemory;
 use script::{Script, ScriptFault, read_script, refusal};
-use std::alloc::{AllocError, Global};
+use std::alloc::Global;
 
 /// The script that the text of a file is, for these names.
 ///
@@ -47,13 +48,13 @@ pub fn judge_script(
 }
 
 /// The act for a text that is no script: it puts the line of its fault.
-pub fn refuse_script<'a>(alloc: Global, fault: &ScriptFault) -> Result<PreparedCall<'a>, AllocError>
+pub fn refuse_script<'a>(alloc: Global, fault: &ScriptFault) -> Result<PreparedCall<'a>, OutOfMemory>
     ensures act { IfOk result (λ act. act ≡ puts Status.Script (script_fault_line fault.now)) }
     ensures is_fault { IfOk result (λ act. fault.now ≢ ScriptFault.Memory) }
     ensures refused { IfOk result (λ act. number_of act.status ≢ 0) }
 {
     match fault {
         ScriptFault::Bad { .. } => Ok(put(Status::Script, script_fault_line(alloc, fault)?)),
-        ScriptFault::Memory => Err(AllocError),
+        ScriptFault::Memory(error) => Err(error),
     }
 }

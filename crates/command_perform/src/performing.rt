@@ -10,12 +10,13 @@ ghost use Rattle.command_perform.specs.Ready.{IsReady, run_of};
 
 use crate::ready::Ready;
 use command_answers::{PreparedCall, PreparedRun, Status, Store};
+use out_of_memory::OutOfMemory;
 use outside::{Files, Sink, WriteFault};
-use std::alloc::{AllocError, Global};
+use std::alloc::Global;
 use vm_run::OutputCut;
 
 /// Makes the run ready, if there is one.
-fn make_ready(alloc: Global, run: &Option<PreparedRun>) -> Result<Option<Ready<'_>>, AllocError>
+fn make_ready(alloc: Global, run: &Option<PreparedRun>) -> Result<Option<Ready<'_>>, OutOfMemory>
     requires { IfSome run.now CanRun }
     ensures run { IfOk result (λ ready. run_of ready ≡ run.now) }
     ensures ready { IfOk result (λ ready. IfSome ready IsReady) }
@@ -125,6 +126,6 @@ pub fn perform<'a, F: Files, O: Sink>(
             Err(_) => Status::Unput,
         },
         Err(WriteFault::Failed) => unwritten(&act.store),
-        Err(WriteFault::Memory) => Status::Memory,
+        Err(WriteFault::Memory(_)) => Status::Memory,
     }
 }

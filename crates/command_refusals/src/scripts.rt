@@ -12,8 +12,9 @@ ghost use Rattle.message_script.specs.Message.{script_message};
 use command_answers::{Content, PreparedCall, Status};
 use image::ImageNames;
 use message_script::{long_message, script_message};
+use out_of_memory::OutOfMemory;
 use script::ScriptFault;
-use std::alloc::{AllocError, Global};
+use std::alloc::Global;
 use syntax_tree::Text;
 
 /// The message for a fault of what a script's file holds, for these names.
@@ -23,7 +24,7 @@ fn message_of(
     content: &Content,
     names: &ImageNames,
     fault: &ScriptFault,
-) -> Result<Text, AllocError>
+) -> Result<Text, OutOfMemory>
     ensures { IfOk result (λ message. (bytes : List ℕ) → IsContent longest_text content.now bytes →
         message ≡ script_message file.now bytes names.now fault.now) }
 {
@@ -42,7 +43,7 @@ pub fn refuse_script<'a>(
     content: &Content,
     names: &ImageNames,
     fault: &ScriptFault,
-) -> Result<PreparedCall<'a>, AllocError>
+) -> Result<PreparedCall<'a>, OutOfMemory>
     ensures act { IfOk result (λ act. act ≡ puts Status.Script (script_fault_line fault.now)) }
     ensures is_fault { IfOk result (λ act. fault.now ≢ ScriptFault.Memory) }
     ensures refused { IfOk result (λ act. number_of act.status ≢ 0) }

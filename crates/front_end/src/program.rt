@@ -18,7 +18,7 @@ fn of_names(fault: NameFault) -> SourceFault
 {
     match fault {
         NameFault::Rule { number, place } => SourceFault::Fault { number, place },
-        NameFault::Memory => SourceFault::Memory,
+        NameFault::Memory(error) => SourceFault::Memory(error),
     }
 }
 
@@ -28,7 +28,7 @@ fn of_rules(fault: RuleFault) -> SourceFault
 {
     match fault {
         RuleFault::Rule { number, place } => SourceFault::Fault { number, place },
-        RuleFault::Memory => SourceFault::Memory,
+        RuleFault::Memory(error) => SourceFault::Memory(error),
     }
 }
 

@@ -1,14 +1,15 @@
 //! What a command puts.
 
 use command::whole_call;
+use out_of_memory::OutOfMemory;
 use outside::{MemorySink, RealFiles};
-use std::alloc::{AllocError, Global};
+use std::alloc::Global;
 use std::{fs, io};
 
 /// The bytes that the sink of a command takes.
 const ROOM: usize = 1_048_576;
 
-fn push_words(alloc: Global, words: &mut Vec<String>, line: &str) -> Result<(), AllocError> {
+fn push_words(alloc: Global, words: &mut Vec<String>, line: &str) -> Result<(), OutOfMemory> {
     for word in line.split_whitespace() {
         words.push(String::from_str(alloc, word)?)?;
     }
@@ -16,19 +17,19 @@ fn push_words(alloc: Global, words: &mut Vec<String>, line: &str) -> Result<(), 
 }
 
 /// The words of a line.
-fn words_of(alloc: Global, line: &str) -> Result<Vec<String>, AllocError> {
+fn words_of(alloc: Global, line: &str) -> Result<Vec<String>, OutOfMemory> {
     let mut words = Vec::new(alloc);
     push_words(alloc, &mut words, line)?;
     Ok(words)
 }
 
-fn push_bytes(alloc: Global, text: &mut String, bytes: &[u8]) -> Result<(), AllocError> {
+fn push_bytes(alloc: Global, text: &mut String, bytes: &[u8]) -> Result<(), OutOfMemory> {
     let part = String::from_utf8_lossy(alloc, bytes)?;
     text.push_str(part.as_str())
 }
 
 /// The one behind the other, as a text.
-fn joined(alloc: Global, put: &[u8], told: &[u8]) -> Result<String, AllocError> {
+fn joined(alloc: Global, put: &[u8], told: &[u8]) -> Result<String, OutOfMemory> {
     let mut all = String::from_utf8_lossy(alloc, put)?;
     push_bytes(alloc, &mut all, told)?;
     Ok(all)
@@ -67,7 +68,7 @@ fn push_kept(
     least: usize,
     most: usize,
     word: &str,
-) -> Result<(), AllocError> {
+) -> Result<(), OutOfMemory> {
     for line in text.lines().skip(least).take(most) {
         if line.contains(word) {
             all.push_str(line)?;
@@ -84,7 +85,7 @@ fn kept(
     least: usize,
     most: usize,
     word: &str,
-) -> Result<String, AllocError> {
+) -> Result<String, OutOfMemory> {
     let mut all = String::new(alloc);
     push_kept(&mut all, text, least, most, word)?;
     Ok(all)

@@ -14,7 +14,8 @@ use crate::reading::tree_at;
 use crate::segs::tree_at as segs_at;
 use crate::view::SegBytes;
 use crate::{Limits, ReadError, Seg, Segs};
-use std::alloc::{AllocError, Global};
+use out_of_memory::OutOfMemory;
+use std::alloc::Global;
 use std::marker::Model;
 
 /// How deep a tree that is kept may nest: 2^62 levels, each of four bytes, are more than there is
@@ -43,7 +44,7 @@ impl Model for SegTree {
 
 impl SegTree {
     /// The tree of these segments. An error says that memory is short.
-    pub fn of(alloc: Global, segs: &[Seg]) -> Result<SegTree, AllocError>
+    pub fn of(alloc: Global, segs: &[Seg]) -> Result<SegTree, OutOfMemory>
         requires { RowsFit (views segs.now) }
         ensures { IfOk result (λ tree. tree ≡ views segs.now) }
     {
@@ -71,7 +72,7 @@ impl SegTree {
     }
 
     /// The tree once more. An error says that memory is short.
-    pub fn copied(&self, alloc: Global) -> Result<SegTree, AllocError>
+    pub fn copied(&self, alloc: Global) -> Result<SegTree, OutOfMemory>
         ensures { IfOk result (λ tree. tree ≡ self.now) }
     {
         let bytes = Vec::from_slice(alloc, self.bytes.as_slice())?;
@@ -104,12 +105,12 @@ impl SegTree {
     }
 
     /// Its segments, each apart. An error says that memory is short.
-    pub fn segs(&self, alloc: Global) -> Result<Segs, AllocError>
+    pub fn segs(&self, alloc: Global) -> Result<Segs, OutOfMemory>
         ensures { IfOk result (λ segs. views segs ≡ self.now) }
     {
         match segs_at(alloc, Limits::widest(), DEEPEST_KEPT, self.bytes.as_slice()) {
             Ok((segs, _)) => Ok(segs),
-            Err(ReadError::Memory) => Err(AllocError),
+            Err(ReadError::Memory(error)) => Err(error),
             Err(ReadError::Fault(_)) => unreachable!(),
         }
     }

@@ -8,7 +8,8 @@ ghost use Rattle.outside.specs.Memory.{held_of, names_read, names_written, read_
 ghost use Rattle.outside.specs.Outside.{AllStay, CountsFailure, IsAdded, IsAddedAtMost, NoneFell, OneMore, OthersStay, Rose, SameCounts};
 
 use crate::outside::{Files, ReadFault, WriteFault};
-use std::alloc::{AllocError, Global};
+use out_of_memory::OutOfMemory;
+use std::alloc::Global;
 use std::collections::BTreeMap;
 
 /// Named files in memory. Reads and writes are counted apart, from 1, and one whose number stands
@@ -29,7 +30,7 @@ pub struct MemoryFiles {
 }
 
 /// Keeps the name of a call.
-pub(crate) fn keep(alloc: Global, names: &mut Vec<String>, name: &str) -> Result<(), AllocError>
+pub(crate) fn keep(alloc: Global, names: &mut Vec<String>, name: &str) -> Result<(), OutOfMemory>
     ensures kept { OnOk result (OneMore (count_of names.old.items)
         (count_of names.new.items) name.now) }
     ensures err { OnErr result (SameCounts (count_of names.old.items) (count_of names.new.items)) }
@@ -53,7 +54,7 @@ fn refuse(alloc: Global, names: &mut Vec<String>, name: &str) -> Result<Vec<u8>,
 {
     match keep(alloc, names, name) {
         Ok(()) => Err(ReadFault::Failed),
-        Err(_) => Err(ReadFault::Memory),
+        Err(error) => Err(ReadFault::Memory(error)),
     }
 }
 
@@ -95,7 +96,7 @@ impl MemoryFiles {
 
     /// Makes the name hold the bytes, which counts as no write. A refusal leaves all files as they
     /// were.
-    pub fn place(&mut self, name: &str, bytes: &[u8]) -> Result<(), AllocError>
+    pub fn place(&mut self, name: &str, bytes: &[u8]) -> Result<(), OutOfMemory>
         ensures placed { OnOk result (held_of self.new name.now ≡ Some bytes.now) }
         ensures others { OthersStay (held_of self.old) (held_of self.new) name.now }
         ensures err { OnErr result (AllStay (held_of self.old) (held_of self.new)) }
@@ -185,12 +186,12 @@ impl Files for MemoryFiles {
         if self.bad_writes.contains(&self.writes) {
             return match keep(self.alloc, &mut self.failed_writes, name) {
                 Ok(()) => Err(WriteFault::Failed),
-                Err(_) => Err(WriteFault::Memory),
+                Err(error) => Err(WriteFault::Memory(error)),
             };
         }
         match self.place(name, bytes) {
             Ok(()) => Ok(()),
-            Err(_) => Err(WriteFault::Memory),
+            Err(error) => Err(WriteFault::Memory(error)),
         }
     }
 }

@@ -4,6 +4,7 @@ ghost use Rattle.std.specs.Prelude.{◌≡◌, ◌≢◌, ◌≤◌, ◌<◌, �
 ghost use Rattle.std.specs.Bool.{OnTrue};
 ghost use Rattle.outside.specs.Outside.{FilesState, SinkState, Rose, NoneFell, AllStay, OthersStay, Appends, AppendsFront, IsAdded, IsAddedAtMost};
 
+use out_of_memory::OutOfMemory;
 use thiserror::Error;
 
 /// Why a file was not read.
@@ -16,7 +17,7 @@ pub enum ReadFault {
     #[error("the file is too long")]
     Long,
     #[error("out of memory")]
-    Memory,
+    Memory(OutOfMemory),
 }
 
 /// Why a file was not written.
@@ -26,7 +27,7 @@ pub enum WriteFault {
     #[error("the file could not be written")]
     Failed,
     #[error("out of memory")]
-    Memory,
+    Memory(OutOfMemory),
 }
 
 /// A piece was not taken whole.

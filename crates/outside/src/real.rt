@@ -143,7 +143,7 @@ impl<'a, R: rt::Files> Files for RealFiles<'a, R> {
     {
         let answer = match keep(self.alloc, &mut self.names_read, name) {
             Ok(()) => read_file(self.alloc, self.rt, name, most),
-            Err(_) => Err(ReadFault::Memory),
+            Err(error) => Err(ReadFault::Memory(error)),
         };
         if answer.is_err() {
             self.raise();
@@ -170,7 +170,7 @@ impl<'a, R: rt::Files> Files for RealFiles<'a, R> {
     {
         let answer = match keep(self.alloc, &mut self.names_written, name) {
             Ok(()) => write_file(self.rt, name, bytes),
-            Err(_) => Err(WriteFault::Memory),
+            Err(error) => Err(WriteFault::Memory(error)),
         };
         if answer.is_err() {
             self.raise();

@@ -9,7 +9,8 @@ ghost use Rattle.outside.specs.Outside.{AllStay, IsAdded, IsAddedAtMost, OthersS
 
 use crate::memory::{copy_within, keep};
 use crate::outside::{Files, ReadFault, Sink, SinkFailed, WriteFault};
-use std::alloc::{AllocError, Global};
+use out_of_memory::OutOfMemory;
+use std::alloc::Global;
 use std::collections::BTreeMap;
 
 /// Named files in memory, whose calls never fail. A missing name reads as empty.
@@ -44,7 +45,7 @@ impl SureFiles {
     }
 
     /// Makes the name hold the bytes. A refusal leaves all files as they were.
-    pub fn place(&mut self, name: &str, bytes: &[u8]) -> Result<(), AllocError>
+    pub fn place(&mut self, name: &str, bytes: &[u8]) -> Result<(), OutOfMemory>
         ensures placed { OnOk result (placed_in self.new name.now ≡ Some bytes.now) }
         ensures others { OthersStay (placed_in self.old) (placed_in self.new) name.now }
         ensures err { OnErr result (AllStay (placed_in self.old) (placed_in self.new)) }
@@ -117,7 +118,7 @@ impl Files for SureFiles {
         }
         match self.place(name, bytes) {
             Ok(()) => Ok(()),
-            Err(_) => Err(WriteFault::Memory),
+            Err(error) => Err(WriteFault::Memory(error)),
         }
     }
 }

@@ -88,7 +88,7 @@ fn add(toks: &mut List<Token>, token: Token) -> Result<(), LexFault>
 {
     match toks.push(token) {
         Ok(()) => Ok(()),
-        Err(_) => Err(LexFault::Memory),
+        Err(error) => Err(LexFault::Memory(error)),
     }
 }
 

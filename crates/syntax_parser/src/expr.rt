@@ -81,7 +81,7 @@ pub(crate) fn boxed(alloc: Global, expr: Expr) -> Result<Box<Expr>, Refusal>
 {
     match Box::new(alloc, expr) {
         Ok(it) => Ok(it),
-        Err(_) => Err(Refusal::Memory),
+        Err(error) => Err(Refusal::Memory(error)),
     }
 }
 

@@ -80,7 +80,7 @@ pub fn parse(alloc: Global, text: &[u8], tokens: &Tokens) -> Result<Program, Syn
 {
     match read(alloc, text, tokens.as_slice()) {
         Ok(prog) => Ok(prog),
-        Err(Refusal::Memory) => Err(SyntaxFault::Memory),
+        Err(Refusal::Memory(error)) => Err(SyntaxFault::Memory(error)),
         Err(Refusal::Syntax { left }) => Err(SyntaxFault::Syntax(place_of(tokens, left))),
         Err(Refusal::Nesting { left }) => Err(SyntaxFault::Nesting(place_of(tokens, left))),
     }
