@@ -28,7 +28,7 @@ impl Sink for Log {
         match self.bytes.extend_from_slice(piece) {
             Ok(()) => Ok(()),
             Err(refused) => {
-                self.refused = Some(refused);
+                self.refused = Some(OutOfMemory::from(refused));
                 self.faults = self.faults.saturating_add(1);
                 Err(SinkFailed { taken: 0 })
             }

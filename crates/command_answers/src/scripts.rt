@@ -55,6 +55,6 @@ pub fn refuse_script<'a>(alloc: Global, fault: &ScriptFault) -> Result<PreparedC
 {
     match fault {
         ScriptFault::Bad { .. } => Ok(put(Status::Script, script_fault_line(alloc, fault)?)),
-        ScriptFault::Memory(error) => Err(error),
+        ScriptFault::Memory(error) => Err(*error),
     }
 }

@@ -67,7 +67,7 @@ impl SegTree {
         let (_view, rest) = tree_at(limits, u64::from(depth), bytes)?;
         are_bytes(bytes);
         let taken = &bytes[..bytes.len() - rest.len()];
-        let bytes = Vec::from_slice(alloc, taken)?;
+        let bytes = Vec::from_slice(alloc, taken).map_err(OutOfMemory::from)?;
         Ok((SegTree { bytes }, rest))
     }
 

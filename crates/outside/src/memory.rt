@@ -65,7 +65,7 @@ pub(crate) fn copy_within(alloc: Global, bytes: &[u8], most: usize) -> Result<Ve
     if bytes.len() > most {
         return Err(ReadFault::Long);
     }
-    Vec::from_slice(alloc, bytes).map_err(|_| ReadFault::Memory)
+    Vec::from_slice(alloc, bytes).map_err(|error| ReadFault::Memory(OutOfMemory::from(error)))
 }
 
 impl MemoryFiles {
@@ -149,8 +149,8 @@ impl Files for MemoryFiles {
         ensures names_written { names_written self.new ≡ names_written self.old }
     {
         self.reads = self.reads.saturating_add(1);
-        if keep(self.alloc, &mut self.names_read, name).is_err() {
-            return Err(ReadFault::Memory);
+        if let Err(error) = keep(self.alloc, &mut self.names_read, name) {
+            return Err(ReadFault::Memory(error));
         }
         if self.bad_reads.contains(&self.reads) {
             return refuse(self.alloc, &mut self.failed_reads, name);
@@ -180,8 +180,8 @@ impl Files for MemoryFiles {
         ensures names_read { names_read self.new ≡ names_read self.old }
     {
         self.writes = self.writes.saturating_add(1);
-        if keep(self.alloc, &mut self.names_written, name).is_err() {
-            return Err(WriteFault::Memory);
+        if let Err(error) = keep(self.alloc, &mut self.names_written, name) {
+            return Err(WriteFault::Memory(error));
         }
         if self.bad_writes.contains(&self.writes) {
             return match keep(self.alloc, &mut self.failed_writes, name) {

@@ -7,6 +7,7 @@ ghost use Rattle.outside.specs.Outside.{IsAdded, IsAddedAtMost, next_count};
 
 use crate::memory::keep;
 use crate::outside::{Files, ReadFault, Sink, SinkFailed, WriteFault};
+use out_of_memory::OutOfMemory;
 use std::alloc::Global;
 use std::io::{ErrorKind, Read};
 use std::{fs, rt};
@@ -50,8 +51,8 @@ fn read_up_to<F: Read>(alloc: Global, file: &mut F, most: usize) -> Result<Vec<u
         if count > most - all.len() {
             return Err(ReadFault::Long);
         }
-        if all.extend_from_slice(&part[..count]).is_err() {
-            return Err(ReadFault::Memory);
+        if let Err(error) = all.extend_from_slice(&part[..count]) {
+            return Err(ReadFault::Memory(OutOfMemory::from(error)));
         }
     }
     Err(ReadFault::Failed)

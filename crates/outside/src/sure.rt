@@ -91,8 +91,8 @@ impl Files for SureFiles {
             (names_in self.old.names_read.items) (names_in self.new.names_read.items) name.now }
         ensures writes { self.new.names_written.items ≡ self.old.names_written.items }
     {
-        if keep(self.alloc, &mut self.names_read, name).is_err() {
-            return Err(ReadFault::Memory);
+        if let Err(error) = keep(self.alloc, &mut self.names_read, name) {
+            return Err(ReadFault::Memory(error));
         }
         match self.store.get(name) {
             None => Ok(Vec::new(self.alloc)),
@@ -113,8 +113,8 @@ impl Files for SureFiles {
             name.now }
         ensures reads { self.new.names_read.items ≡ self.old.names_read.items }
     {
-        if keep(self.alloc, &mut self.names_written, name).is_err() {
-            return Err(WriteFault::Memory);
+        if let Err(error) = keep(self.alloc, &mut self.names_written, name) {
+            return Err(WriteFault::Memory(error));
         }
         match self.place(name, bytes) {
             Ok(()) => Ok(()),

@@ -109,7 +109,7 @@ fn refuse_log<'a>(
 {
     *message = message_of_fault(alloc, file, content, names, fault)?;
     match fault {
-        LogFault::Memory(error) => Err(error),
+        LogFault::Memory(error) => Err(*error),
         LogFault::Line(_) | LogFault::Long => Ok(put(Status::Log, log_fault_line(alloc, fault)?)),
     }
 }

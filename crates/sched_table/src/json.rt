@@ -23,7 +23,7 @@ fn number_value(alloc: Global, number: u64) -> Result<Value, OutOfMemory>
     ensures { IfOk result (λ value. view value ≡ json.number_data number) }
 {
     if number > GREATEST {
-        return Value::try_from_str(alloc, "over");
+        return Ok(Value::try_from_str(alloc, "over")?);
     }
     Ok(Value::from(number))
 }
@@ -35,7 +35,7 @@ fn optional_value(alloc: Global, number: Option<u64>) -> Result<Value, OutOfMemo
 {
     match number {
         Some(number) => number_value(alloc, number),
-        None => Value::try_from_str(alloc, "none"),
+        None => Ok(Value::try_from_str(alloc, "none")?),
     }
 }
 
@@ -45,7 +45,7 @@ fn name_value(alloc: Global, name: &Name) -> Result<Value, OutOfMemory>
     ensures { IfOk result (λ value. view value ≡ string name.now) }
 {
     match str::from_utf8(name.as_bytes()) {
-        Ok(text) => Value::try_from_str(alloc, text),
+        Ok(text) => Ok(Value::try_from_str(alloc, text)?),
         Err(_) => unreachable!(),
     }
 }
@@ -60,7 +60,7 @@ fn put_number(
     ensures { OnOk result (members_view members.new.entries
         ≡ with_member key.now (json.number_data number) (members_view members.old.entries)) }
 {
-    put(members, alloc, key, number_value(alloc, number)?)
+    Ok(put(members, alloc, key, number_value(alloc, number)?)?)
 }
 
 /// Puts the deadline, where it is not the frame.

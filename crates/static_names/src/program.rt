@@ -265,8 +265,8 @@ fn body<'a>(
         (program_name g ∷ []) g.decls more)) }
 {
     let most = program.decls.len().saturating_add(1);
-    let mut names = tri!(Scope::with_capacity(alloc, most));
-    let mut seen = tri!(Scope::with_capacity(alloc, most));
+    let mut names = Scope::with_capacity(alloc, most)?;
+    let mut seen = Scope::with_capacity(alloc, most)?;
     body_with(alloc, findings, &mut names, &mut seen, entries, program)
 }
 

@@ -9,6 +9,7 @@ ghost use Rattle.syntax_parser.specs.Reads.{Reads, row_from, with_front, placed_
 
 use crate::fault::{Refusal, made, tri};
 use crate::parser::Parser;
+use out_of_memory::OutOfMemory;
 use std::alloc::Global;
 use syntax::{TokenKind, keyword, sign};
 use syntax_tree::{Constant, Expr, List, Name, Op, Place, Value};
@@ -81,7 +82,7 @@ pub(crate) fn boxed(alloc: Global, expr: Expr) -> Result<Box<Expr>, Refusal>
 {
     match Box::new(alloc, expr) {
         Ok(it) => Ok(it),
-        Err(error) => Err(Refusal::Memory(error)),
+        Err(error) => Err(Refusal::Memory(OutOfMemory::from(error))),
     }
 }
 

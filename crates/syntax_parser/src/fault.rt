@@ -43,7 +43,7 @@ macro_rules! made {
     ($made:expr) => {
         match $made {
             Ok(it) => it,
-            Err(error) => return Err(Refusal::Memory(error)),
+            Err(error) => return Err(Refusal::Memory(out_of_memory::OutOfMemory::from(error))),
         }
     };
 }

@@ -61,7 +61,7 @@ fn handler_end(process: &ProcessRef<'_>, code: usize) -> usize
 fn handler_numbers(alloc: Global, process: &ProcessRef<'_>) -> Result<Vec<u16>, OutOfMemory>
     ensures { IfOk result (λ numbers. numbers.items ≡ (process_in process.now).numbers) }
 {
-    process.numbers().collect(alloc)
+    Ok(process.numbers().collect(alloc)?)
 }
 
 /// What a run needs of a process.
