@@ -1,6 +1,8 @@
 //! Why nothing was prepared.
 
 
+ghost use Rattle.out_of_memory.specs.Refused.{refused};
+
 use out_of_memory::OutOfMemory;
 
 /// Why nothing was prepared.
@@ -16,7 +18,7 @@ impl<'a> From<OutOfMemory> for PrepareError<'a> {
     ghost use Rattle.std.specs.Prelude.{◌≡◌};
     ghost use Rattle.command_answers.specs.declared.prepare_error.PrepareError.TheVariants as unready;
 
-    ghost from_gives = { λ _ made. made ≡ unready.Memory };
+    ghost from_gives = { λ _ made. made ≡ unready.Memory refused };
 
     fn from(error: OutOfMemory) -> PrepareError<'a> {
         PrepareError::Memory(error)

@@ -1,6 +1,7 @@
 //! Script texts judged.
 
 ghost use Rattle.std.specs.Prelude.{◌≡◌, ◌≢◌, ◌≤◌, ◌^◌, ◌⊎◌, ℕ, List, length, IfOk, IfErr};
+ghost use Rattle.out_of_memory.specs.Refused.{refused};
 ghost use Rattle.script.specs.declared.fault.ScriptFault.TheVariants as fault;
 ghost use Rattle.script.specs.Faults.{IsFault};
 ghost use Rattle.script.specs.Scripts.{IsScript, longest_text};
@@ -34,7 +35,7 @@ pub fn judge_script(
     ensures some { IfOk result (λ script. (text : List ℕ) ×
         IsScript names.now text script.lines script.end) }
     ensures fault { IfErr result (λ why. (text : List ℕ) → IsContent longest_text content.now text →
-        (why ≡ fault.Memory) ⊎ IsFault names.now text why) }
+        (why ≡ fault.Memory refused) ⊎ IsFault names.now text why) }
 {
     match content {
         Content::Bytes(text) => read_script(alloc, text.as_slice(), names),
@@ -50,7 +51,7 @@ pub fn judge_script(
 /// The act for a text that is no script: it puts the line of its fault.
 pub fn refuse_script<'a>(alloc: Global, fault: &ScriptFault) -> Result<PreparedCall<'a>, OutOfMemory>
     ensures act { IfOk result (λ act. act ≡ puts Status.Script (script_fault_line fault.now)) }
-    ensures is_fault { IfOk result (λ act. fault.now ≢ ScriptFault.Memory) }
+    ensures is_fault { IfOk result (λ act. fault.now ≢ ScriptFault.Memory refused) }
     ensures refused { IfOk result (λ act. number_of act.status ≢ 0) }
 {
     match fault {

@@ -1,6 +1,7 @@
 //! Performing.
 
 ghost use Rattle.std.specs.Prelude.{◌≡◌, ◌≢◌, ◌++◌, [], IfOk, IfSome, IsSome, IsSomeAnd, OnOk, OnErr};
+ghost use Rattle.out_of_memory.specs.Refused.{refused};
 ghost use Rattle.outside.specs.Outside.{outside, AllStay, Appends, AppendsFront, Rose};
 ghost use Rattle.command_answers.specs.Acts.{CanRun, log_due, number_of};
 ghost use Rattle.command_answers.specs.Causes.{HasCause};
@@ -34,7 +35,7 @@ fn store<F: Files>(image: &Option<Store<'_>>, files: &mut F) -> Result<(), Write
     ensures failed { result ≡ Err WriteFault.Failed → IsSomeAnd image.now (λ s.
         Rose ((F.state files.old).write_faults s.name.now)
         ((F.state files.new).write_faults s.name.now)) }
-    ensures kept { result ≡ Err WriteFault.Memory →
+    ensures kept { result ≡ Err (WriteFault.Memory refused) →
         AllStay (F.state files.old).held (F.state files.new).held }
     ensures others { OthersKept image.now (F.state files.old).held (F.state files.new).held }
     ensures reads { (F.state files.new).reads ≡ (F.state files.old).reads }

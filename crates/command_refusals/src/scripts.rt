@@ -1,6 +1,7 @@
 //! Scripts that are refused.
 
 ghost use Rattle.std.specs.Prelude.{◌≡◌, ◌≢◌, ℕ, List, IfOk};
+ghost use Rattle.out_of_memory.specs.Refused.{refused};
 ghost use Rattle.script.specs.Scripts.{longest_text};
 ghost use Rattle.command_due.specs.Script.{script_fault_line};
 ghost use Rattle.command_answers.specs.Acting.{puts};
@@ -45,7 +46,7 @@ pub fn refuse_script<'a>(
     fault: &ScriptFault,
 ) -> Result<PreparedCall<'a>, OutOfMemory>
     ensures act { IfOk result (λ act. act ≡ puts Status.Script (script_fault_line fault.now)) }
-    ensures is_fault { IfOk result (λ act. fault.now ≢ ScriptFault.Memory) }
+    ensures is_fault { IfOk result (λ act. fault.now ≢ ScriptFault.Memory refused) }
     ensures refused { IfOk result (λ act. number_of act.status ≢ 0) }
     ensures told { IfOk result (λ act. (bytes : List ℕ) → IsContent longest_text content.now bytes →
         IsScriptTold names.now file.now bytes (outcome_of act) message.new) }

@@ -1,5 +1,7 @@
 //! What is built.
 
+ghost use Rattle.out_of_memory.specs.Refused.{refused};
+
 use image::{ImageNames, RawImage};
 use out_of_memory::OutOfMemory;
 use sched_table::Table;
@@ -36,7 +38,7 @@ impl From<OutOfMemory> for BuildFault {
     ghost use Rattle.std.specs.Prelude.{◌≡◌};
     ghost use Rattle.compile.specs.declared.built.BuildFault.TheVariants.{Memory};
 
-    ghost from_gives = { λ _ fault. fault ≡ Memory };
+    ghost from_gives = { λ _ fault. fault ≡ Memory refused };
 
     fn from(error: OutOfMemory) -> BuildFault {
         BuildFault::Memory(error)

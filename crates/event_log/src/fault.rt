@@ -1,5 +1,7 @@
 //! Why a text is no log.
 
+ghost use Rattle.out_of_memory.specs.Refused.{refused};
+
 use out_of_memory::OutOfMemory;
 use thiserror::Error;
 
@@ -21,7 +23,7 @@ impl From<OutOfMemory> for LogFault {
     ghost use Rattle.std.specs.Prelude.{◌≡◌};
     ghost use Rattle.event_log.specs.declared.fault.LogFault.TheVariants.{Memory};
 
-    ghost from_gives = { λ _ fault. fault ≡ Memory };
+    ghost from_gives = { λ _ fault. fault ≡ Memory refused };
 
     fn from(error: OutOfMemory) -> LogFault {
         LogFault::Memory(error)

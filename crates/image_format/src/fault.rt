@@ -1,6 +1,7 @@
 //! Why bytes are none of a thing.
 
 ghost use Rattle.std.specs.Prelude.{◌≡◌};
+ghost use Rattle.out_of_memory.specs.Refused.{refused};
 ghost use Rattle.image_format.specs.declared.fault.ReadError.TheVariants.{Fault as Wrong, Memory};
 
 use out_of_memory::OutOfMemory;
@@ -21,7 +22,7 @@ pub enum ReadError {
 }
 
 impl From<OutOfMemory> for ReadError {
-    ghost from_gives = { λ _ e. e ≡ Memory };
+    ghost from_gives = { λ _ e. e ≡ Memory refused };
 
     fn from(error: OutOfMemory) -> ReadError {
         ReadError::Memory(error)
@@ -29,7 +30,7 @@ impl From<OutOfMemory> for ReadError {
 }
 
 impl<T: Drop> From<AllocFailed<T>> for ReadError {
-    ghost from_gives = { λ _ e. e ≡ Memory };
+    ghost from_gives = { λ _ e. e ≡ Memory refused };
 
     fn from(refused: AllocFailed<T>) -> ReadError {
         ReadError::Memory(OutOfMemory::from(refused))

@@ -1,5 +1,7 @@
 //! Why bytes gave no image, and numbers no valid one.
 
+ghost use Rattle.out_of_memory.specs.Refused.{refused};
+
 use faulty_part::PartFault;
 use image::RawImage;
 use image_reader::ImageFault;
@@ -18,7 +20,7 @@ impl From<OutOfMemory> for ValidFault {
     ghost use Rattle.std.specs.Prelude.{◌≡◌};
     ghost use Rattle.image_loaded.specs.declared.fault.ValidFault.TheVariants as valid;
 
-    ghost from_gives = { λ _ made. made ≡ valid.Memory };
+    ghost from_gives = { λ _ made. made ≡ valid.Memory refused };
 
     fn from(error: OutOfMemory) -> ValidFault {
         ValidFault::Memory(error)

@@ -3,6 +3,7 @@
 ghost use Rattle.std.specs.Prelude.{◌≡◌, ◌≢◌, ◌++◌, IfOk, List, OnOk, reverse};
 ghost use Rattle.std.specs.List.{list_all};
 ghost use Rattle.std.specs.Prelude.{take as first};
+ghost use Rattle.out_of_memory.specs.Refused.{refused};
 ghost use Rattle.message_expected.specs.Automaton as automaton;
 ghost use Rattle.message_expected.specs.Leads.{Leads};
 ghost use Rattle.message_expected.specs.Stack.{fed_to, found_on, head_of, reached_of};
@@ -193,7 +194,7 @@ fn lead(alloc: Global, text: &[u8], all: &[Token]) -> Result<Reached, OutOfMemor
 
 /// That a text of this fault leads nowhere.
 fn lead_nowhere(fault: LexFault) -> Result<Reached, OutOfMemory>
-    ensures { IfOk result (λ it. (reached_of it ≡ automaton.stopped) × (fault ≢ LexFault.Memory)) }
+    ensures { IfOk result (λ it. (reached_of it ≡ automaton.stopped) × (fault ≢ LexFault.Memory refused)) }
 {
     match fault {
         LexFault::Memory(error) => Err(error),

@@ -1,6 +1,7 @@
 //! The notes at a place where a text goes on with no word of the grammar.
 
 ghost use Rattle.std.specs.Prelude.{◌≡◌, ◌≢◌, ◌++◌, List, OnOk, slice_get};
+ghost use Rattle.out_of_memory.specs.Refused.{refused};
 ghost use Rattle.syntax.specs.declared.token.Token.{Token as SpecToken};
 ghost use Rattle.syntax.specs.Tokens.{tokens as are_tokens};
 ghost use Rattle.message_expected.specs.Expected.{IsExpectedSet, front};
@@ -25,7 +26,7 @@ fn token_at(all: &[Token], at: usize) -> Option<Token>
 
 /// That nothing is put for a text of this fault, which has no tokens.
 fn put_nothing(fault: LexFault) -> Result<(), OutOfMemory>
-    ensures { OnOk result (fault ≢ LexFault.Memory) }
+    ensures { OnOk result (fault ≢ LexFault.Memory refused) }
 {
     match fault {
         LexFault::Memory(error) => Err(error),

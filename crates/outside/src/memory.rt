@@ -2,6 +2,7 @@
 
 ghost use Rattle.std.specs.Prelude.{◌≡◌, ◌≢◌, ℕ, List, [], Some, None, OnOk, OnErr};
 ghost use Rattle.std.specs.Option.{option_copied};
+ghost use Rattle.out_of_memory.specs.Refused.{refused};
 ghost use Rattle.outside.specs.Calls.{HasFailed, ReadAnswers, ReadsAs, WriteAnswers, next, next_fails, read_failed, write_failed};
 ghost use Rattle.outside.specs.Kept.{count_of, names_in};
 ghost use Rattle.outside.specs.Memory.{held_of, names_read, names_written, read_faults_of, write_faults_of, reads_of, state_of, writes_of};
@@ -143,7 +144,7 @@ impl Files for MemoryFiles {
             Rose (read_faults_of self.old name.now) (read_faults_of self.new name.now) }
         ensures files { AllStay (held_of self.old) (held_of self.new) }
         ensures read_counts { NoneFell (read_faults_of self.old) (read_faults_of self.new) }
-        ensures tried { result ≢ Err ReadFault.Memory →
+        ensures tried { result ≢ Err (ReadFault.Memory refused) →
             IsAdded (names_read self.old) (names_read self.new) name.now }
         ensures once { IsAddedAtMost (names_read self.old) (names_read self.new) name.now }
         ensures names_written { names_written self.new ≡ names_written self.old }
@@ -174,7 +175,7 @@ impl Files for MemoryFiles {
             Rose (write_faults_of self.old name.now) (write_faults_of self.new name.now) }
         ensures others { OthersStay (held_of self.old) (held_of self.new) name.now }
         ensures write_counts { NoneFell (write_faults_of self.old) (write_faults_of self.new) }
-        ensures tried { result ≢ Err WriteFault.Memory →
+        ensures tried { result ≢ Err (WriteFault.Memory refused) →
             IsAdded (names_written self.old) (names_written self.new) name.now }
         ensures once { IsAddedAtMost (names_written self.old) (names_written self.new) name.now }
         ensures names_read { names_read self.new ≡ names_read self.old }

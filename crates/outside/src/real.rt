@@ -2,6 +2,7 @@
 //! were read and written, in which order.
 
 ghost use Rattle.std.specs.Prelude.{◌≡◌, ◌≢◌, ◌≤◌, ◌<◌, ℕ, List, [], length, vec_len, IfOk, OnOk, OnErr};
+ghost use Rattle.out_of_memory.specs.Refused.{refused};
 ghost use Rattle.outside.specs.Kept.{names_in};
 ghost use Rattle.outside.specs.Outside.{IsAdded, IsAddedAtMost, next_count};
 
@@ -135,7 +136,7 @@ impl<'a, R: rt::Files> Files for RealFiles<'a, R> {
         ensures count { let state = ⟦<RealFiles<'a, R> as Files>⟧.state in
             (state self.old).read_faults name.now ≤ (state self.new).read_faults name.now }
         ensures tried { let state = ⟦<RealFiles<'a, R> as Files>⟧.state in
-            result ≢ Err ReadFault.Memory →
+            result ≢ Err (ReadFault.Memory refused) →
             IsAdded (state self.old).reads (state self.new).reads name.now }
         ensures once { let state = ⟦<RealFiles<'a, R> as Files>⟧.state in
             IsAddedAtMost (state self.old).reads (state self.new).reads name.now }
@@ -162,7 +163,7 @@ impl<'a, R: rt::Files> Files for RealFiles<'a, R> {
         ensures count { let state = ⟦<RealFiles<'a, R> as Files>⟧.state in
             (state self.old).write_faults name.now ≤ (state self.new).write_faults name.now }
         ensures tried { let state = ⟦<RealFiles<'a, R> as Files>⟧.state in
-            result ≢ Err WriteFault.Memory →
+            result ≢ Err (WriteFault.Memory refused) →
             IsAdded (state self.old).writes (state self.new).writes name.now }
         ensures once { let state = ⟦<RealFiles<'a, R> as Files>⟧.state in
             IsAddedAtMost (state self.old).writes (state self.new).writes name.now }

@@ -2,6 +2,7 @@
 
 ghost use Rattle.std.specs.Prelude.{◌≡◌, ◌≢◌, ◌⊎◌, ◌≤◌, ◌+◌, ◌^◌, ◌-◌, ℕ, List, [], Some, None, min, OnOk, OnErr, IsOk, length};
 ghost use Rattle.std.specs.Option.{option_copied};
+ghost use Rattle.out_of_memory.specs.Refused.{refused};
 ghost use Rattle.outside.specs.Calls.{ReadsAs};
 ghost use Rattle.outside.specs.Kept.{names_in};
 ghost use Rattle.outside.specs.Memory.{counted, placed_in, shown_in};
@@ -85,7 +86,7 @@ impl Files for SureFiles {
     fn read(&mut self, name: &str, most: usize) -> Result<Vec<u8>, ReadFault>
         ensures answer { ReadsAs (shown_in self.old name.now) most result }
         ensures files { AllStay (placed_in self.old) (placed_in self.new) }
-        ensures tried { result ≢ Err ReadFault.Memory → IsAdded
+        ensures tried { result ≢ Err (ReadFault.Memory refused) → IsAdded
             (names_in self.old.names_read.items) (names_in self.new.names_read.items) name.now }
         ensures once { IsAddedAtMost
             (names_in self.old.names_read.items) (names_in self.new.names_read.items) name.now }
@@ -101,11 +102,11 @@ impl Files for SureFiles {
     }
 
     fn write(&mut self, name: &str, bytes: &[u8]) -> Result<(), WriteFault>
-        ensures sure { (result ≡ Ok tt) ⊎ (result ≡ Err WriteFault.Memory) }
+        ensures sure { (result ≡ Ok tt) ⊎ (result ≡ Err (WriteFault.Memory refused)) }
         ensures stored { OnOk result (placed_in self.new name.now ≡ Some bytes.now) }
         ensures others { OthersStay (placed_in self.old) (placed_in self.new) name.now }
         ensures refused { OnErr result (AllStay (placed_in self.old) (placed_in self.new)) }
-        ensures tried { result ≢ Err WriteFault.Memory → IsAdded
+        ensures tried { result ≢ Err (WriteFault.Memory refused) → IsAdded
             (names_in self.old.names_written.items) (names_in self.new.names_written.items)
             name.now }
         ensures once { IsAddedAtMost

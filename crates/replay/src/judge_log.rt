@@ -1,6 +1,7 @@
 //! Logs, judged by the program.
 
 ghost use Rattle.std.specs.Prelude.{◌≡◌, ◌≢◌, ◌<◌, ◌≤◌, ◌^◌, ℕ, List, IfOk, length};
+ghost use Rattle.out_of_memory.specs.Refused.{refused};
 ghost use Rattle.command_answers.specs.Acts.{outcome_of};
 ghost use Rattle.command_answers.specs.Acting.{IsQuiet, puts};
 ghost use Rattle.command_answers.specs.Contents.{IsContent};
@@ -103,7 +104,7 @@ fn refuse_log<'a>(
     fault: &LogFault,
 ) -> Result<PreparedCall<'a>, OutOfMemory>
     ensures act { IfOk result (λ act. act ≡ puts Status.Log (due.log_fault_line fault.now)) }
-    ensures is_fault { IfOk result (λ act. fault.now ≢ log_fault.Memory) }
+    ensures is_fault { IfOk result (λ act. fault.now ≢ log_fault.Memory refused) }
     ensures told { IfOk result (λ act. (log : List ℕ) → IsContent longest_text content.now log →
         IsMisreadTold names.now file.now log (outcome_of act) message.new) }
 {

@@ -1,6 +1,7 @@
 //! Reading constants and expressions.
 
 ghost use Rattle.std.specs.Prelude.{◌≡◌, ◌≤◌, ◌-◌, true, map, IfOk, IfErr};
+ghost use Rattle.out_of_memory.specs.Refused.{refused};
 ghost use Rattle.syntax_tree.specs.Placed.{placed_constant, placed_expr, op_of as placed_of};
 ghost use Rattle.syntax.specs.Words.{COMMA, keyword as keyword_word, sign as sign_word};
 ghost use Rattle.syntax.specs.ExprGrammar.{height as height_in};
@@ -78,7 +79,7 @@ fn of_height(op: Option<Op>, height: u8) -> Option<Op>
 /// An expression in a box.
 pub(crate) fn boxed(alloc: Global, expr: Expr) -> Result<Box<Expr>, Refusal>
     ensures ok { IfOk result (λ b. b.value ≡ expr) }
-    ensures err { IfErr result (λ e. e ≡ Refusal.Memory) }
+    ensures err { IfErr result (λ e. e ≡ Refusal.Memory refused) }
 {
     match Box::new(alloc, expr) {
         Ok(it) => Ok(it),

@@ -1,5 +1,7 @@
 //! Why a text is no task table.
 
+ghost use Rattle.out_of_memory.specs.Refused.{refused};
+
 use out_of_memory::OutOfMemory;
 use thiserror::Error;
 
@@ -27,7 +29,7 @@ impl From<OutOfMemory> for TableFault {
     ghost use Rattle.std.specs.Prelude.{◌≡◌};
     ghost use Rattle.table_reader.specs.declared.fault.TableFault.TheVariants.{Memory};
 
-    ghost from_gives = { λ _ fault. fault ≡ Memory };
+    ghost from_gives = { λ _ fault. fault ≡ Memory refused };
 
     fn from(error: OutOfMemory) -> TableFault {
         TableFault::Memory(error)

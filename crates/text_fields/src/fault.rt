@@ -1,6 +1,7 @@
 //! Why a text was refused.
 
 ghost use Rattle.std.specs.Prelude.{◌≡◌};
+ghost use Rattle.out_of_memory.specs.Refused.{refused};
 ghost use Rattle.text_fields.specs.declared.fault.FieldError.TheVariants.{Memory};
 
 use out_of_memory::OutOfMemory;
@@ -21,7 +22,7 @@ pub enum FieldError {
 }
 
 impl From<OutOfMemory> for FieldError {
-    ghost from_gives = { λ _ e. e ≡ Memory };
+    ghost from_gives = { λ _ e. e ≡ Memory refused };
 
     fn from(error: OutOfMemory) -> FieldError {
         FieldError::Memory(error)
@@ -29,7 +30,7 @@ impl From<OutOfMemory> for FieldError {
 }
 
 impl<T: Drop> From<AllocFailed<T>> for FieldError {
-    ghost from_gives = { λ _ e. e ≡ Memory };
+    ghost from_gives = { λ _ e. e ≡ Memory refused };
 
     fn from(refused: AllocFailed<T>) -> FieldError {
         FieldError::Memory(OutOfMemory::from(refused))
