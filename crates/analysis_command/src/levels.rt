@@ -90,7 +90,11 @@ fn all_levels(
 }
 
 /// The levels of a program in the order of ranks, by its image. Only want of memory is an error.
-pub fn levels(alloc: Global, program: &Program, image: &RawImage) -> Result<List<Level>, OutOfMemory>
+pub fn levels(
+    alloc: Global,
+    program: &Program,
+    image: &RawImage,
+) -> Result<List<Level>, OutOfMemory>
     requires checked { IsChecked (placed program.now) }
     requires image { IsRanked (placed program.now) image.now.overhead image.now }
     ensures { IfOk result (AreLevels (placed program.now) image.now) }

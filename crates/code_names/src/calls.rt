@@ -191,7 +191,10 @@ fn answer<'a>(
 }
 
 /// What a routine calls, in the order of the calls.
-pub fn routine_calls<'a>(alloc: Global, routine: &'a Routine) -> Result<Vec<Called<'a>>, OutOfMemory>
+pub fn routine_calls<'a>(
+    alloc: Global,
+    routine: &'a Routine,
+) -> Result<Vec<Called<'a>>, OutOfMemory>
     ensures { IfOk result (λ calls. calls_told calls.items ≡
         calls_of (plain_routine (placed_routine routine.now))) }
 {

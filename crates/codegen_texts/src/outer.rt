@@ -78,7 +78,10 @@ fn monitors_spots<'a>(
 }
 
 /// The variables of the processes and of the monitors of a program.
-pub fn outer_spots<'a>(alloc: Global, tables: &Tables<'a>) -> Result<OuterLocations<'a>, OutOfMemory>
+pub fn outer_spots<'a>(
+    alloc: Global,
+    tables: &Tables<'a>,
+) -> Result<OuterLocations<'a>, OutOfMemory>
     ensures processes { IfOk result (λ outer. outer.processes.items ≡
         process_tables (plain (placed tables.now)) (processes_in (plain (placed tables.now)))) }
     ensures monitors { IfOk result (λ outer. outer.monitors.items ≡

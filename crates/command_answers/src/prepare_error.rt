@@ -1,8 +1,5 @@
 //! Why nothing was prepared.
 
-
-ghost use Rattle.out_of_memory.specs.Refused.{refused};
-
 use out_of_memory::OutOfMemory;
 
 /// Why nothing was prepared.
@@ -16,6 +13,7 @@ pub enum PrepareError<'a> {
 
 impl<'a> From<OutOfMemory> for PrepareError<'a> {
     ghost use Rattle.std.specs.Prelude.{◌≡◌};
+    ghost use Rattle.out_of_memory.specs.Refused.{refused};
     ghost use Rattle.command_answers.specs.declared.prepare_error.PrepareError.TheVariants as unready;
 
     ghost from_gives = { λ _ made. made ≡ unready.Memory refused };

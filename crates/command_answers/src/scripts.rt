@@ -49,7 +49,10 @@ pub fn judge_script(
 }
 
 /// The act for a text that is no script: it puts the line of its fault.
-pub fn refuse_script<'a>(alloc: Global, fault: &ScriptFault) -> Result<PreparedCall<'a>, OutOfMemory>
+pub fn refuse_script<'a>(
+    alloc: Global,
+    fault: &ScriptFault,
+) -> Result<PreparedCall<'a>, OutOfMemory>
     ensures act { IfOk result (λ act. act ≡ puts Status.Script (script_fault_line fault.now)) }
     ensures is_fault { IfOk result (λ act. fault.now ≢ ScriptFault.Memory refused) }
     ensures refused { IfOk result (λ act. number_of act.status ≢ 0) }

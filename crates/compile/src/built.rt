@@ -1,7 +1,5 @@
 //! What is built.
 
-ghost use Rattle.out_of_memory.specs.Refused.{refused};
-
 use image::{ImageNames, RawImage};
 use out_of_memory::OutOfMemory;
 use sched_table::Table;
@@ -36,6 +34,7 @@ pub enum BuildFault {
 
 impl From<OutOfMemory> for BuildFault {
     ghost use Rattle.std.specs.Prelude.{◌≡◌};
+    ghost use Rattle.out_of_memory.specs.Refused.{refused};
     ghost use Rattle.compile.specs.declared.built.BuildFault.TheVariants.{Memory};
 
     ghost from_gives = { λ _ fault. fault ≡ Memory refused };

@@ -1,7 +1,6 @@
 //! The image of a program.
 
 ghost use Rattle.std.specs.Prelude.{◌≡◌, ℕ, List, map, IfOk, IfErr};
-ghost use Rattle.out_of_memory.specs.Refused.{refused};
 ghost use Rattle.syntax_tree.specs.Placed.{placed};
 ghost use Rattle.image.specs.Raw.{process_of};
 ghost use Rattle.front_end.specs.Program.{IsProgramOf};
@@ -29,6 +28,7 @@ pub enum ShapeFault {
 
 impl From<OutOfMemory> for ShapeFault {
     ghost use Rattle.std.specs.Prelude.{◌≡◌};
+    ghost use Rattle.out_of_memory.specs.Refused.{refused};
     ghost use Rattle.edf_command.specs.declared.shaping.ShapeFault.TheVariants.{Memory};
 
     ghost from_gives = { λ _ fault. fault ≡ Memory refused };

@@ -1,7 +1,5 @@
 //! Why a text is no log.
 
-ghost use Rattle.out_of_memory.specs.Refused.{refused};
-
 use out_of_memory::OutOfMemory;
 use thiserror::Error;
 
@@ -21,6 +19,7 @@ pub enum LogFault {
 
 impl From<OutOfMemory> for LogFault {
     ghost use Rattle.std.specs.Prelude.{◌≡◌};
+    ghost use Rattle.out_of_memory.specs.Refused.{refused};
     ghost use Rattle.event_log.specs.declared.fault.LogFault.TheVariants.{Memory};
 
     ghost from_gives = { λ _ fault. fault ≡ Memory refused };

@@ -32,8 +32,8 @@ impl From<OutOfMemory> for ReadError {
 impl<T: Drop> From<AllocFailed<T>> for ReadError {
     ghost from_gives = { λ _ e. e ≡ Memory refused };
 
-    fn from(refused: AllocFailed<T>) -> ReadError {
-        ReadError::Memory(OutOfMemory::from(refused))
+    fn from(error: AllocFailed<T>) -> ReadError {
+        ReadError::Memory(OutOfMemory::from(error))
     }
 }
 

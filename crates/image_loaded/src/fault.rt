@@ -1,7 +1,5 @@
 //! Why bytes gave no image, and numbers no valid one.
 
-ghost use Rattle.out_of_memory.specs.Refused.{refused};
-
 use faulty_part::PartFault;
 use image::RawImage;
 use image_reader::ImageFault;
@@ -18,6 +16,7 @@ pub enum ValidFault {
 
 impl From<OutOfMemory> for ValidFault {
     ghost use Rattle.std.specs.Prelude.{◌≡◌};
+    ghost use Rattle.out_of_memory.specs.Refused.{refused};
     ghost use Rattle.image_loaded.specs.declared.fault.ValidFault.TheVariants as valid;
 
     ghost from_gives = { λ _ made. made ≡ valid.Memory refused };

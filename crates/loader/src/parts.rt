@@ -178,7 +178,10 @@ fn wrong_from(start: u32) -> FaultNumbers
 }
 
 /// The first routine whose start or code is wrong. Keeps what the code of those before it comes to.
-fn routines_fault(raw: &RawImage, parts: &mut CodeCosts) -> Result<Option<FaultNumbers>, OutOfMemory>
+fn routines_fault(
+    raw: &RawImage,
+    parts: &mut CodeCosts,
+) -> Result<Option<FaultNumbers>, OutOfMemory>
     requires known { parts.old.known ≡ [] }
     requires routines { parts.old.routines ≡ [] }
     requires end { parts.old.end ≡ 0 }

@@ -40,7 +40,12 @@ fn add_place(text: &mut Text, offset: usize) -> Result<(), OutOfMemory>
 /// The message for bytes that are no image: the file, the number of the fault, its place from 0,
 /// and what is wrong there.
 #[tactic(auto, unfolding(crate::specs::Image::image_message))]
-pub fn image_message(alloc: Global, file: &str, number: u8, offset: u32) -> Result<Text, OutOfMemory>
+pub fn image_message(
+    alloc: Global,
+    file: &str,
+    number: u8,
+    offset: u32,
+) -> Result<Text, OutOfMemory>
     ensures { IfOk result (λ message. message ≡ image_message file.now number offset) }
 {
     let mut message = Text::new(alloc);

@@ -126,7 +126,11 @@ fn add_listed(text: &mut Text, names: &ImageNames, event: &SourceEvent) -> Resul
 }
 
 /// Puts each of the events in a line of a list.
-fn add_events(text: &mut Text, names: &ImageNames, events: &[SourceEvent]) -> Result<(), OutOfMemory>
+fn add_events(
+    text: &mut Text,
+    names: &ImageNames,
+    events: &[SourceEvent],
+) -> Result<(), OutOfMemory>
     ensures { OnOk result (text.new ≡ text.old ++ list_lines names.now (events_of events.now)) }
 {
     for event in events {

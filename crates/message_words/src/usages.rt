@@ -151,7 +151,12 @@ fn add_all(text: &mut Text) -> Result<(), OutOfMemory>
 }
 
 /// Puts what is told of these words, whose first is this.
-fn add_told(alloc: Global, text: &mut Text, words: &[String], word: &[u8]) -> Result<(), OutOfMemory>
+fn add_told(
+    alloc: Global,
+    text: &mut Text,
+    words: &[String],
+    word: &[u8],
+) -> Result<(), OutOfMemory>
     ensures { OnOk result (text.new ≡ text.old ++ told (map string_bytes words.now) word.now
         (find (λ row. bytes_eq row.command word.now) all_rows)) }
 {

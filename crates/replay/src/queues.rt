@@ -12,7 +12,11 @@ use std::alloc::Global;
 use syntax_tree::{Declaration, Member};
 
 /// Adds the queue of the condition that the member is, if it is one.
-fn add_queue(alloc: Global, queues: &mut Vec<Vec<usize>>, member: &Member) -> Result<(), OutOfMemory>
+fn add_queue(
+    alloc: Global,
+    queues: &mut Vec<Vec<usize>>,
+    member: &Member,
+) -> Result<(), OutOfMemory>
     ensures { OnOk result ((rest : List SpecMember) → queues_of queues.new.items ++
         member_queues rest ≡ queues_of queues.old.items ++
         member_queues (plain_member (placed_member member.now) ∷ rest)) }

@@ -1,7 +1,5 @@
 //! Why a text is no script.
 
-ghost use Rattle.out_of_memory.specs.Refused.{refused};
-
 use crate::refusal;
 use out_of_memory::OutOfMemory;
 use std::fmt::{self, Display, Formatter, Write};
@@ -62,6 +60,7 @@ impl Display for Ticks {
 
 impl From<OutOfMemory> for ScriptFault {
     ghost use Rattle.std.specs.Prelude.{◌≡◌};
+    ghost use Rattle.out_of_memory.specs.Refused.{refused};
     ghost use Rattle.script.specs.declared.fault.ScriptFault.TheVariants.{Memory};
 
     ghost from_gives = { λ _ fault. fault ≡ Memory refused };

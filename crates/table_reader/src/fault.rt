@@ -1,7 +1,5 @@
 //! Why a text is no task table.
 
-ghost use Rattle.out_of_memory.specs.Refused.{refused};
-
 use out_of_memory::OutOfMemory;
 use thiserror::Error;
 
@@ -27,6 +25,7 @@ pub enum TableFault {
 
 impl From<OutOfMemory> for TableFault {
     ghost use Rattle.std.specs.Prelude.{◌≡◌};
+    ghost use Rattle.out_of_memory.specs.Refused.{refused};
     ghost use Rattle.table_reader.specs.declared.fault.TableFault.TheVariants.{Memory};
 
     ghost from_gives = { λ _ fault. fault ≡ Memory refused };

@@ -32,7 +32,7 @@ impl From<OutOfMemory> for FieldError {
 impl<T: Drop> From<AllocFailed<T>> for FieldError {
     ghost from_gives = { λ _ e. e ≡ Memory refused };
 
-    fn from(refused: AllocFailed<T>) -> FieldError {
-        FieldError::Memory(OutOfMemory::from(refused))
+    fn from(error: AllocFailed<T>) -> FieldError {
+        FieldError::Memory(OutOfMemory::from(error))
     }
 }
