@@ -26,7 +26,11 @@ fn call(
     Ok(())
 }
 
-fn expr(calls: &mut Vec<Place>, declarations: &Declarations<'_>, e: &Expr) -> Result<(), OutOfMemory>
+fn expr(
+    calls: &mut Vec<Place>,
+    declarations: &Declarations<'_>,
+    e: &Expr,
+) -> Result<(), OutOfMemory>
     ensures { OnOk result ((more : List SpecPlace) → calls.new.items ++ more ≡ calls.old.items ++
         expr_calls (declared_in (placed declarations.now)) (placed_expr e.now) more) }
 {
@@ -103,7 +107,11 @@ fn stmts(
 }
 
 #[cycle(stmt)]
-fn stmt(calls: &mut Vec<Place>, declarations: &Declarations<'_>, s: &Stmt) -> Result<(), OutOfMemory>
+fn stmt(
+    calls: &mut Vec<Place>,
+    declarations: &Declarations<'_>,
+    s: &Stmt,
+) -> Result<(), OutOfMemory>
     ensures { OnOk result ((more : List SpecPlace) → calls.new.items ++ more ≡ calls.old.items ++
         stmt_calls (declared_in (placed declarations.now)) (placed_stmt s.now) more) }
 {

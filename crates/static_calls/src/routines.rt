@@ -47,7 +47,10 @@ fn list_decl<'a>(list: &mut Vec<&'a Routine>, decl: &'a Declaration) -> Result<(
 }
 
 /// All routines and entries, in the order of the text.
-pub fn routines<'a>(alloc: Global, decls: &'a [Declaration]) -> Result<Vec<&'a Routine>, OutOfMemory>
+pub fn routines<'a>(
+    alloc: Global,
+    decls: &'a [Declaration],
+) -> Result<Vec<&'a Routine>, OutOfMemory>
     ensures { IfOk result (λ list. seen_routines list.items ≡
         routines_of (map placed_decl decls.now)) }
 {

@@ -138,7 +138,11 @@ fn monitors<'a>(all: &mut Entries<'a>, list: &'a [Declaration]) -> Result<(), Ou
 
 /// A constant reaches from here on, before what is declared later, unless its name is taken by what
 /// is declared before.
-fn reveal<'a>(taken: bool, program: &mut Scope<'a>, decl: &'a Declaration) -> Result<(), OutOfMemory>
+fn reveal<'a>(
+    taken: bool,
+    program: &mut Scope<'a>,
+    decl: &'a Declaration,
+) -> Result<(), OutOfMemory>
     ensures { OnOk result ((seen : List (Bor PlainName × SpecDeclared))
         (rest : List (PlacedDecl SpecPlace)) →
         taken ≡ is_some (meaning seen (decl_name (placed_decl decl.now)).0) →

@@ -65,7 +65,12 @@ impl Page {
     }
 
     #[tactic(auto, using(crate::proofs::Steps::puts_append))]
-    fn array(&mut self, low: &Constant, high: &Constant, element: &Scalar) -> Result<(), OutOfMemory>
+    fn array(
+        &mut self,
+        low: &Constant,
+        high: &Constant,
+        element: &Scalar,
+    ) -> Result<(), OutOfMemory>
         ensures { OnOk result (self.new ≡ puts self.old
             (w.ARRAY ∷ (constant_words (placed_constant low.now) ++ w.RANGE ∷
             (constant_words (placed_constant high.now) ++ w.OF ∷

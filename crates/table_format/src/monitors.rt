@@ -33,7 +33,10 @@ fn add_once<'a>(monitors: &mut Vec<&'a [u8]>, name: &'a [u8]) -> Result<(), OutO
 }
 
 /// The monitors of some stays, each once, in the order in which they stand first.
-pub fn monitor_names<'a>(alloc: Global, stays: &[&'a TaskStay]) -> Result<Vec<&'a [u8]>, OutOfMemory>
+pub fn monitor_names<'a>(
+    alloc: Global,
+    stays: &[&'a TaskStay],
+) -> Result<Vec<&'a [u8]>, OutOfMemory>
     ensures { IfOk result (λ all. seen all.items ≡ monitors_of (seen stays.now)) }
 {
     let mut all = Vec::new(alloc);
@@ -73,7 +76,11 @@ fn add_ticks(all: &mut Vec<u64>, stay: &TaskStay, name: &[u8]) -> Result<(), Out
 }
 
 /// The different stays in the monitor of this name, in the order in which they stand first.
-fn ticks_in_monitor(alloc: Global, stays: &[&TaskStay], name: &[u8]) -> Result<Vec<u64>, OutOfMemory>
+fn ticks_in_monitor(
+    alloc: Global,
+    stays: &[&TaskStay],
+    name: &[u8],
+) -> Result<Vec<u64>, OutOfMemory>
     ensures { IfOk result (λ all. all.items ≡ ticks_in name.now (seen stays.now)) }
 {
     let mut all = Vec::new(alloc);

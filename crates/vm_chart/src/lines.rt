@@ -60,7 +60,12 @@ fn scale(alloc: Global, columns: &Columns) -> Result<Text, OutOfMemory>
 }
 
 /// Puts a label and a text, each filled to its length.
-fn put_front(text: &mut Text, lengths: Lengths, label: &[u8], body: &[u8]) -> Result<(), OutOfMemory>
+fn put_front(
+    text: &mut Text,
+    lengths: Lengths,
+    label: &[u8],
+    body: &[u8],
+) -> Result<(), OutOfMemory>
     ensures { OnOk result (text.new ≡ text.old ++ (filled lengths.labels label.now ++
         (codes "  " ++ (filled lengths.texts body.now ++ codes "  ")))) }
 {
