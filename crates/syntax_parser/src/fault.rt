@@ -38,7 +38,7 @@ macro_rules! tri {
 }
 
 /// What was made or stored; where there is no memory for it the function returns so. It spares what
-/// `tri` does, and that the failure is converted.
+/// `tri` does.
 macro_rules! made {
     ($made:expr) => {
         match $made {
