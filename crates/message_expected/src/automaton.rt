@@ -194,7 +194,8 @@ fn lead(alloc: Global, text: &[u8], all: &[Token]) -> Result<Reached, OutOfMemor
 
 /// That a text of this fault leads nowhere.
 fn lead_nowhere(fault: LexFault) -> Result<Reached, OutOfMemory>
-    ensures { IfOk result (λ it. (reached_of it ≡ automaton.stopped) × (fault ≢ LexFault.Memory refused)) }
+    ensures { IfOk result (λ it. (reached_of it ≡ automaton.stopped) ×
+        (fault ≢ LexFault.Memory refused)) }
 {
     match fault {
         LexFault::Memory(error) => Err(error),

@@ -1,8 +1,9 @@
 //! That memory was refused, and nothing else.
 //!
-//! The family Ground. `OutOfMemory` is made here alone, out of what a call of std answers where its
-//! allocation is refused. So a call of the tool that answers it has met such a refusal, or was given
-//! one. `specs/Refused.antt` has its only value.
+//! The family Ground. `OutOfMemory` is made here alone, of what a call of std answers where it
+//! refuses memory. Std's own error can be written by any code, so none but this names it
+//! (`bench/memory_error.sh`): who answers `OutOfMemory` has met a refusal, or was handed one.
+//! `specs/Refused.antt` has its only value.
 #![tactic(auto)]
 
 use std::alloc::{AllocError, AllocFailed};

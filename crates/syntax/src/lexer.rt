@@ -136,7 +136,8 @@ fn step(text: &[u8], spot: Spot, toks: &mut List<Token>) -> Result<Spot, LexFaul
 pub fn lex(alloc: Global, text: &[u8]) -> Result<Tokens, LexFault>
     ensures list { IfOk result (λ toks. tokens text.now toks.list) }
     ensures end { IfOk result (λ toks. IsEnd text.now toks.end) }
-    ensures cause { IfErr result (λ fault. (fault ≡ LexFault.Memory refused) ⊎ Faulty text.now fault) }
+    ensures cause { IfErr result (λ fault. (fault ≡ LexFault.Memory refused) ⊎
+        Faulty text.now fault) }
     ensures long { longest_text < length text.now → IsErrOf result LexFault.Long }
     ensures only { (toks : Listed Token) → tokens text.now toks →
         IsOkUnless result (LexFault.Memory refused) }
