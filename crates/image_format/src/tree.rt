@@ -42,6 +42,13 @@ impl Model for SegTree {
     ghost invariant = { λ t. IsTree deepest_kept t.bytes.items };
 }
 
+/// The bytes once more. An error says that memory is short.
+fn copy_of(alloc: Global, bytes: &[u8]) -> Result<Vec<u8>, OutOfMemory>
+    ensures items { IfOk result (λ copy. copy.items ≡ bytes.now) }
+{
+    Ok(Vec::from_slice(alloc, bytes)?)
+}
+
 impl SegTree {
     /// The tree of these segments. An error says that memory is short.
     pub fn of(alloc: Global, segs: &[Seg]) -> Result<SegTree, OutOfMemory>
@@ -67,7 +74,7 @@ impl SegTree {
         let (_view, rest) = tree_at(limits, u64::from(depth), bytes)?;
         are_bytes(bytes);
         let taken = &bytes[..bytes.len() - rest.len()];
-        let bytes = Vec::from_slice(alloc, taken).map_err(OutOfMemory::from)?;
+        let bytes = copy_of(alloc, taken)?;
         Ok((SegTree { bytes }, rest))
     }
 
@@ -75,7 +82,7 @@ impl SegTree {
     pub fn copied(&self, alloc: Global) -> Result<SegTree, OutOfMemory>
         ensures { IfOk result (λ tree. tree ≡ self.now) }
     {
-        let bytes = Vec::from_slice(alloc, self.bytes.as_slice())?;
+        let bytes = copy_of(alloc, self.bytes.as_slice())?;
         Ok(SegTree { bytes })
     }
 
