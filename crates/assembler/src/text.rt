@@ -185,7 +185,7 @@ pub fn asm(alloc: Global, text: &[u8]) -> Result<RawImage, AssemblyFault>
     }
     match image_at(alloc, text) {
         Ok(image) => Ok(image),
-        Err(FieldError::Memory) => Err(AssemblyFault::Memory),
+        Err(FieldError::Memory(error)) => Err(AssemblyFault::Memory(error)),
         Err(FieldError::Fault(fault)) => Err(AssemblyFault::Bad {
             number: fault.number,
             line: line_of(text, fault.left),

@@ -15,7 +15,8 @@ use crate::statements::stmts;
 use base::Cost;
 use codegen_spec::{Lookup, Lookups, Owner, ValueRange};
 use machine_isa::Instr;
-use std::alloc::{AllocError, Global};
+use out_of_memory::OutOfMemory;
+use std::alloc::Global;
 use syntax_tree::{Handler, List, Process, Routine, Scalar};
 
 /// What a process takes at most: the cost of an activation, dispatches left aside, the words of
@@ -67,7 +68,7 @@ fn inner<L: Lookup>(
     names: &L,
     rows: &[RoutineMeasure],
     routine: &Routine,
-) -> Result<Measure, AllocError>
+) -> Result<Measure, OutOfMemory>
     ensures { IfOk result (λ m. m ≡ inner_size (L.program names.now) (L.scope names.now) rows.now
         (plain_routine (placed_routine routine.now))) }
 {
@@ -91,7 +92,7 @@ fn row<L: Lookup>(
     words: u128,
     rows: &[RoutineMeasure],
     routine: &Routine,
-) -> Result<RoutineMeasure, AllocError>
+) -> Result<RoutineMeasure, OutOfMemory>
     ensures { IfOk result (λ k. k ≡ known_of (L.program names.now)
         (L.scope names.now) words rows.now (plain_routine (placed_routine routine.now))) }
 {
@@ -111,7 +112,7 @@ fn row<L: Lookup>(
 }
 
 /// All routines by number.
-fn rows<P: Lookups>(alloc: Global, program: &P) -> Result<List<RoutineMeasure>, AllocError>
+fn rows<P: Lookups>(alloc: Global, program: &P) -> Result<List<RoutineMeasure>, OutOfMemory>
     ensures { IfOk result (λ rows. rows ≡ rows_of (P.program program.now)) }
 {
     let mut rows = List::new(alloc);
@@ -136,7 +137,7 @@ fn handler<L: Lookup>(
     names: &L,
     rows: &[RoutineMeasure],
     handler: &Option<Handler>,
-) -> Result<Measure, AllocError>
+) -> Result<Measure, OutOfMemory>
     ensures { IfOk result (λ m. m ≡ handler_size (L.program names.now) (L.scope names.now) rows.now
         (optional plain_handler (optional placed_handler handler.now))) }
 {
@@ -167,7 +168,7 @@ fn process<L: Lookup>(
     names: &L,
     rows: &[RoutineMeasure],
     process: &Process,
-) -> Result<ProcessMeasure, AllocError>
+) -> Result<ProcessMeasure, OutOfMemory>
     ensures { IfOk result (λ m. m ≡ process_size (L.program names.now) (L.scope names.now) rows.now
         (plain_process (placed_process process.now))) }
 {
@@ -184,7 +185,7 @@ fn process<L: Lookup>(
 
 /// The measures of a program: those of its routines, each from those that it calls, which have
 /// lower numbers, and those of its processes. It fails only where memory is wanting.
-pub fn measure_program<P: Lookups>(alloc: Global, program: &P) -> Result<Measures, AllocError>
+pub fn measure_program<P: Lookups>(alloc: Global, program: &P) -> Result<Measures, OutOfMemory>
     ensures { IfOk result (λ m. m ≡ measures_of (P.program program.now)) }
 {
     let routines = rows(alloc, program)?;

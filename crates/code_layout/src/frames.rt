@@ -8,7 +8,8 @@ ghost use Rattle.code_layout.specs.LookupTables.{IsLaid};
 
 use crate::{ConstantValues, VarLayout, lay_members, lay_params, lay_vars};
 use codegen_spec::Area;
-use std::alloc::{AllocError, Global};
+use out_of_memory::OutOfMemory;
+use std::alloc::Global;
 use syntax_tree::{Monitor, Process, Routine};
 
 /// The parameters and variables of a routine.
@@ -16,7 +17,7 @@ pub fn laid_routine<'a>(
     alloc: Global,
     values: &ConstantValues<'_>,
     routine: &'a Routine,
-) -> Result<VarLayout<'a>, AllocError>
+) -> Result<VarLayout<'a>, OutOfMemory>
     ensures places { IfOk result (λ laid. IsLaid in_area.Frame
         (routine_places (plain (placed values.now)) (plain_routine (placed_routine routine.now)))
         laid.names.items laid.spots.items) }
@@ -36,7 +37,7 @@ pub fn laid_process<'a>(
     alloc: Global,
     values: &ConstantValues<'_>,
     process: &'a Process,
-) -> Result<VarLayout<'a>, AllocError>
+) -> Result<VarLayout<'a>, OutOfMemory>
     ensures places { IfOk result (λ laid. IsLaid in_area.Process
         (places_from (plain (placed values.now)) 0
         (plain_process (placed_process process.now)).vars) laid.names.items laid.spots.items) }
@@ -54,7 +55,7 @@ pub fn laid_monitor<'a>(
     values: &ConstantValues<'_>,
     base: u128,
     monitor: &'a Monitor,
-) -> Result<VarLayout<'a>, AllocError>
+) -> Result<VarLayout<'a>, OutOfMemory>
     requires { base ≤ 2 ^ 98 }
     ensures places { IfOk result (λ laid. IsLaid in_area.Monitor
         (places_from (plain (placed values.now)) base

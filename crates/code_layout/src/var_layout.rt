@@ -14,7 +14,8 @@ ghost use Rattle.codegen_spec.specs.declared.var_location.Area.TheVariants as in
 use crate::fitting::{count_between, fit_value, fit_word};
 use crate::values::ConstantValues;
 use codegen_spec::{Area, ValueRange, VarLocation, VarShape};
-use std::alloc::{AllocError, Global};
+use out_of_memory::OutOfMemory;
+use std::alloc::Global;
 use syntax_tree::{Member, Name, Param, Scalar, Type, Var};
 
 /// Variables that are laid one after the other: their names, where they lie, and the word behind
@@ -98,7 +99,7 @@ fn lay<'a>(
     name: &'a Name,
     spot: VarLocation,
     size: u64,
-) -> Result<(), AllocError>
+) -> Result<(), OutOfMemory>
     requires room { laying.old.word < 2 ^ 127 }
     ensures names { OnOk result (names_of laying.new.names.items ≡
         names_of laying.old.names.items ++ name.now ∷ []) }
@@ -117,7 +118,7 @@ fn lay_var<'a>(
     area: Area,
     laying: &mut VarLayout<'a>,
     var: &'a Var,
-) -> Result<(), AllocError>
+) -> Result<(), OutOfMemory>
     requires { laying.old.word < 2 ^ 127 }
     ensures names { OnOk result ((rest : List SpecVar) → names_of laying.new.names.items ++
         place_names (places_from (plain (placed values.now)) laying.new.word rest) ≡
@@ -150,7 +151,7 @@ pub fn lay_vars<'a>(
     area: Area,
     laying: &mut VarLayout<'a>,
     vars: &'a [Var],
-) -> Result<(), AllocError>
+) -> Result<(), OutOfMemory>
     requires { laying.old.word ≤ 2 ^ 98 }
     ensures names { OnOk result (names_of laying.new.names.items ≡
         names_of laying.old.names.items ++ place_names
@@ -174,7 +175,7 @@ fn lay_member<'a>(
     values: &ConstantValues<'_>,
     laying: &mut VarLayout<'a>,
     member: &'a Member,
-) -> Result<(), AllocError>
+) -> Result<(), OutOfMemory>
     requires { laying.old.word < 2 ^ 127 }
     ensures names { OnOk result ((rest : List SpecMember) → names_of laying.new.names.items ++
         place_names (places_from (plain (placed values.now)) laying.new.word
@@ -206,7 +207,7 @@ pub fn lay_members<'a>(
     values: &ConstantValues<'_>,
     laying: &mut VarLayout<'a>,
     members: &'a [Member],
-) -> Result<(), AllocError>
+) -> Result<(), OutOfMemory>
     requires { laying.old.word ≤ 2 ^ 98 }
     ensures names { OnOk result (names_of laying.new.names.items ≡
         names_of laying.old.names.items ++ place_names
@@ -230,7 +231,7 @@ fn lay_param<'a>(
     values: &ConstantValues<'_>,
     laying: &mut VarLayout<'a>,
     param: &'a Param,
-) -> Result<(), AllocError>
+) -> Result<(), OutOfMemory>
     requires { laying.old.word < 2 ^ 127 }
     ensures names { OnOk result ((rest : List SpecParam) → names_of laying.new.names.items ++
         place_names (param_places (plain (placed values.now)) laying.new.word rest) ≡
@@ -259,7 +260,7 @@ pub fn lay_params<'a>(
     values: &ConstantValues<'_>,
     laying: &mut VarLayout<'a>,
     params: &'a [Param],
-) -> Result<(), AllocError>
+) -> Result<(), OutOfMemory>
     requires { laying.old.word ≤ 2 ^ 98 }
     ensures names { OnOk result (names_of laying.new.names.items ≡
         names_of laying.old.names.items ++ place_names

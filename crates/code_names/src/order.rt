@@ -8,7 +8,8 @@ ghost use Rattle.code_names.specs.Texts.{text_of, texts_of};
 use crate::directory::Directory;
 use crate::text::Body;
 use crate::text_list::TextList;
-use std::alloc::{AllocError, Global};
+use out_of_memory::OutOfMemory;
+use std::alloc::Global;
 
 /// Takes a routine in behind those that have their numbers, unless it has one: first what it calls.
 /// The number says how deep calls go.
@@ -18,7 +19,7 @@ fn visit<'a>(
     directory: &Directory<'a>,
     done: &mut TextList<'a>,
     text: Body<'a>,
-) -> Result<(), AllocError>
+) -> Result<(), OutOfMemory>
     ensures { OnOk result (texts_of done.new ≡
         visit_of depth (plain (placed directory.now)) (texts_of done.old) (text_of text.entry)) }
 {
@@ -37,7 +38,7 @@ fn visit<'a>(
 }
 
 /// All routines and entries by number.
-pub fn ordered<'a>(alloc: Global, directory: &Directory<'a>) -> Result<TextList<'a>, AllocError>
+pub fn ordered<'a>(alloc: Global, directory: &Directory<'a>) -> Result<TextList<'a>, OutOfMemory>
     ensures { IfOk result (λ order. texts_of order ≡ numbered (plain (placed directory.now))) }
 {
     let texts = directory.texts();

@@ -9,7 +9,8 @@ use crate::errors::tri;
 use codegen_spec::Part;
 use image_format::{Seg, Segs};
 use machine_isa::Instr;
-use std::alloc::{AllocError, Global};
+use out_of_memory::OutOfMemory;
+use std::alloc::Global;
 use std::marker::Model;
 
 /// The code so far, the segments that are closed, where the line began that is still open, and the
@@ -55,7 +56,7 @@ impl CodeBuilder {
     }
 
     /// One more instruction of the open line.
-    pub fn push(&mut self, instr: Instr) -> Result<(), AllocError>
+    pub fn push(&mut self, instr: Instr) -> Result<(), OutOfMemory>
         ensures { OnOk result (self.new ≡ pushed self.old instr) }
     {
         self.code.push(instr)?;
@@ -77,7 +78,7 @@ impl CodeBuilder {
     }
 
     /// Takes the segments, with the open line; a part of the code with segments of its own begins.
-    pub fn take(&mut self) -> Result<Segs, AllocError>
+    pub fn take(&mut self) -> Result<Segs, OutOfMemory>
         ensures out { OnOk result (self.new ≡ begun self.old) }
         ensures segs { IfOk result (λ segs. segs ≡ closed self.old) }
     {
@@ -99,7 +100,7 @@ impl CodeBuilder {
     }
 
     /// A segment behind those that were taken, where the code stands now.
-    pub fn join(&mut self, before: Segs, seg: Seg) -> Result<(), AllocError>
+    pub fn join(&mut self, before: Segs, seg: Seg) -> Result<(), OutOfMemory>
         ensures { OnOk result (self.new ≡ joined self.old before seg) }
     {
         self.segs = before;
@@ -132,7 +133,7 @@ impl CodeBuilder {
 
     /// A part of the program ends, which began at an address; its last instruction stands outside
     /// its tree.
-    pub fn end_part(&mut self, start: usize, last: Instr) -> Result<Part, AllocError>
+    pub fn end_part(&mut self, start: usize, last: Instr) -> Result<Part, OutOfMemory>
         ensures out { OnOk result (self.new ≡ pushed (begun self.old) last) }
         ensures part { IfOk result (λ part. part ≡ part_of start self.old (pushed self.old last)) }
     {

@@ -6,7 +6,7 @@ ghost use Rattle.codegen_spec.specs.Told.{fit as fitting};
 
 use crate::operand::fit;
 use machine_isa::Instr;
-use std::alloc::AllocError;
+use out_of_memory::OutOfMemory;
 
 /// Another instruction at an address, if there is one.
 pub fn patch(code: &mut Vec<Instr>, at: usize, instr: Instr)
@@ -19,7 +19,7 @@ pub fn patch(code: &mut Vec<Instr>, at: usize, instr: Instr)
 
 /// The first arm ends with a jump to this address. The jump behind the condition, which stands at
 /// `at`, goes behind it.
-pub fn end_first(code: &mut Vec<Instr>, at: usize, to: i32) -> Result<(), AllocError>
+pub fn end_first(code: &mut Vec<Instr>, at: usize, to: i32) -> Result<(), OutOfMemory>
     ensures made { OnOk result (code.new.items ≡ slice_set (code.old.items ++ i.Jump to ∷ []) at
         (i.JumpZero (fitting (pos (length code.old.items + 1))))) }
     ensures grows { length code.old.items ≤ length code.new.items }
@@ -31,7 +31,7 @@ pub fn end_first(code: &mut Vec<Instr>, at: usize, to: i32) -> Result<(), AllocE
 }
 
 /// The only arm ends: its jump and the one behind the condition go to what follows.
-pub fn end_arm(code: &mut Vec<Instr>, at: usize) -> Result<(), AllocError>
+pub fn end_arm(code: &mut Vec<Instr>, at: usize) -> Result<(), OutOfMemory>
     ensures made { OnOk result (code.new.items ≡ slice_set (code.old.items ++
         i.Jump (fitting (pos (length code.old.items + 1))) ∷ []) at
         (i.JumpZero (fitting (pos (length code.old.items + 1))))) }

@@ -11,7 +11,8 @@ ghost use Rattle.codegen_texts.specs.Shared.{conditions_from, count_from, number
 
 use code_layout::{Tables, fit_word, number};
 use code_names::NameList;
-use std::alloc::{AllocError, Global};
+use out_of_memory::OutOfMemory;
+use std::alloc::Global;
 use syntax_tree::{Member, Monitor, Name};
 
 /// The conditions of a monitor, and the number of the first.
@@ -30,7 +31,7 @@ pub struct Conditions<'a> {
 }
 
 /// Lists the condition that a member declares, if it does.
-fn list_condition<'a>(names: &mut Vec<&'a [u8]>, member: &'a Member) -> Result<(), AllocError>
+fn list_condition<'a>(names: &mut Vec<&'a [u8]>, member: &'a Member) -> Result<(), OutOfMemory>
     ensures { OnOk result ((rest : List SpecMember) → names_of names.new.items ++
         filter_map condition_in rest ≡ names_of names.old.items ++
         filter_map condition_in (plain_member (placed_member member.now) ∷ rest)) }
@@ -42,7 +43,7 @@ fn list_condition<'a>(names: &mut Vec<&'a [u8]>, member: &'a Member) -> Result<(
 }
 
 /// The conditions of a monitor.
-fn own_conditions<'a>(alloc: Global, monitor: &'a Monitor) -> Result<NameList<'a>, AllocError>
+fn own_conditions<'a>(alloc: Global, monitor: &'a Monitor) -> Result<NameList<'a>, OutOfMemory>
     ensures { IfOk result (λ names. names ≡ conditions_of
         (plain_monitor (placed_monitor monitor.now))) }
 {
@@ -59,7 +60,7 @@ fn list_monitor<'a>(
     alloc: Global,
     all: &mut Conditions<'a>,
     monitor: &'a Monitor,
-) -> Result<(), AllocError>
+) -> Result<(), OutOfMemory>
     requires { all.old.count ≤ 2 ^ 127 }
     ensures lists { OnOk result ((rest : List SpecMonitor) → all.new.lists.items ++
         conditions_from all.new.count rest ≡ all.old.lists.items ++
@@ -82,7 +83,7 @@ fn list_monitor<'a>(
 fn numbered_conditions<'a>(
     alloc: Global,
     monitors: &[&'a Monitor],
-) -> Result<Conditions<'a>, AllocError>
+) -> Result<Conditions<'a>, OutOfMemory>
     ensures lists { IfOk result (λ all. all.lists.items ≡
         conditions_from 0 (seen_monitors monitors.now)) }
     ensures count { IfOk result (λ all. all.count ≡ condition_count (seen_monitors monitors.now)) }
@@ -101,7 +102,7 @@ fn numbered_conditions<'a>(
 pub fn program_conditions<'a>(
     alloc: Global,
     tables: &Tables<'a>,
-) -> Result<Conditions<'a>, AllocError>
+) -> Result<Conditions<'a>, OutOfMemory>
     ensures lists { IfOk result (λ all. all.lists.items ≡
         conditions_from 0 (monitors_in (plain (placed tables.now)))) }
     ensures count { IfOk result (λ all. all.count ≡

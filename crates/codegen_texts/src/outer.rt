@@ -7,7 +7,8 @@ ghost use Rattle.code_names.specs.Parts.{seen_monitors, seen_processes};
 ghost use Rattle.codegen_texts.specs.Shared.{monitor_tables, process_table, process_tables};
 
 use code_layout::{ConstantValues, Tables, VarLocations, laid_monitor, laid_process};
-use std::alloc::{AllocError, Global};
+use out_of_memory::OutOfMemory;
+use std::alloc::Global;
 use syntax_tree::{Monitor, Process};
 
 /// The variables of each process and of each monitor.
@@ -22,7 +23,7 @@ fn process_spots<'a>(
     alloc: Global,
     values: &ConstantValues<'_>,
     process: &'a Process,
-) -> Result<VarLocations<'a>, AllocError>
+) -> Result<VarLocations<'a>, OutOfMemory>
     ensures { IfOk result (λ spots. spots ≡ process_table (plain (placed values.now))
         (plain_process (placed_process process.now))) }
 {
@@ -36,7 +37,7 @@ fn processes_spots<'a>(
     alloc: Global,
     values: &ConstantValues<'_>,
     processes: &[&'a Process],
-) -> Result<Vec<VarLocations<'a>>, AllocError>
+) -> Result<Vec<VarLocations<'a>>, OutOfMemory>
     ensures { IfOk result (λ tables. tables.items ≡
         process_tables (plain (placed values.now)) (seen_processes processes.now)) }
 {
@@ -61,7 +62,7 @@ fn monitors_spots<'a>(
     alloc: Global,
     values: &ConstantValues<'_>,
     monitors: &[&'a Monitor],
-) -> Result<Vec<VarLocations<'a>>, AllocError>
+) -> Result<Vec<VarLocations<'a>>, OutOfMemory>
     ensures { IfOk result (λ tables. tables.items ≡
         monitor_tables (plain (placed values.now)) 0 (seen_monitors monitors.now)) }
 {
@@ -77,7 +78,10 @@ fn monitors_spots<'a>(
 }
 
 /// The variables of the processes and of the monitors of a program.
-pub fn outer_spots<'a>(alloc: Global, tables: &Tables<'a>) -> Result<OuterLocations<'a>, AllocError>
+pub fn outer_spots<'a>(
+    alloc: Global,
+    tables: &Tables<'a>,
+) -> Result<OuterLocations<'a>, OutOfMemory>
     ensures processes { IfOk result (λ outer. outer.processes.items ≡
         process_tables (plain (placed tables.now)) (processes_in (plain (placed tables.now)))) }
     ensures monitors { IfOk result (λ outer. outer.monitors.items ≡

@@ -10,11 +10,11 @@ ghost use Rattle.image_format.specs.TreeFormat.{seg_is, widest, within_limits};
 ghost use Rattle.image_format.specs.Whole.{any_tree};
 
 use crate::{Seg, put_u8, put_u16, put_u32};
-use std::alloc::AllocError;
+use out_of_memory::OutOfMemory;
 
 /// Puts a segment: its tag, its numbers and its trees, which nest at most so deep.
 #[cycle(trees)]
-fn put_seg(out: &mut Vec<u8>, depth: u64, seg: &Seg) -> Result<(), AllocError>
+fn put_seg(out: &mut Vec<u8>, depth: u64, seg: &Seg) -> Result<(), OutOfMemory>
     requires rows { InnerRowsFit (view seg.now) }
     requires room { 2 ^ 64 ≤ 4 * depth + length out.now.items }
     ensures written { OnOk result (out.new.items ≡ out.old.items ++ seg_bytes (view seg.now)) }
@@ -53,7 +53,7 @@ fn put_seg(out: &mut Vec<u8>, depth: u64, seg: &Seg) -> Result<(), AllocError>
 
 /// Puts a tree: the number of its segments, and each of them.
 #[cycle(trees)]
-pub(crate) fn put_tree(out: &mut Vec<u8>, depth: u64, tree: &[Seg]) -> Result<(), AllocError>
+pub(crate) fn put_tree(out: &mut Vec<u8>, depth: u64, tree: &[Seg]) -> Result<(), OutOfMemory>
     requires rows { RowsFit (views tree.now) }
     requires room { 2 ^ 64 ≤ 4 * depth + length out.now.items }
     ensures written { OnOk result (out.new.items ≡ out.old.items ++ tree_bytes (views tree.now)) }

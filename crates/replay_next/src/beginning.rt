@@ -20,11 +20,12 @@ use crate::remains::{
 };
 use crate::results::{RunResult, stops};
 use crate::visible::{device_here, monitor_here, waits};
+use out_of_memory::OutOfMemory;
 use replay_calls::{
     EvalContext, ResolvedRoutine, condition_here, entry_named, routine_named, turn_count,
 };
 use replay_state::{Action, CallOwner, Item, Target, TurnsLeft, count};
-use std::alloc::{AllocError, Global};
+use std::alloc::Global;
 use syntax_tree::{Constant, Expr, List, Name, Ref, Stmt};
 
 /// A statement came to this.
@@ -52,7 +53,7 @@ pub fn procedure_called<'a>(
     scope: &EvalContext<'a>,
     found: ResolvedRoutine<'a>,
     bound: BoundSoFar<'a>,
-) -> Result<Step<'a>, AllocError>
+) -> Result<Step<'a>, OutOfMemory>
     ensures run { IfOk result (λ step. (c : run_of.Site) (m : run_of.Memory) →
         c.program ≡ plain (placed scope.now.declarations.now) → step_of c step m ≡
         run_of.performed c m (found_of found.entry) (bound_of c m bound.entry)) }
@@ -78,7 +79,7 @@ fn perform<'a>(
     depth: usize,
     name: &Name,
     args: &'a [Expr],
-) -> Result<Step<'a>, AllocError>
+) -> Result<Step<'a>, OutOfMemory>
     ensures run { let c = site_of scope.now home depth in IfOk result (λ step.
         (m : run_of.Memory) → step_of c step m ≡
         run_of.perform_named c m name.now (exprs_of args.now)) }
@@ -102,7 +103,7 @@ pub fn entry_called<'a>(
     bound: BoundSoFar<'a>,
     mon: usize,
     target: Option<Target<'a>>,
-) -> Result<Step<'a>, AllocError>
+) -> Result<Step<'a>, OutOfMemory>
     ensures run { IfOk result (λ step. (c : run_of.Site) (m : run_of.Memory) →
         c.program ≡ plain (placed scope.now.declarations.now) → step_of c step m ≡
         run_of.entered c m (found_of found.entry) mon (bound_of c m bound.entry)
@@ -137,7 +138,7 @@ fn enter<'a>(
     entry: &Name,
     args: &'a [Expr],
     target: Option<Target<'a>>,
-) -> Result<Step<'a>, AllocError>
+) -> Result<Step<'a>, OutOfMemory>
     ensures run { let c = site_of scope.now home depth in IfOk result (λ step.
         (m : run_of.Memory) → step_of c step m ≡ run_of.enter_named c m mon.now entry.now
         (exprs_of args.now) (receiving (option_map target_of target.entry))) }
@@ -155,7 +156,7 @@ fn enter<'a>(
 }
 
 /// A visible action, after which a value is received.
-fn asks<'a>(alloc: Global, action: Action, target: Target<'a>) -> Result<Step<'a>, AllocError>
+fn asks<'a>(alloc: Global, action: Action, target: Target<'a>) -> Result<Step<'a>, OutOfMemory>
     ensures run { IfOk result (λ step. (c : run_of.Site) (m : run_of.Memory) → step_of c step m ≡
         run_of.stops (action_of action) [] (run_of.receive (target_of target.entry) ∷ []) m) }
     ensures falls { IfOk result (λ step. (k : Costs) → step_weight k step ≡ 0) }
@@ -171,7 +172,7 @@ pub fn use_target<'a>(
     depth: usize,
     then: TargetUse<'a>,
     target: Target<'a>,
-) -> Result<Step<'a>, AllocError>
+) -> Result<Step<'a>, OutOfMemory>
     ensures run { let c = site_of scope.now home depth in IfOk result (λ step.
         (m : run_of.Memory) → step_of c step m ≡ used c m then.entry (target_of target.entry)) }
     ensures falls { IfOk result (λ step. (k : Costs) →
@@ -200,7 +201,7 @@ fn aim<'a>(
     depth: usize,
     target: &'a Ref,
     then: TargetUse<'a>,
-) -> Result<Step<'a>, AllocError>
+) -> Result<Step<'a>, OutOfMemory>
     ensures run { let c = site_of scope.now home depth in IfOk result (λ step.
         (m : run_of.Memory) → step_of c step m ≡ run_of.with_target c m
         (plain_ref (placed_ref target.now)) (λ t. used c m then.entry t)) }
@@ -267,7 +268,7 @@ pub fn begin<'a>(
     home: CallOwner,
     depth: usize,
     stmt: &'a Stmt,
-) -> Result<Step<'a>, AllocError>
+) -> Result<Step<'a>, OutOfMemory>
     ensures run { let c = site_of scope.now home depth in IfOk result (λ step.
         (m : run_of.Memory) → step_of c step m ≡
         run_of.run c m (plain_stmt (placed_stmt stmt.now))) }

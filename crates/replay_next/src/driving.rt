@@ -23,9 +23,10 @@ use crate::remains::{
 };
 use crate::results::RunResult;
 use crate::telling::tell;
+use out_of_memory::OutOfMemory;
 use replay_calls::{Answer, EvalContext, Memory, home_in};
 use replay_state::{CallOwner, Item, ResultExpr};
-use std::alloc::{AllocError, Global};
+use std::alloc::Global;
 use std::mem;
 
 /// A procedure begins; its caller waits.
@@ -34,7 +35,7 @@ fn call_procedure<'s, 'a>(
     memory: &mut Memory<'s, 'a>,
     running: &mut Running<'s, 'a>,
     called: CalledRoutine<'a>,
-) -> Result<Step<'a>, AllocError>
+) -> Result<Step<'a>, OutOfMemory>
     ensures run { IfOk result (λ step. running_run scope.now running.new step memory.new ≡
         running_run scope.now running.old (procedure_step called.entry) memory.old) }
     ensures falls { IfOk result (λ step. running_weight scope.now running.new step <
@@ -69,7 +70,7 @@ fn call_function<'s, 'a>(
     running: &mut Running<'s, 'a>,
     called: CalledRoutine<'a>,
     remains: Remains<'a>,
-) -> Result<Step<'a>, AllocError>
+) -> Result<Step<'a>, OutOfMemory>
     ensures run { IfOk result (λ step. running_run scope.now running.new step memory.new ≡
         running_run scope.now running.old (function_step called.entry remains.entry) memory.old) }
     ensures falls { IfOk result (λ step. running_weight scope.now running.new step <
@@ -121,7 +122,7 @@ fn procedure_over<'s, 'a>(
     running: &mut Running<'s, 'a>,
     caller: ProcedureCaller<'a>,
     came: ItemResult<'a>,
-) -> Result<Step<'a>, AllocError>
+) -> Result<Step<'a>, OutOfMemory>
     ensures run { IfOk result (λ step. running_run scope.now running.new step memory.new ≡
         callers_run scope.now running.old.callers.items (others_of running.old.kept memory.old)
         (procedure_within scope.now caller.entry (came_of came.entry (memory_of memory.old)))) }
@@ -225,7 +226,7 @@ fn evaluate_result<'s, 'a>(
     running: &mut Running<'s, 'a>,
     caller: FunctionCaller<'s, 'a>,
     value: ResultExpr<'a>,
-) -> Result<Step<'a>, AllocError>
+) -> Result<Step<'a>, OutOfMemory>
     ensures run { IfOk result (λ step. (s : code_scope.EvalContext) →
         let f = caller.entry in
         let now = others_of running.old.kept memory.now in
@@ -255,7 +256,7 @@ fn function_over<'s, 'a>(
     running: &mut Running<'s, 'a>,
     caller: FunctionCaller<'s, 'a>,
     came: ItemResult<'a>,
-) -> Result<Step<'a>, AllocError>
+) -> Result<Step<'a>, OutOfMemory>
     ensures run { IfOk result (λ step. (s : code_scope.EvalContext) →
         let now = others_of running.old.kept memory.old in
         running_run s running.new step memory.new ≡
@@ -277,7 +278,7 @@ fn returned<'s, 'a>(
     memory: &mut Memory<'s, 'a>,
     running: &mut Running<'s, 'a>,
     came: ItemResult<'a>,
-) -> Result<Driven<'a>, AllocError>
+) -> Result<Driven<'a>, OutOfMemory>
     ensures run { IfOk result (λ driven. driven_run scope.now running.new driven memory.new ≡
         callers_run scope.now running.old.callers.items (others_of running.old.kept memory.old)
         (came_of came.entry (memory_of memory.old))) }
@@ -301,7 +302,7 @@ fn go_on<'s, 'a>(
     memory: &mut Memory<'s, 'a>,
     running: &mut Running<'s, 'a>,
     came: ItemResult<'a>,
-) -> Result<Driven<'a>, AllocError>
+) -> Result<Driven<'a>, OutOfMemory>
     ensures run { IfOk result (λ driven. driven_run scope.now running.new driven memory.new ≡
         running_run scope.now running.old (came_step came.entry) memory.old) }
     ensures falls { IfOk result (λ driven. HasGone scope.now running.new driven
@@ -328,7 +329,7 @@ fn next_part<'s, 'a>(
     running: &mut Running<'s, 'a>,
     part: Part<'a>,
     remains: Remains<'a>,
-) -> Result<Step<'a>, AllocError>
+) -> Result<Step<'a>, OutOfMemory>
     ensures run { IfOk result (λ step. running_run scope.now running.new step memory.new ≡
         running_run scope.now running.old (part_step part.entry remains.entry) memory.old) }
     ensures falls { IfOk result (λ step. running_weight scope.now running.new step <
@@ -359,7 +360,7 @@ fn drive<'s, 'a>(
     memory: &mut Memory<'s, 'a>,
     running: &mut Running<'s, 'a>,
     step: Step<'a>,
-) -> Result<Driven<'a>, AllocError>
+) -> Result<Driven<'a>, OutOfMemory>
     ensures run { IfOk result (λ driven. driven_run scope.now running.new driven memory.new ≡
         running_run scope.now running.old step.entry memory.old) }
     ensures falls { IfOk result (λ driven. HasGone scope.now running.new driven
@@ -392,7 +393,7 @@ fn run_on<'s, 'a>(
     memory: &mut Memory<'s, 'a>,
     running: &mut Running<'s, 'a>,
     first: Step<'a>,
-) -> Result<ItemResult<'a>, AllocError>
+) -> Result<ItemResult<'a>, OutOfMemory>
     ensures { IfOk result (λ came. came_of came (memory_of memory.new) ≡
         running_run scope.now running.old first.entry memory.old) }
 {
@@ -412,7 +413,7 @@ pub fn run_whole<'s, 'a>(
     depth: usize,
     memory: &mut Memory<'s, 'a>,
     items: &[Item<'a>],
-) -> Result<ItemResult<'a>, AllocError>
+) -> Result<ItemResult<'a>, OutOfMemory>
     ensures { IfOk result (λ came. came_of came (memory_of memory.new) ≡ next_of_source.run_items
         (site_of scope.now home depth) (memory_of memory.old) (map item_of items.now)) }
 {

@@ -15,9 +15,10 @@ use crate::beginning::{begin, evaluates, ran};
 use crate::remains::{Beside, ItemResult, Step, StmtItem};
 use crate::results::{RunResult, stopped_before, stops};
 use crate::storing::store;
+use out_of_memory::OutOfMemory;
 use replay_calls::{Answer, EvalContext, Memory, drop_turn, push_turn};
 use replay_state::{Action, CallOwner, Item, ResultExpr, Slot, TurnsLeft};
-use std::alloc::{AllocError, Global};
+use std::alloc::Global;
 use syntax_tree::{Name, Stmt};
 
 /// The end of an entry: its answer is evaluated inside the monitor.
@@ -25,7 +26,7 @@ fn leave_with<'a>(
     alloc: Global,
     answers: Option<ResultExpr<'a>>,
     mon: usize,
-) -> Result<Step<'a>, AllocError>
+) -> Result<Step<'a>, OutOfMemory>
     ensures run { IfOk result (λ step. (c : run_of.Site) (m : run_of.Memory) →
         step_of c step m ≡ next_of_source.left_with c m mon (option_map answers_of answers.entry)) }
     ensures falls { IfOk result (λ step. (k : Costs) →
@@ -56,7 +57,7 @@ fn begin_item<'s, 'a>(
     memory: &mut Memory<'s, 'a>,
     kept: &mut Option<Beside<'s, 'a>>,
     item: Item<'a>,
-) -> Result<Step<'a>, AllocError>
+) -> Result<Step<'a>, OutOfMemory>
     ensures run { let c = site_of scope.now home depth in IfOk result (λ step.
         step_of c step (memory_of memory.new) ≡
         next_of_source.run_item c (memory_of memory.old) (item_of item.entry)) }
@@ -108,7 +109,7 @@ fn follow<'s, 'a>(
     kept: &mut Option<Beside<'s, 'a>>,
     before: RunResult<'a>,
     item: Item<'a>,
-) -> Result<Step<'a>, AllocError>
+) -> Result<Step<'a>, OutOfMemory>
     ensures run { let c = site_of scope.now home depth in IfOk result (λ step.
         (is : List run_of.Item) → then_items c is (step_of c step (memory_of memory.new)) ≡
         then_items c (item_of item.entry ∷ is) (ran_of before.entry (memory_of memory.old))) }
@@ -133,7 +134,7 @@ pub fn next_item<'s, 'a>(
     kept: &mut Option<Beside<'s, 'a>>,
     came: ItemResult<'a>,
     item: Item<'a>,
-) -> Result<Step<'a>, AllocError>
+) -> Result<Step<'a>, OutOfMemory>
     ensures run { let c = site_of scope.now home depth in IfOk result (λ step.
         (is : List run_of.Item) → then_items c is (step_of c step (memory_of memory.new)) ≡
         then_items c (item_of item.entry ∷ is) (came_of came.entry (memory_of memory.old))) }
@@ -154,7 +155,7 @@ pub fn next_stmt<'a>(
     depth: usize,
     rest: &mut Vec<Item<'a>>,
     stmts: &'a [Stmt],
-) -> Result<Step<'a>, AllocError>
+) -> Result<Step<'a>, OutOfMemory>
     ensures run { let c = site_of scope.now home depth in IfOk result (λ step.
         (m : run_of.Memory) → then_items c (rest_of rest.new.items) (step_of c step m) ≡
         then_items c (rest_of rest.old.items) (run_of.run_all c m (stmts_of stmts.now))) }
@@ -178,7 +179,7 @@ pub fn next_turn<'a>(
     name: &'a Name,
     turns: TurnsLeft,
     body: &'a [Stmt],
-) -> Result<Step<'a>, AllocError>
+) -> Result<Step<'a>, OutOfMemory>
     ensures run { IfOk result (λ step. (c : run_of.Site) (m : run_of.Memory) →
         then_items c (rest_of rest.new.items)
         (step_of c step (run_of.with_own m (vars_of own.new.items))) ≡

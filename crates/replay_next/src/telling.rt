@@ -17,13 +17,14 @@ use crate::remains::{Beside, ItemResult, Remains, Step, StmtItem};
 use crate::results::{RunResult, stops};
 use crate::storing::store;
 use crate::visible::{ConditionResult, asserted, device_here, exited, puts, tested};
+use out_of_memory::OutOfMemory;
 use replay_calls::{Answer, EvalContext, Memory, checked, range_of};
 use replay_state::{Action, CallOwner, Item, Target};
-use std::alloc::{AllocError, Global};
+use std::alloc::Global;
 use syntax_tree::Stmt;
 
 /// The monitor is left, and the answer is given back.
-fn leaves<'a>(alloc: Global, mon: usize, answer: Answer) -> Result<RunResult<'a>, AllocError>
+fn leaves<'a>(alloc: Global, mon: usize, answer: Answer) -> Result<RunResult<'a>, OutOfMemory>
     ensures { IfOk result (λ ran. (m : run_of.Memory) → ran_of ran m ≡
         run_of.with_value (answer_of answer) m
         (λ v. run_of.stops (run_of.leaves mon) [] (run_of.give v ∷ []) m)) }
@@ -70,7 +71,7 @@ fn tell_stmt<'s, 'a>(
     kept: &mut Option<Beside<'s, 'a>>,
     stmt: StmtItem<'a>,
     answer: Answer,
-) -> Result<Step<'a>, AllocError>
+) -> Result<Step<'a>, OutOfMemory>
     ensures run { let c = site_of scope.now home depth in IfOk result (λ step.
         step_of c step (memory_of memory.new) ≡
         item_told c (memory_of memory.old) stmt.entry (answer_of answer)) }
@@ -123,7 +124,7 @@ pub fn tell<'s, 'a>(
     kept: &mut Option<Beside<'s, 'a>>,
     remains: Remains<'a>,
     answer: Answer,
-) -> Result<Step<'a>, AllocError>
+) -> Result<Step<'a>, OutOfMemory>
     ensures run { let c = site_of scope.now home depth in IfOk result (λ step.
         step_of c step (memory_of memory.new) ≡
         told c (memory_of memory.old) remains.entry (answer_of answer)) }

@@ -6,10 +6,11 @@ ghost use Rattle.image_loaded.specs.Shape.{AreOf};
 use command_perform::Ready;
 use edf_admission::{EdfFault, EdfImage, images_of_files_can_be_run};
 use image_loaded::{FileFault, Shape};
+use out_of_memory::OutOfMemory;
 use outside::MemorySink;
 use sched_demand::Judgement;
 use script::read_script;
-use std::alloc::{AllocError, Global};
+use std::alloc::Global;
 use std::test::Fail;
 
 /// The image of a program of two processes: `p` has a frame of 30 and puts 1 to the device `a`, `q`
@@ -36,7 +37,7 @@ fn load(alloc: Global, bytes: &[u8]) -> Result<Shape, Fail>
 {
     match Shape::load(alloc, Vec::from_slice(alloc, bytes)?) {
         Ok(shape) => Ok(shape),
-        Err(FileFault::Memory) => Err(Fail::from(AllocError)),
+        Err(FileFault::Memory(error)) => Err(Fail::from(error)),
         Err(_) => Err(Fail::new("no shape")),
     }
 }
@@ -109,7 +110,7 @@ fn with_changes(
     alloc: Global,
     bytes: &[u8],
     changes: &[(usize, u8)],
-) -> Result<Vec<u8>, AllocError> {
+) -> Result<Vec<u8>, OutOfMemory> {
     let mut changed = Vec::from_slice(alloc, bytes)?;
     set(changed.as_mut_slice(), changes);
     Ok(changed)

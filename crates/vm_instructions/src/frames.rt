@@ -7,7 +7,8 @@ ghost use Rattle.std.specs.Prelude.{vec_len, ◌++◌, ◌-◌, take, ◌≡◌,
 ghost use Rattle.vm_instructions.specs.Frames.{Frames as Standing, AreTwoFirst, IsCounterFirst, IsValueFirst, called, operand_of, used, value, with_operands};
 
 use crate::operand::Operand;
-use std::alloc::{AllocError, Global};
+use out_of_memory::OutOfMemory;
+use std::alloc::Global;
 use std::marker::Model;
 
 /// Where a caller's frame begins, and where it goes on.
@@ -106,7 +107,7 @@ impl Frames {
     ghost use Rattle.vm_instructions.specs.Frames.{Frames as Standing};
 
     /// No frame, with so many words of stack. It takes all the memory that the frames need.
-    pub fn new(alloc: Global, room: usize) -> Result<Frames, AllocError>
+    pub fn new(alloc: Global, room: usize) -> Result<Frames, OutOfMemory>
         ensures { IfOk result (λ frames. frames ≡
             record { room = room; locals = []; operands = []; callers = [] }) }
     {
