@@ -2,7 +2,7 @@
 //!
 //! The family Earliest deadline first: the other dispatch, for programs without waits.
 //! `edf_semantics` says what its runs are and that deadlines are met, `edf_machine` runs it,
-//! `image_loaded` takes images from any hand, `edf_command` and `edf_correct` are of programs. The
+//! `edf_admission` takes images from any hand, `edf_command` and `edf_correct` are of programs. The
 //! test of the demand is in `sched_demand`.
 //!
 //! `specs/Choice.antt` defines the choice, `specs/Run.antt` the machine with it: start events,

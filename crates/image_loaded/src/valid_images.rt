@@ -106,8 +106,9 @@ impl Image {
         verified(alloc, None, raw)
     }
 
-    /// The image of these numbers, which are known to be valid, as those of every program that is
-    /// in time. Nothing is tested; an error says that memory is short.
+    /// The image of these numbers, which the caller has proved to be valid, as those of every
+    /// program that is in time. Nothing is tested: it is the one way to an image without the tests.
+    /// An error says that memory is short.
     pub fn of_valid(alloc: Global, raw: RawImage) -> Result<Image, OutOfMemory>
         requires { AreOfValid (bytes_of Second (named_of raw)) (named_of raw) }
         ensures { IfOk result (λ image. image ≡ named_of raw) }

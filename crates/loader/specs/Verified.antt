@@ -1,16 +1,11 @@
--- Verified images, and what the calls answer.
+-- What the calls answer.
 use Rattle.std.specs.Prelude.{◌≤◌, Option, Some, None, length}
 use Rattle.machine_semantics.specs.Image.{Image}
 use Rattle.image.specs.declared.raw.RawImage.{RawImage}
 use Rattle.image.specs.Raw.{image_of}
 use Rattle.valid_image.specs.Fault.{or_else}
-use Rattle.valid_image.specs.Valid.{Shown, Operands, Shape, Handlers, Costs, Sizes, Ranks, HasLimits, IsValid, shown}
+use Rattle.valid_image.specs.Valid.{Shown, Operands, Shape, Handlers, Costs, Sizes, Ranks, HasLimits, shown}
 use Rattle.loader.specs.declared.parts_in_order.ValidityFault.{ValidityFault}
-
--- an image whose numbers are in their ranges, and of which no part of validity has a fault
-pub record IsVerified (image : Image) : Type 0 where
-  pub limits : HasLimits image
-  pub valid : IsValid image
 
 -- numbers in the ranges of their fields, as far as the tests ask
 pub record HasRanges (raw : RawImage) : Type 0 where

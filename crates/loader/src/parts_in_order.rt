@@ -1,10 +1,11 @@
 //! The tests of validity, in the order of the loader.
 //!
-//! An image is verified where no part of validity has a fault (`Valid` of `valid_image`) and its
-//! numbers are in the ranges of their fields. `first_fault` promises the first fault of an image in
-//! the order of the tests, and none exactly where it is valid; `fault_before_bounds` that of the
-//! parts that speak of the image alone, and not of the recurrence. The commands ask the first of
-//! the numbers of an image (`load` of `command_images`), `image_loaded` the second of its bytes.
+//! No part of validity has a fault where an image is valid (`Valid` of `valid_image`). `first_fault`
+//! promises the first fault of an image in the order of the tests, and none exactly where it is
+//! valid; `fault_before_bounds` that of the parts that speak of the image alone, and not of the
+//! recurrence. Both ask that the numbers are in the ranges of their fields. `validity_parts` asks
+//! the first, of an image that runs by ranks; `image_loaded` the second, of one that runs by
+//! deadlines.
 
 ghost use Rattle.std.specs.Prelude.{◌≡◌, None, IfOk};
 ghost use Rattle.image.specs.Raw.{image_of};

@@ -60,6 +60,12 @@ const RECORDED: &[Recorded] = &[
     },
     Recorded {
         script: "end 15\n",
+        log: "0 p release\n10 p put valve 8\n14 p ends\n",
+        status: 9,
+        put: "L1 3\n",
+    },
+    Recorded {
+        script: "end 15\n",
         log: "0 p release\n10 p put vent 7\n",
         status: 9,
         put: "L1 2\n",
