@@ -1,0 +1,34 @@
+-- What an instruction comes to in the frame in which it stands.
+use Rattle.std.specs.Prelude.{◌≡◌, ◌≤◌, ◌-◌, ℕ, false}
+use Rattle.machine_isa.specs.declared.instr.Instr.{Instr}
+use Rattle.machine_isa.specs.declared.instr.Instr.TheVariants as i
+use Rattle.machine_semantics.specs.Image.{Image}
+use Rattle.machine_semantics.specs.State.{Job, State}
+use Rattle.machine_semantics.specs.Effect.{Own, Goes, Raises, effect}
+use Rattle.vm_instructions.specs.declared.within.Within.{Within}
+use Rattle.vm_instructions.specs.declared.within.Within.TheVariants as within
+use Rattle.vm_instructions.specs.Silent.{RaisesAs}
+use Rattle.vm_instructions.specs.Rows.{Ended, Spends}
+use Rattle.vm_stretch.specs.Silent.{is_silent, next_own}
+
+-- in whose frame: the image, the activation with its callers, and the words of its stack
+pub record InFrame : Type 0 where
+  pub image : Image
+  pub job : Job
+  pub room : ℕ
+
+-- the instruction is done, or raises, or goes beyond the frame and was not touched
+abbrev pub HasDoneWithin : Image → Instr → Own → Within → Own → Type 0
+HasDoneWithin image instr old within.Done new = (s : State) → effect image s instr old ≡ Goes new
+HasDoneWithin image instr old (within.Raises n) new = ((s : State) → effect image s instr old ≡ Raises n) × RaisesAs old new
+HasDoneWithin image instr old within.Seen new = (new ≡ old) × (is_silent instr ≡ false)
+HasDoneWithin image instr old (within.Calls number) new = (new ≡ old) × (instr ≡ i.Call number)
+HasDoneWithin image instr old within.Returns new = (new ≡ old) × (instr ≡ i.Return)
+HasDoneWithin image instr old within.ReturnsValue new = (new ≡ old) × (instr ≡ i.ReturnValue)
+
+-- all ticks passed; or the last instruction whose ticks passed raises, or goes beyond the frame and
+-- is still to be done
+abbrev pub GoesWithin : Image → Own → ℕ → Within → ℕ → Own → Type 0
+GoesWithin image first budget within.Done left new = Spends image first budget new
+GoesWithin image first budget came left new =
+    (last : Own) × (instr : Instr) × (left ≤ budget) × Ended image first (budget - left) last instr × HasDoneWithin image instr (next_own last) came new
