@@ -1,5 +1,5 @@
 -- One more instruction of a row.
-use Rattle.std.proofs.Common.{◌≡◌, ◌≤◌, ◌<◌, ◌+◌, ◌-◌, ◌⊎◌, ℕ, true, false, Some, length, sym, subst, ◌∙◌}
+use Rattle.std.proofs.Common.{◌≡◌, ◌≢◌, ◌≤◌, ◌<◌, ◌+◌, ◌-◌, ◌⊎◌, ℕ, true, false, Some, length, refl, sym, subst, ◌∙◌, arith}
 use Rattle.std.specs.Prelude.{slice_get}
 use Rattle.std.proofs.lemmas.Option.{slice_get_within}
 use Rattle.machine_isa.specs.declared.instr.Instr.{Instr}
@@ -7,6 +7,10 @@ use Rattle.machine_isa.specs.Ticks.{ticks}
 use Rattle.machine_semantics.specs.Image.{Image}
 use Rattle.machine_semantics.specs.State.{State}
 use Rattle.machine_semantics.specs.Effect.{Own, Goes, effect}
+use Rattle.vm_instructions.specs.Rows.{Ended, Spends}
+use Rattle.vm_instructions.specs.Within.{GoesWithin, HasDoneWithin}
+use Rattle.vm_instructions.specs.declared.within.Within.{Within}
+use Rattle.vm_instructions.specs.declared.within.Within.TheVariants as within
 use Rattle.vm_stretch.specs.Silent.{CanGo, IsAt, IsSafeFor, IsWithin, GoesTo, Leads, Begins, Follows, is_silent, next_own, nowhere}
 
 pub begins : (image : Image) (first : Own) (n : ℕ) → n ≡ 0 → Leads image first n first
@@ -29,3 +33,35 @@ fetched image room budget n o r can is =
 pub follows : (image : Image) (first o next : Own) (n m : ℕ) (r : Instr) → Leads image first n o → IsAt image o r → ((s : State) → effect image s r (next_own o) ≡ Goes next) → next.job.inside ≡ o.job.inside → next.job.dispatch_ticks ≡ o.job.dispatch_ticks → m ≡ n + (ticks r - o.job.done)
     → Leads image first m next
 follows image first o next n m r leads at is inside dispatch_ticks time = Follows leads r next (record { at = at; goes = is; inside = inside; dispatch_ticks = dispatch_ticks }) m time
+
+-- ---- within a frame
+
+-- what a row comes to where an instruction does not just go on
+pub goes_beyond : (image : Image) (first : Own) (budget left : ℕ) (came : Within) (last : Own) (instr : Instr) (new : Own) → came ≢ within.Done → left ≤ budget → Ended image first (budget - left) last instr → HasDoneWithin image instr (next_own last) came new
+    → GoesWithin image first budget came left new
+goes_beyond image first budget left within.Done last instr new other less ended done = absurd (other refl)
+goes_beyond image first budget left (within.Raises n) last instr new other less ended done = (last, instr, less, ended, done)
+goes_beyond image first budget left within.Seen last instr new other less ended done = (last, instr, less, ended, done)
+goes_beyond image first budget left (within.Calls n) last instr new other less ended done = (last, instr, less, ended, done)
+goes_beyond image first budget left within.Returns last instr new other less ended done = (last, instr, less, ended, done)
+goes_beyond image first budget left within.ReturnsValue last instr new other less ended done = (last, instr, less, ended, done)
+
+-- one run after another
+pub leads_on : (image : Image) (a b c : Own) (n m : ℕ) → Leads image a n b → Leads image b m c → Leads image a (n + m) c
+leads_on image a b c n m before Begins = let e : n ≡ n + 0 = omega arith in subst (λ (k : ℕ). Leads image a k b) e before
+leads_on image a b c n m before (Follows {n'} {o} rest instr next step m' time) = Follows (leads_on image a b o n n' before rest) instr next step (n + m) (omega (arith, time))
+
+-- what was asked of the whole holds from there on
+pub safe_on : (image : Image) (room : ℕ) (a b : Own) (n budget left : ℕ) → n + left ≡ budget → Leads image a n b → IsSafeFor image room a budget → IsSafeFor image room b left
+safe_on image room a b n budget left time leads safe m o on less =
+    let can : CanGo image room budget (n + m) o = safe (n + m) o (leads_on image a b o n m leads on) (omega (arith, time, less)) in
+    record { instr = can.instr; at = can.at; safe = λ passed silent. can.safe (omega (arith, time, passed)) silent }
+
+-- a row from there on
+pub ended_on : (image : Image) (a b last : Own) (instr : Instr) (n m k : ℕ) → n + m ≡ k → Leads image a n b → Ended image b m last instr → Ended image a k last instr
+ended_on image a b last instr n m k time leads ended =
+    record { n = n + ended.n; leads = leads_on image a b last n ended.n leads ended.leads; at = ended.at; time = omega (arith, ended.time, time) }
+
+pub spends_on : (image : Image) (a b new : Own) (n left budget : ℕ) → n + left ≡ budget → Leads image a n b → Spends image b left new → Spends image a budget new
+spends_on image a b new n left budget time leads (k, m, o, rest, whole, is, last) =
+    (n + k, m, o, leads_on image a b o n k leads rest, omega (arith, whole, time), is, last)

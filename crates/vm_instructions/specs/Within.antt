@@ -1,5 +1,5 @@
 -- What an instruction comes to in the frame in which it stands.
-use Rattle.std.specs.Prelude.{◌≡◌, ◌≤◌, ◌-◌, ℕ, false}
+use Rattle.std.specs.Prelude.{◌≡◌, ◌≤◌, ◌-◌, ℕ, ℤ, List, false}
 use Rattle.machine_isa.specs.declared.instr.Instr.{Instr}
 use Rattle.machine_isa.specs.declared.instr.Instr.TheVariants as i
 use Rattle.machine_semantics.specs.Image.{Image}
@@ -7,7 +7,9 @@ use Rattle.machine_semantics.specs.State.{Job, State}
 use Rattle.machine_semantics.specs.Effect.{Own, Goes, Raises, effect}
 use Rattle.vm_instructions.specs.declared.within.Within.{Within}
 use Rattle.vm_instructions.specs.declared.within.Within.TheVariants as within
-use Rattle.vm_instructions.specs.Silent.{RaisesAs}
+use Rattle.vm_instructions.specs.Silent.{IsOf, IsSafe, RaisesAs, own_of}
+use Rattle.vm_instructions.specs.declared.activation.Activation.{Activation as Kept}
+use Rattle.vm_instructions.specs.declared.calls.RoutineHeader.{RoutineHeader as Called}
 use Rattle.vm_instructions.specs.Rows.{Ended, Spends}
 use Rattle.vm_stretch.specs.Silent.{is_silent, next_own}
 
@@ -16,6 +18,13 @@ pub record InFrame : Type 0 where
   pub image : Image
   pub job : Job
   pub room : ℕ
+
+-- what goes beyond a frame: an instruction, and how the process stood before it
+pub record Beyond : Type 0 where
+  pub image : Image
+  pub code : List Instr
+  pub instr : Instr
+  pub old : Own
 
 -- the instruction is done, or raises, or goes beyond the frame and was not touched
 abbrev pub HasDoneWithin : Image → Instr → Own → Within → Own → Type 0
@@ -32,3 +41,10 @@ abbrev pub GoesWithin : Image → Own → ℕ → Within → ℕ → Own → Typ
 GoesWithin image first budget within.Done left new = Spends image first budget new
 GoesWithin image first budget came left new =
     (last : Own) × (instr : Instr) × (left ≤ budget) × Ended image first (budget - left) last instr × HasDoneWithin image instr (next_own last) came new
+
+-- the process has gone so far, which may go beyond its frame: the instruction can, and was done
+-- within the frame as far as it is
+pub record IsBeyond (b : Beyond) (routines : List Called) (job : Kept) (owned shared : List ℤ) (came : Within) : Type 0 where
+  pub of : IsOf b.image b.code routines
+  pub safe : IsSafe b.image b.instr b.old job.frames.room
+  pub came : HasDoneWithin b.image b.instr b.old came (own_of job owned shared)

@@ -9,7 +9,8 @@ ghost use Rattle.machine_semantics.specs.Image.{Image};
 use crate::activation::Activation;
 use crate::calls::RoutineHeader;
 use crate::innermost::run_innermost;
-use crate::step::{call, ret, ret_value};
+use crate::step::go_beyond;
+use crate::step_result::StepResult;
 use crate::within::Within;
 use machine_isa::Instr;
 
@@ -44,13 +45,14 @@ pub fn run(
 {
     let mut left = budget;
     loop {
-        match run_innermost(code, job, owned, shared, &mut left) {
-            Within::Done => return Halt::Spent,
-            Within::Raises(number) => return Halt::Raises { left, number },
-            Within::Seen => return Halt::Sees { left },
-            Within::Calls(number) => call(code, routines, job, owned, shared, number),
-            Within::Returns => ret(code, routines, job, owned, shared),
-            Within::ReturnsValue => ret_value(code, routines, job, owned, shared),
+        let came = run_innermost(code, job, owned, shared, &mut left);
+        if let Within::Done = came {
+            return Halt::Spent;
+        }
+        match go_beyond(routines, job, owned, shared, came) {
+            StepResult::Done => {}
+            StepResult::Raises(number) => return Halt::Raises { left, number },
+            StepResult::Seen => return Halt::Sees { left },
         }
     }
 }
