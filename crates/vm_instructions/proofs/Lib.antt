@@ -3,4 +3,4 @@ pub mod Elements
 pub mod Arms
 pub mod Leading
 pub mod Safe
-pub mod Innermost
+pub mod AtHand

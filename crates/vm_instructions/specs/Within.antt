@@ -47,4 +47,4 @@ GoesWithin image first budget came left new =
 pub record IsBeyond (b : Beyond) (routines : List Called) (job : Kept) (owned shared : List ℤ) (came : Within) : Type 0 where
   pub of : IsOf b.image b.code routines
   pub safe : IsSafe b.image b.instr b.old job.frames.room
-  pub came : HasDoneWithin b.image b.instr b.old came (own_of job owned shared)
+  pub so_far : HasDoneWithin b.image b.instr b.old came (own_of job owned shared)
