@@ -47,9 +47,9 @@ goes_beyond image first budget left within.Returns last instr new other less end
 goes_beyond image first budget left within.ReturnsValue last instr new other less ended done = (last, instr, less, ended, done)
 
 -- one run after another
-pub leads_on : (image : Image) (a b c : Own) (n m : ℕ) → Leads image a n b → Leads image b m c → Leads image a (n + m) c
-leads_on image a b c n m before Begins = let e : n ≡ n + 0 = omega arith in subst (λ (k : ℕ). Leads image a k b) e before
-leads_on image a b c n m before (Follows {n'} {o} rest instr next step m' time) = Follows (leads_on image a b o n n' before rest) instr next step (n + m) (omega (arith, time))
+pub leads_on : (image : Image) (a b c : Own) (k l : ℕ) → Leads image a k b → Leads image b l c → Leads image a (k + l) c
+leads_on image a b c k l before Begins = let e : k ≡ k + 0 = omega arith in subst (λ (x : ℕ). Leads image a x b) e before
+leads_on image a b c k l before (Follows {n} {o} rest instr next step m time) = Follows (leads_on image a b o k n before rest) instr next step (k + l) (omega (arith, time))
 
 -- what was asked of the whole holds from there on
 pub safe_on : (image : Image) (room : ℕ) (a b : Own) (n budget left : ℕ) → n + left ≡ budget → Leads image a n b → IsSafeFor image room a budget → IsSafeFor image room b left

@@ -8,11 +8,42 @@ use Rattle.vm_instructions.specs.Stack.{own_in}
 use Rattle.vm_instructions.proofs.Leading.{Fetched, address, begins, fetched, follows, goes_beyond}
 use Rattle.vm_instructions.proofs.row.row.Goals as goal
 
-pub loop-at-init : goal.loop-at-init
-loop-at-init g c = record { within = omega arith; leads = begins _ _ _ (omega arith); top = c.requires.1.1.0; row = refl; locals = refl }
+pub loop-left-init : goal.loop-left-init
+loop-left-init g c = record { within = omega arith; leads = begins _ _ _ (omega arith); top = c.requires.1.1.0; row = refl; locals = refl }
 
 pub fetch-instr-requires : goal.fetch-instr-requires
-fetch-instr-requires g c = subst (λ (xs : List Instr). c.loop-at.at.place < length xs) c.requires.0 (address _ _ _ _ _ (c.requires.1.0 _ _ c.loop-at.invariant.leads (omega (arith, c.loop-at-test.true, c.loop-at.invariant.within))))
+fetch-instr-requires g c = subst (λ (xs : List Instr). c.loop-left.at.place < length xs) c.requires.0 (address _ _ _ _ _ (c.requires.1.0 _ _ c.loop-left.invariant.leads (omega (arith, c.loop-left-test.true, c.loop-left.invariant.within))))
 
 pub left_of-need-requires : goal.left_of-need-requires
-left_of-need-requires g c = (fetched g.frame.image g.frame.room c.args.left.now (c.args.left.now - c.loop-at.left) (own_in g.frame.job c.loop-at.at c.loop-at.stack c.loop-at.locals c.loop-at.owned c.loop-at.shared) c.fetch-instr.result.now (c.requires.1.0 _ _ c.loop-at.invariant.leads (omega (arith, c.loop-at-test.true, c.loop-at.invariant.within))) (ap (λ (xs : List Instr). slice_get xs c.loop-at.at.place) c.requires.0 ∙ c.fetch-instr.ensures)).at.early
+left_of-need-requires g c = (fetched g.frame.image g.frame.room c.args.left.now (c.args.left.now - c.loop-left.left) (own_in g.frame.job c.loop-left.at c.loop-left.stack c.loop-left.locals c.loop-left.owned c.loop-left.shared) c.fetch-instr.result.now (c.requires.1.0 _ _ c.loop-left.invariant.leads (omega (arith, c.loop-left-test.true, c.loop-left.invariant.within))) (ap (λ (xs : List Instr). slice_get xs c.loop-left.at.place) c.requires.0 ∙ c.fetch-instr.ensures)).at.early
+
+pub loop-left-preserved : goal.loop-left-preserved
+loop-left-preserved g c =
+    let o : Own = own_in g.frame.job c.loop-left.at c.loop-left.stack c.loop-left.locals c.loop-left.owned c.loop-left.shared in
+    let first : Own = own_in g.frame.job c.args.at.now c.args.stack.now c.args.locals.now c.args.owned.now c.args.shared.now in
+    let next : Own = own_in g.frame.job c.step_within.new.at c.step_within.new.stack c.step_within.new.locals c.step_within.new.owned c.step_within.new.shared in
+    let f = (fetched g.frame.image g.frame.room c.args.left.now (c.args.left.now - c.loop-left.left) o c.fetch-instr.result.now (c.requires.1.0 _ _ c.loop-left.invariant.leads (omega (arith, c.loop-left-test.true, c.loop-left.invariant.within))) (ap (λ (xs : List Instr). slice_get xs c.loop-left.at.place) c.requires.0 ∙ c.fetch-instr.ensures)) in
+    record {
+      within = omega (arith, c.loop-left.invariant.within);
+      leads = follows g.frame.image first o next (c.args.left.now - c.loop-left.left) _ c.fetch-instr.result.now c.loop-left.invariant.leads f.at c.in-Done.ensures.done refl refl
+          (omega (arith, c.loop-left.invariant.within, f.at.early, c.left_of-need.ensures, c.if-need-left.false));
+      top = c.in-Done.ensures.top;
+      row = c.in-Done.ensures.row ∙ c.loop-left.invariant.row;
+      locals = c.in-Done.ensures.locals ∙ c.loop-left.invariant.locals;
+    }
+
+pub returns-in_default : goal.returns-in_default
+returns-in_default g c =
+    let o : Own = own_in g.frame.job c.loop-left.at c.loop-left.stack c.loop-left.locals c.loop-left.owned c.loop-left.shared in
+    let first : Own = own_in g.frame.job c.args.at.now c.args.stack.now c.args.locals.now c.args.owned.now c.args.shared.now in
+    let next : Own = own_in g.frame.job c.step_within.new.at c.step_within.new.stack c.step_within.new.locals c.step_within.new.owned c.step_within.new.shared in
+    let f = (fetched g.frame.image g.frame.room c.args.left.now (c.args.left.now - c.loop-left.left) o c.fetch-instr.result.now (c.requires.1.0 _ _ c.loop-left.invariant.leads (omega (arith, c.loop-left-test.true, c.loop-left.invariant.within))) (ap (λ (xs : List Instr). slice_get xs c.loop-left.at.place) c.requires.0 ∙ c.fetch-instr.ensures)) in
+    let passed : c.args.left.now - c.loop-left.left + (ticks c.fetch-instr.result.now - c.loop-left.at.done) ≡ c.args.left.now - (c.loop-left.left - c.left_of-need.result) =
+    omega (arith, c.loop-left.invariant.within, f.at.early, c.left_of-need.ensures, c.if-need-left.false) in
+    record {
+      goes = goes_beyond g.frame.image first c.args.left.now (c.loop-left.left - c.left_of-need.result) c.step_within.result o c.fetch-instr.result.now next c.in_default.not-Done (omega (arith, c.loop-left.invariant.within))
+          (record { n = c.args.left.now - c.loop-left.left; leads = c.loop-left.invariant.leads; at = f.at; time = passed }) c.step_within.ensures.done;
+      top = c.step_within.ensures.top;
+      row = c.step_within.ensures.row ∙ c.loop-left.invariant.row;
+      locals = c.step_within.ensures.locals ∙ c.loop-left.invariant.locals;
+    }

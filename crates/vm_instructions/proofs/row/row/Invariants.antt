@@ -3,8 +3,8 @@ use Rattle.vm_instructions.specs.Stack.{own_in}
 use Rattle.vm_stretch.specs.Silent.{Leads}
 use Rattle.vm_instructions.proofs.row.row.Given as goal
 
-abbrev pub invariant-loop-at : goal.invariant-loop-at
-invariant-loop-at g l = record {
+abbrev pub invariant-loop-left : goal.invariant-loop-left
+invariant-loop-left g l = record {
   within : l.left ≤ l.fn.left;
   leads : Leads g.frame.image (own_in g.frame.job l.fn.at l.fn.stack l.fn.locals l.fn.owned l.fn.shared) (l.fn.left - l.left) (own_in g.frame.job l.at l.stack l.locals l.owned l.shared);
   top : l.at.top ≤ length l.stack;
@@ -12,8 +12,8 @@ invariant-loop-at g l = record {
   locals : length l.locals ≡ length l.fn.locals;
 }
 
-abbrev pub decreases-loop-at : goal.decreases-loop-at
-decreases-loop-at g l = l.left
+abbrev pub decreases-loop-left : goal.decreases-loop-left
+decreases-loop-left g l = l.left
 
 abbrev pub ghost-step_within : goal.ghost-step_within
 ghost-step_within g a = g.frame
