@@ -7,7 +7,7 @@ use Rattle.machine_semantics.specs.State.{Job, State}
 use Rattle.machine_semantics.specs.Effect.{Own, Goes, Raises, effect}
 use Rattle.vm_instructions.specs.declared.within.Within.{Within}
 use Rattle.vm_instructions.specs.declared.within.Within.TheVariants as within
-use Rattle.vm_instructions.specs.Silent.{IsOf, IsSafe, RaisesAs, own_of}
+use Rattle.vm_instructions.specs.Silent.{IsOf, IsSafe, RaisesAs, job_of, own_of}
 use Rattle.vm_instructions.specs.declared.activation.Activation.{Activation as Kept}
 use Rattle.vm_instructions.specs.declared.calls.RoutineHeader.{RoutineHeader as Called}
 use Rattle.vm_instructions.specs.Rows.{Ended, Spends}
@@ -18,6 +18,11 @@ pub record InFrame : Type 0 where
   pub image : Image
   pub job : Job
   pub room : ℕ
+
+-- it is the activation's innermost
+pub record IsInnermost (f : InFrame) (job : Kept) : Type 0 where
+  pub job_is : f.job ≡ job_of job
+  pub room_is : f.room ≡ job.frames.room
 
 -- what goes beyond a frame: an instruction, and how the process stood before it
 pub record Beyond : Type 0 where

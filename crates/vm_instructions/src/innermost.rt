@@ -1,9 +1,8 @@
 //! The innermost frame of a process, at hand.
 
 ghost use Rattle.std.specs.Prelude.{◌≡◌};
-ghost use Rattle.machine_semantics.specs.Image.{Image};
-ghost use Rattle.vm_instructions.specs.Silent.{IsOf, IsSafe, own_of};
-ghost use Rattle.vm_instructions.specs.Within.{GoesWithin, HasDoneWithin};
+ghost use Rattle.vm_instructions.specs.Silent.{IsSafe, own_of};
+ghost use Rattle.vm_instructions.specs.Within.{GoesWithin, HasDoneWithin, InFrame, IsInnermost};
 ghost use Rattle.vm_stretch.specs.Silent.{IsSafeFor};
 
 use crate::activation::Activation;
@@ -20,10 +19,11 @@ pub(crate) fn step_innermost(
     shared: &mut [i32],
     instr: &Instr,
 ) -> Within
-    ghost image: { Image }
-    requires safe { IsSafe image instr.now (own_of job.old owned.old shared.old)
+    ghost frame: { InFrame }
+    requires innermost { IsInnermost frame job.old }
+    requires safe { IsSafe frame.image instr.now (own_of job.old owned.old shared.old)
         job.old.frames.room }
-    ensures done { HasDoneWithin image instr.now (own_of job.old owned.old shared.old) result
+    ensures done { HasDoneWithin frame.image instr.now (own_of job.old owned.old shared.old) result
         (own_of job.new owned.new shared.new) }
     ensures room { job.new.frames.room ≡ job.old.frames.room }
     ensures inside { job.new.inside ≡ job.old.inside }
@@ -61,11 +61,12 @@ pub(crate) fn run_innermost(
     shared: &mut [i32],
     left: &mut u64,
 ) -> Within
-    ghost image: { Image }
-    requires code { image.code ≡ code.now }
-    requires safe { IsSafeFor image job.old.frames.room
+    ghost frame: { InFrame }
+    requires innermost { IsInnermost frame job.old }
+    requires code { frame.image.code ≡ code.now }
+    requires safe { IsSafeFor frame.image job.old.frames.room
         (own_of job.old owned.old shared.old) left.old }
-    ensures goes { GoesWithin image (own_of job.old owned.old shared.old) left.old result left.new
+    ensures goes { GoesWithin frame.image (own_of job.old owned.old shared.old) left.old result left.new
         (own_of job.new owned.new shared.new) }
     ensures room { job.new.frames.room ≡ job.old.frames.room }
 {

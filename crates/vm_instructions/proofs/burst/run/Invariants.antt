@@ -1,5 +1,5 @@
 use Rattle.std.proofs.Common.{◌≡◌, ◌≤◌, ◌-◌}
-use Rattle.vm_instructions.specs.Silent.{own_of}
+use Rattle.vm_instructions.specs.Silent.{job_of, own_of}
 use Rattle.vm_stretch.specs.Silent.{Leads}
 use Rattle.vm_instructions.proofs.burst.run.Given as goal
 
@@ -13,5 +13,5 @@ invariant-loop-left g l = record {
 abbrev pub decreases-loop-left : goal.decreases-loop-left
 decreases-loop-left g l = l.left
 
-abbrev pub ghost-step_in_row : goal.ghost-step_in_row
-ghost-step_in_row g a = g.image
+abbrev pub ghost-run_innermost : goal.ghost-run_innermost
+ghost-run_innermost g a = record { image = g.image; job = job_of a.job.now; room = a.job.now.frames.room }

@@ -1,5 +1,4 @@
-use Rattle.vm_instructions.specs.Silent.{job_of}
 use Rattle.vm_instructions.proofs.innermost.step_innermost.Given as goal
 
 abbrev pub ghost-step_within : goal.ghost-step_within
-ghost-step_within g a = ?
+ghost-step_within g a = g.frame
