@@ -21,3 +21,7 @@ Fits room j top stack locals = (top ≤ length stack) × (room ≤ length stack 
 -- the row is as long as it was, and so many operands are in it
 abbrev pub Stays : ℕ → List Kept → List Kept → Type 0
 Stays top old new = (length new ≡ length old) × (top ≤ length new)
+
+-- the stack takes no more than so many words
+abbrev pub IsWithinRoom : ℕ → Job → ℕ → List ℤ → Type 0
+IsWithinRoom room j top locals = length locals + top + stack_below j.callers ≤ room

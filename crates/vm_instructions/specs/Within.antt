@@ -1,5 +1,5 @@
 -- What an instruction comes to in the frame in which it stands.
-use Rattle.std.specs.Prelude.{◌≡◌, ◌≤◌, ◌-◌, ℕ, ℤ, List, false}
+use Rattle.std.specs.Prelude.{◌≡◌, ◌≤◌, ◌-◌, ℕ, ℤ, List, true, false}
 use Rattle.machine_isa.specs.declared.instr.Instr.{Instr}
 use Rattle.machine_isa.specs.declared.instr.Instr.TheVariants as i
 use Rattle.machine_semantics.specs.Image.{Image}
@@ -31,14 +31,20 @@ pub record Beyond : Type 0 where
   pub instr : Instr
   pub old : Own
 
--- the instruction is done, or raises, or goes beyond the frame and was not touched
+-- nobody sees the instruction and it is done, or it raises, or goes beyond the frame and was not
+-- touched
 abbrev pub HasDoneWithin : Image → Instr → Own → Within → Own → Type 0
-HasDoneWithin image instr old within.Done new = (s : State) → effect image s instr old ≡ Goes new
+HasDoneWithin image instr old within.Done new = (is_silent instr ≡ true) × ((s : State) → effect image s instr old ≡ Goes new)
 HasDoneWithin image instr old (within.Raises n) new = ((s : State) → effect image s instr old ≡ Raises n) × RaisesAs old new
 HasDoneWithin image instr old within.Seen new = (new ≡ old) × (is_silent instr ≡ false)
 HasDoneWithin image instr old (within.Calls number) new = (new ≡ old) × (instr ≡ i.Call number)
 HasDoneWithin image instr old within.Returns new = (new ≡ old) × (instr ≡ i.Return)
 HasDoneWithin image instr old within.ReturnsValue new = (new ≡ old) × (instr ≡ i.ReturnValue)
+
+-- how many operands are left: an exception drops them
+abbrev pub operands_left : Within → ℕ → ℕ
+operands_left (within.Raises n) top = 0
+operands_left _ top = top
 
 -- all ticks passed; or the last instruction whose ticks passed raises, or goes beyond the frame and
 -- is still to be done

@@ -2,7 +2,7 @@
 
 ghost use Rattle.std.specs.Prelude.{◌≡◌};
 ghost use Rattle.vm_instructions.specs.Silent.{IsSafe, own_of};
-ghost use Rattle.vm_instructions.specs.Within.{GoesWithin, HasDoneWithin, InFrame, IsInnermost};
+ghost use Rattle.vm_instructions.specs.Within.{GoesWithin, HasDoneWithin, InFrame, IsInnermost, operands_left};
 ghost use Rattle.vm_stretch.specs.Silent.{IsSafeFor};
 
 use crate::activation::Activation;
@@ -11,7 +11,19 @@ use crate::row::row;
 use crate::within::{Within, step_within};
 use machine_isa::Instr;
 
+/// How many operands are left: an exception drops them.
+#[inline(always)]
+fn left_after(came: Within, top: usize) -> usize
+    ensures { result ≡ operands_left came top }
+{
+    match came {
+        Within::Raises(_) => 0,
+        _ => top,
+    }
+}
+
 /// Does an instruction that stays in the innermost frame; its process stands at the next already.
+#[tactic(none)]
 #[inline(always)]
 pub(crate) fn step_innermost(
     job: &mut Activation,
@@ -46,13 +58,14 @@ pub(crate) fn step_innermost(
         owned,
         shared,
     );
-    frames.top = floor + at.top;
+    frames.top = floor + left_after(came, at.top);
     job.place = at.place;
     came
 }
 
 /// Runs a process, which has no ticks to burn, for what is left of a row, while it stays in its
 /// innermost frame.
+#[tactic(none)]
 #[inline(always)]
 pub(crate) fn run_innermost(
     code: &[Instr],
@@ -88,7 +101,7 @@ pub(crate) fn run_innermost(
         shared,
         left,
     );
-    frames.top = floor + at.top;
+    frames.top = floor + left_after(came, at.top);
     job.place = at.place;
     job.done = at.done;
     came

@@ -2,8 +2,8 @@
 
 ghost use Rattle.std.specs.Prelude.{◌≡◌, ◌<◌, ◌≤◌, ◌-◌, length, slice_get, Some};
 ghost use Rattle.machine_isa.specs.Ticks.{ticks as ticks_of};
-ghost use Rattle.vm_instructions.specs.Stack.{Fits, own_in};
-ghost use Rattle.vm_instructions.specs.Within.{GoesWithin, InFrame};
+ghost use Rattle.vm_instructions.specs.Stack.{Fits, IsWithinRoom, own_in};
+ghost use Rattle.vm_instructions.specs.Within.{GoesWithin, InFrame, operands_left};
 ghost use Rattle.vm_stretch.specs.Silent.{IsSafeFor};
 
 use crate::cursor::Cursor;
@@ -46,12 +46,15 @@ pub(crate) fn row(
     requires safe { IsSafeFor frame.image frame.room
         (own_in frame.job at.old stack.old locals.old owned.old shared.old) left.old }
     requires fits { Fits frame.room frame.job at.old.top stack.old locals.old }
+    requires room { IsWithinRoom frame.room frame.job at.old.top locals.old }
     ensures goes { GoesWithin frame.image
         (own_in frame.job at.old stack.old locals.old owned.old shared.old) left.old result left.new
         (own_in frame.job at.new stack.new locals.new owned.new shared.new) }
     ensures top { at.new.top ≤ length stack.new }
     ensures row { length stack.new ≡ length stack.old }
     ensures locals { length locals.new ≡ length locals.old }
+    ensures room { IsWithinRoom frame.room frame.job (operands_left result at.new.top)
+        locals.new }
 {
     while *left > 0 {
         let instr = fetch(code, at.place);

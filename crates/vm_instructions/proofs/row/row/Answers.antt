@@ -5,11 +5,13 @@ use Rattle.machine_isa.specs.declared.instr.Instr.{Instr}
 use Rattle.machine_isa.specs.Ticks.{ticks}
 use Rattle.machine_semantics.specs.Effect.{Own}
 use Rattle.vm_instructions.specs.Stack.{own_in}
+use Rattle.vm_stretch.specs.Silent.{next_own, nowhere}
+use Rattle.vm_instructions.proofs.Roomy.{length-stacked, room_after, room_beyond}
 use Rattle.vm_instructions.proofs.Leading.{Fetched, address, begins, fetched, follows, goes_beyond}
 use Rattle.vm_instructions.proofs.row.row.Goals as goal
 
 pub loop-left-init : goal.loop-left-init
-loop-left-init g c = record { within = omega arith; leads = begins _ _ _ (omega arith); top = c.requires.1.1.0; row = refl; locals = refl }
+loop-left-init g c = record { within = omega arith; leads = begins _ _ _ (omega arith); top = c.requires.1.1.0.0; row = refl; locals = refl; room = c.requires.1.1.1 }
 
 pub fetch-instr-requires : goal.fetch-instr-requires
 fetch-instr-requires g c = subst (λ (xs : List Instr). c.loop-left.at.place < length xs) c.requires.0 (address _ _ _ _ _ (c.requires.1.0 _ _ c.loop-left.invariant.leads (omega (arith, c.loop-left-test.true, c.loop-left.invariant.within))))
@@ -25,11 +27,12 @@ loop-left-preserved g c =
     let f = (fetched g.frame.image g.frame.room c.args.left.now (c.args.left.now - c.loop-left.left) o c.fetch-instr.result.now (c.requires.1.0 _ _ c.loop-left.invariant.leads (omega (arith, c.loop-left-test.true, c.loop-left.invariant.within))) (ap (λ (xs : List Instr). slice_get xs c.loop-left.at.place) c.requires.0 ∙ c.fetch-instr.ensures)) in
     record {
       within = omega (arith, c.loop-left.invariant.within);
-      leads = follows g.frame.image first o next (c.args.left.now - c.loop-left.left) _ c.fetch-instr.result.now c.loop-left.invariant.leads f.at c.in-Done.ensures.done refl refl
+      leads = follows g.frame.image first o next (c.args.left.now - c.loop-left.left) _ c.fetch-instr.result.now c.loop-left.invariant.leads f.at c.in-Done.ensures.done.1 refl refl
           (omega (arith, c.loop-left.invariant.within, f.at.early, c.left_of-need.ensures, c.if-need-left.false));
       top = c.in-Done.ensures.top;
       row = c.in-Done.ensures.row ∙ c.loop-left.invariant.row;
       locals = c.in-Done.ensures.locals ∙ c.loop-left.invariant.locals;
+      room = room_after g.frame.room _ g.frame.job c.step_within.new.at c.step_within.new.stack c.step_within.new.locals c.step_within.new.owned c.step_within.new.shared (f.safe (omega (arith, c.loop-left.invariant.within, f.at.early, c.left_of-need.ensures, c.if-need-left.false)) c.in-Done.ensures.done.0) (c.in-Done.ensures.done.1 nowhere) c.in-Done.ensures.top;
     }
 
 pub returns-in_default : goal.returns-in_default
@@ -46,4 +49,5 @@ returns-in_default g c =
       top = c.step_within.ensures.top;
       row = c.step_within.ensures.row ∙ c.loop-left.invariant.row;
       locals = c.step_within.ensures.locals ∙ c.loop-left.invariant.locals;
+      room = room_beyond g.frame.image c.fetch-instr.result.now (next_own o) c.step_within.result g.frame.room c.loop-left.at.top g.frame.job c.step_within.new.at c.step_within.new.stack c.step_within.new.locals c.step_within.new.owned c.step_within.new.shared c.in_default.not-Done c.step_within.ensures.done (length-stacked c.loop-left.at.top c.loop-left.stack c.loop-left.invariant.top) (omega (arith, c.step_within.ensures.locals, c.loop-left.invariant.room)) c.step_within.ensures.top;
     }

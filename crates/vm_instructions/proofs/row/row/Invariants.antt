@@ -1,5 +1,5 @@
 use Rattle.std.proofs.Common.{◌≡◌, ◌≤◌, ◌-◌, length}
-use Rattle.vm_instructions.specs.Stack.{own_in}
+use Rattle.vm_instructions.specs.Stack.{IsWithinRoom, own_in}
 use Rattle.vm_stretch.specs.Silent.{Leads}
 use Rattle.vm_instructions.proofs.row.row.Given as goal
 
@@ -10,6 +10,7 @@ invariant-loop-left g l = record {
   top : l.at.top ≤ length l.stack;
   row : length l.stack ≡ length l.fn.stack;
   locals : length l.locals ≡ length l.fn.locals;
+  room : IsWithinRoom g.frame.room g.frame.job l.at.top l.locals;
 }
 
 abbrev pub decreases-loop-left : goal.decreases-loop-left
