@@ -23,7 +23,6 @@ fn left_after(came: Within, top: usize) -> usize
 }
 
 /// Does an instruction that stays in the innermost frame; its process stands at the next already.
-#[tactic(none)]
 #[inline(always)]
 pub(crate) fn step_innermost(
     job: &mut Activation,
@@ -65,7 +64,6 @@ pub(crate) fn step_innermost(
 
 /// Runs a process, which has no ticks to burn, for what is left of a row, while it stays in its
 /// innermost frame.
-#[tactic(none)]
 #[inline(always)]
 pub(crate) fn run_innermost(
     code: &[Instr],

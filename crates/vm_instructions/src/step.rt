@@ -55,7 +55,6 @@ pub(crate) fn go_beyond(
 }
 
 /// Does an instruction that nobody sees; its process stands at the next already.
-#[tactic(none)]
 pub fn step(
     code: &[Instr],
     routines: &[RoutineHeader],

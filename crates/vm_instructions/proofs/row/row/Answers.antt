@@ -3,7 +3,7 @@ use Rattle.std.proofs.Common.{true, ◌≡◌, ◌-◌, ◌<◌, ◌≤◌, ◌+
 use Rattle.std.specs.Prelude.{slice_get}
 use Rattle.machine_isa.specs.declared.instr.Instr.{Instr}
 use Rattle.machine_isa.specs.Ticks.{ticks}
-use Rattle.machine_semantics.specs.Effect.{Own}
+use Rattle.machine_semantics.specs.Effect.{Own, effect}
 use Rattle.vm_instructions.specs.Stack.{own_in}
 use Rattle.vm_stretch.specs.Silent.{next_own, nowhere}
 use Rattle.vm_instructions.proofs.Roomy.{length-stacked, room_after, room_beyond}
@@ -32,7 +32,7 @@ loop-left-preserved g c =
       top = c.in-Done.ensures.top;
       row = c.in-Done.ensures.row ∙ c.loop-left.invariant.row;
       locals = c.in-Done.ensures.locals ∙ c.loop-left.invariant.locals;
-      room = room_after g.frame.room _ g.frame.job c.step_within.new.at c.step_within.new.stack c.step_within.new.locals c.step_within.new.owned c.step_within.new.shared (f.safe (omega (arith, c.loop-left.invariant.within, f.at.early, c.left_of-need.ensures, c.if-need-left.false)) c.in-Done.ensures.done.0) (c.in-Done.ensures.done.1 nowhere) c.in-Done.ensures.top;
+      room = room_after g.frame.room (effect g.frame.image nowhere c.fetch-instr.result.now (next_own o)) g.frame.job c.step_within.new.at c.step_within.new.stack c.step_within.new.locals c.step_within.new.owned c.step_within.new.shared (f.safe (omega (arith, c.loop-left.invariant.within, f.at.early, c.left_of-need.ensures, c.if-need-left.false)) c.in-Done.ensures.done.0) (c.in-Done.ensures.done.1 nowhere) c.in-Done.ensures.top;
     }
 
 pub returns-in_default : goal.returns-in_default
