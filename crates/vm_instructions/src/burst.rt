@@ -27,7 +27,6 @@ pub enum Halt {
 
 /// Runs a process, which has no ticks to burn, for so many ticks, up to an instruction that others
 /// see or an exception.
-#[tactic(none)]
 pub fn run(
     code: &[Instr],
     routines: &[RoutineHeader],
