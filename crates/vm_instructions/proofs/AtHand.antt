@@ -59,7 +59,7 @@ callers_below (m ∷ ms) row row' locals locals' base floor up same same' =
 -- what a frame at hand leaves, once it is put back
 pub put_back : (s : Inside) (stack : List Kept) (top : ℕ) (locals : List ℤ) → AreLaid s → length stack ≡ length s.operands.items - s.floor → length locals ≡ s.size - s.base → top ≤ length stack
     → laid_out (put_mid s.floor (length s.operands.items - s.floor) s.operands.items stack) (put_mid s.base (s.size - s.base) s.locals.items locals) s.marks.items s.floor (s.floor + top) s.base s.size
-        ≡ record (standing s) { locals = locals; operands = stacked top stack }
+    ≡ record (standing s) { locals = locals; operands = stacked top stack }
 put_back s stack top locals laid long long' within =
     let row : List Kept = put_mid s.floor (length s.operands.items - s.floor) s.operands.items stack in
     let words : List ℤ = put_mid s.base (s.size - s.base) s.locals.items locals in

@@ -152,12 +152,7 @@ pub(crate) fn store_local_at(
 }
 
 #[inline(always)]
-pub(crate) fn load_own(
-    top: &mut usize,
-    stack: &mut [Operand],
-    owned: &[i32],
-    word: i32,
-) -> Within
+pub(crate) fn load_own(top: &mut usize, stack: &mut [Operand], owned: &[i32], word: i32) -> Within
     requires room { top.old < length stack.old }
     requires word { HasWord owned.now word }
     ensures does { DoesOwned (i.LoadOwn word) (stacked top.old stack.old) owned.now result
@@ -170,12 +165,7 @@ pub(crate) fn load_own(
 }
 
 #[inline(always)]
-pub(crate) fn store_own(
-    top: &mut usize,
-    stack: &[Operand],
-    owned: &mut [i32],
-    word: i32,
-) -> Within
+pub(crate) fn store_own(top: &mut usize, stack: &[Operand], owned: &mut [i32], word: i32) -> Within
     requires first { IsValueFirst (stacked top.old stack.now) }
     requires within { top.old ≤ length stack.now }
     requires word { HasWord owned.old word }
@@ -247,12 +237,7 @@ pub(crate) fn store_own_at(
 }
 
 #[inline(always)]
-pub(crate) fn load_mon(
-    top: &mut usize,
-    stack: &mut [Operand],
-    shared: &[i32],
-    word: i32,
-) -> Within
+pub(crate) fn load_mon(top: &mut usize, stack: &mut [Operand], shared: &[i32], word: i32) -> Within
     requires room { top.old < length stack.old }
     requires word { HasWord shared.now word }
     ensures does { DoesShared word (i.LoadMon word) (stacked top.old stack.old) shared.now result
@@ -265,12 +250,7 @@ pub(crate) fn load_mon(
 }
 
 #[inline(always)]
-pub(crate) fn store_mon(
-    top: &mut usize,
-    stack: &[Operand],
-    shared: &mut [i32],
-    word: i32,
-) -> Within
+pub(crate) fn store_mon(top: &mut usize, stack: &[Operand], shared: &mut [i32], word: i32) -> Within
     requires first { IsValueFirst (stacked top.old stack.now) }
     requires within { top.old ≤ length stack.now }
     requires word { HasWord shared.old word }
