@@ -1,11 +1,10 @@
 -- What an instruction does to the parts of a process, and to the process.
-use Rattle.std.proofs.Common.{◌≡◌, ℕ, List, refl, ap, sym, subst, ◌∙◌}
+use Rattle.std.proofs.Common.{◌≡◌, ℕ, List, refl, sym, subst}
 use Rattle.std.specs.Prelude.{ℤ, true}
 use Rattle.machine_isa.specs.declared.instr.Instr.{Instr}
-use Rattle.machine_semantics.specs.Image.{Image, Process}
-use Rattle.machine_semantics.specs.State.{Caller, Job, State}
-use Rattle.machine_semantics.specs.Effect.{Own, Outcome, effect}
-use Rattle.machine_semantics.specs.Starts.{raised}
+use Rattle.machine_semantics.specs.Image.{Image}
+use Rattle.machine_semantics.specs.State.{Job, State}
+use Rattle.machine_semantics.specs.Effect.{Own, effect}
 use Rattle.vm_instructions.specs.Frames.{Frames}
 use Rattle.vm_instructions.specs.declared.step_result.StepResult.{StepResult}
 use Rattle.vm_instructions.specs.declared.step_result.StepResult.TheVariants as came

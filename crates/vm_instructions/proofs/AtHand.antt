@@ -1,25 +1,24 @@
 -- The innermost frame at hand, and put back.
-use Rattle.std.proofs.Common.{◌≡◌, ◌≤◌, ◌<◌, ◌+◌, ◌-◌, ◌*◌, ◌++◌, ℕ, List, [], ◌∷◌, length, reverse, map, take, drop, arith, refl, ap, sym, subst, ◌∙◌}
+use Rattle.std.proofs.Common.{◌≡◌, ◌≤◌, ◌+◌, ◌-◌, ◌*◌, ◌++◌, ℕ, List, [], ◌∷◌, length, reverse, map, take, drop, arith, refl, ap, sym, ◌∙◌}
 use Rattle.std.specs.Prelude.{ℤ}
 use Rattle.std.proofs.Math.Seq.{drop-append_seam}
 use Rattle.std.proofs.Math.ListN.{drop_of_length-le}
-use Rattle.std.proofs.lemmas.List.{with_items_is, append-nil, take-take, drop-take, length-append, length-take, length-drop, length-map, length-reverse}
+use Rattle.std.proofs.lemmas.List.{with_items_is, append-nil, take-take, drop-take, length-append, length-take, length-drop, length-reverse}
 use Rattle.std.proofs.lemmas.Slice.{take-put_mid, take-put_mid_below}
 use borrow.Rule.Slice.PartMut.{put_mid}
 use borrow.Rule.Slice.PartAt.{part_to_end}
 use Rattle.std.specs.Vec.{with_items}
-use Rattle.machine_semantics.specs.State.{Operand, Caller, Job, stack_below, stack_of}
-use Rattle.machine_semantics.specs.Effect.{Own}
+use Rattle.machine_semantics.specs.State.{Operand, Caller, Job, stack_below}
 use Rattle.vm_instructions.specs.declared.operand.Operand.{Operand as Kept}
 use Rattle.vm_instructions.specs.declared.frames.Mark.{Mark}
 use Rattle.vm_instructions.specs.declared.frames.Frames.TheInside.{Inside}
-use Rattle.vm_instructions.specs.Frames.{Frames, operand_of, used}
+use Rattle.vm_instructions.specs.Frames.{Frames, operand_of}
 use Rattle.vm_instructions.specs.Inside.{part, operands_of, callers_of, laid_out, standing, Ascend, AreLaid}
 use Rattle.vm_instructions.specs.Stack.{Fits, IsWithinRoom, own_in, stacked}
 use Rattle.vm_instructions.specs.Silent.{job_of, own_of}
 use Rattle.vm_instructions.specs.declared.cursor.Cursor.{Cursor}
 use Rattle.vm_instructions.specs.declared.activation.Activation.{Activation}
-use Rattle.vm_instructions.proofs.Rows.{below_is, used_is}
+use Rattle.vm_instructions.proofs.Rows.{below_is}
 
 -- its operands stand in the rest of the row
 pub opened : (floor top : ℕ) (row : List Kept) → floor ≤ top → stacked (top - floor) (drop floor row) ≡ operands_of floor top row

@@ -1,9 +1,8 @@
 -- Elements of arrays.
-use Rattle.std.proofs.Common.{◌≡◌, ◌<◌, ◌+◌, ℕ, zero, suc, Bool, true, false, List, ◌∷◌, Option, Some, None, length, set, get_or, refl, ap, sym, subst, ◌∙◌}
+use Rattle.std.proofs.Common.{◌≡◌, ◌<◌, ℕ, true, List, ◌∷◌, Some, length, get_or, refl, subst}
 use Rattle.std.specs.Prelude.{ℤ, pos, ◌+ℤ◌, ◌-ℤ◌, slice_get, slice_set}
 use Rattle.std.proofs.lemmas.Option.{slice_get-get_or}
 use Rattle.machine_isa.specs.declared.instr.Instr.TheVariants as i
-use Rattle.machine_semantics.specs.Image.{Image}
 use Rattle.machine_semantics.specs.State.{Operand, Value}
 use Rattle.machine_semantics.specs.Effect.{is_reached}
 use Rattle.vm_instructions.specs.Steps.{DoesLocal, DoesOwned, LoadsShared, StoresShared, ReachesMon, ReachesMonFirst, ReachesMonLast, is_inside_array, HasWord, Reaches, ReachesFirst, ReachesLast}

@@ -1,5 +1,5 @@
 -- One more instruction of a row.
-use Rattle.std.proofs.Common.{◌≡◌, ◌≢◌, ◌≤◌, ◌<◌, ◌+◌, ◌-◌, ◌⊎◌, ℕ, List, true, false, Some, length, refl, sym, ap, subst, ◌∙◌, arith}
+use Rattle.std.proofs.Common.{◌≡◌, ◌≢◌, ◌≤◌, ◌<◌, ◌+◌, ◌-◌, ℕ, List, true, Some, length, refl, sym, ap, subst, ◌∙◌, arith}
 use Rattle.std.specs.Prelude.{ℤ, slice_get}
 use Rattle.std.proofs.lemmas.Option.{slice_get_within}
 use Rattle.machine_isa.specs.declared.instr.Instr.{Instr}
@@ -9,12 +9,12 @@ use Rattle.machine_semantics.specs.State.{State}
 use Rattle.machine_semantics.specs.Effect.{Own, Goes, Raises, effect}
 use Rattle.vm_instructions.specs.Rows.{Ended, Spends}
 use Rattle.vm_instructions.specs.Silent.{IsOf, IsSafe, own_of}
-use Rattle.vm_instructions.specs.Within.{Beyond, GoesWithin, HasDoneWithin, IsBeyond}
+use Rattle.vm_instructions.specs.Within.{GoesWithin, HasDoneWithin, IsBeyond}
 use Rattle.vm_instructions.specs.declared.activation.Activation.{Activation as Kept}
 use Rattle.vm_instructions.specs.declared.calls.RoutineHeader.{RoutineHeader as Called}
 use Rattle.vm_instructions.specs.declared.within.Within.{Within}
 use Rattle.vm_instructions.specs.declared.within.Within.TheVariants as within
-use Rattle.vm_stretch.specs.Silent.{CanGo, IsAt, IsSafeFor, IsWithin, GoesTo, Leads, Begins, Follows, is_silent, next_own, nowhere}
+use Rattle.vm_stretch.specs.Silent.{CanGo, IsAt, IsSafeFor, IsWithin, Leads, Begins, Follows, is_silent, next_own, nowhere}
 
 pub begins : (image : Image) (first : Own) (n : ℕ) → n ≡ 0 → Leads image first n first
 begins image first n is = subst (λ (k : ℕ). Leads image first k first) (sym is) Begins

@@ -1,10 +1,10 @@
 -- The stack takes no more words than it has.
-use Rattle.std.proofs.Common.{◌≡◌, ◌≢◌, ◌≤◌, ◌+◌, ◌-◌, ℕ, List, length, reverse, map, take, arith, refl, ap, sym, subst, ◌∙◌}
+use Rattle.std.proofs.Common.{◌≡◌, ◌≢◌, ◌≤◌, ◌+◌, ℕ, List, length, reverse, take, arith, refl, ap, sym, subst, ◌∙◌}
 use Rattle.std.specs.Prelude.{ℤ}
 use Rattle.std.proofs.lemmas.List.{length-take, length-map, length-reverse}
 use Rattle.machine_isa.specs.declared.instr.Instr.{Instr}
 use Rattle.machine_semantics.specs.Image.{Image}
-use Rattle.machine_semantics.specs.State.{Job, stack_below, stack_of}
+use Rattle.machine_semantics.specs.State.{Job, stack_below}
 use Rattle.machine_semantics.specs.Effect.{Own, Outcome, Goes, effect}
 use Rattle.vm_instructions.specs.declared.cursor.Cursor.{Cursor}
 use Rattle.vm_instructions.specs.declared.operand.Operand.{Operand as Kept}

@@ -1,14 +1,14 @@
 -- What an instruction that is not stuck finds.
-use Rattle.std.proofs.Common.{◌≡◌, ◌≤◌, ◌<◌, ◌+◌, ◌-◌, ◌++◌, ℕ, zero, suc, List, [], ◌∷◌, Bool, true, false, Option, Some, None, length, map, reverse, take, refl, ap, sym, subst, ◌∙◌, arith}
+use Rattle.std.proofs.Common.{◌≡◌, ◌≤◌, ◌<◌, ◌+◌, ◌-◌, ℕ, zero, suc, List, [], ◌∷◌, Bool, true, false, Option, Some, None, length, reverse, take, refl, ap, sym, subst, ◌∙◌, arith}
 use Rattle.std.specs.Prelude.{unsigned_abs, ℤ, pos, negsuc, ◌+ℤ◌, ◌-ℤ◌, cond, slice_get, IsSome}
 use Rattle.std.proofs.lemmas.Option.{slice_get_within}
 use Rattle.std.proofs.lemmas.List.{length-append, length-map, length-reverse, length-take}
 use Rattle.machine_isa.specs.declared.instr.Instr.{Instr}
 use Rattle.machine_isa.specs.declared.instr.Instr.TheVariants as i
 use Rattle.machine_semantics.specs.Image.{Image, Routine}
-use Rattle.machine_semantics.specs.State.{Job, Caller, Operand, Value, Counter, State, stack_of, zeros, stack_below}
-use Rattle.machine_semantics.specs.Effect.{Own, Outcome, Goes, Raises, Stuck, effect, load, store, word_at, take_one, one, element, set_own, set_local, set_shared, load_mon, store_mon, holding, count_from, give, back, is_reached, arguments, called, call, routine}
-use Rattle.vm_instructions.specs.Frames.{Frames, IsValueFirst, operand_of, used}
+use Rattle.machine_semantics.specs.State.{Job, Caller, Operand, Value, Counter, zeros, stack_below}
+use Rattle.machine_semantics.specs.Effect.{Own, Outcome, Raises, Stuck, effect, load, store, word_at, take_one, one, element, set_own, set_local, set_shared, load_mon, store_mon, holding, count_from, give, back, is_reached, arguments, called, call}
+use Rattle.vm_instructions.specs.Frames.{IsValueFirst, operand_of, used}
 use Rattle.vm_instructions.specs.Stack.{Fits, own_in, stacked}
 use Rattle.vm_instructions.specs.declared.cursor.Cursor.{Cursor}
 use Rattle.vm_instructions.specs.declared.operand.Operand.{Operand as Row}

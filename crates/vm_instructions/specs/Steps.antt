@@ -4,7 +4,7 @@ use Rattle.machine_isa.specs.declared.instr.Instr.{Instr}
 use Rattle.machine_isa.specs.declared.instr.Instr.TheVariants as i
 use Rattle.machine_semantics.specs.Image.{Image, Routine}
 use Rattle.vm_instructions.specs.declared.calls.RoutineHeader.{RoutineHeader as Called}
-use Rattle.machine_semantics.specs.State.{Operand, Value, Counter, Job, State}
+use Rattle.machine_semantics.specs.State.{Operand, Value, Counter, State}
 use Rattle.base.specs.Words.{is_zero}
 use Rattle.machine_semantics.specs.Effect.{Own, Outcome, Goes, Raises, Stuck, effect, holding, is_reached, routine}
 use Rattle.vm_instructions.specs.Frames.{Frames, IsCounterFirst}

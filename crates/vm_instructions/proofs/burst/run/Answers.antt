@@ -1,11 +1,10 @@
 -- Each turn is a row within a frame, and what goes beyond it.
-use Rattle.std.proofs.Common.{◌≡◌, ◌≢◌, ◌-◌, ◌<◌, ◌≤◌, ◌+◌, ℕ, List, refl, sym, subst, ap, ◌∙◌, arith}
+use Rattle.std.proofs.Common.{◌-◌, ℕ, refl, sym, subst, ◌∙◌, arith}
 use Rattle.machine_semantics.specs.Effect.{Own}
 use Rattle.vm_stretch.specs.Silent.{IsSafeFor, next_own}
 use Rattle.vm_instructions.specs.Silent.{own_of}
 use Rattle.vm_instructions.specs.Within.{Beyond, GoesWithin, IsBeyond}
 use Rattle.vm_instructions.specs.declared.within.Within.{Within}
-use Rattle.vm_instructions.specs.declared.within.Within.TheVariants as within
 use Rattle.vm_instructions.proofs.Leading.{Went, beyond, begins, ended_on, safe_on, spends_on, went, went_less, went_on}
 use Rattle.vm_instructions.proofs.burst.run.Goals as goal
 

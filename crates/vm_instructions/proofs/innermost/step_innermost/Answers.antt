@@ -1,11 +1,11 @@
 -- The innermost frame is taken apart and put back.
-use Rattle.std.proofs.Common.{◌≡◌, ◌≤◌, ◌+◌, ◌-◌, ◌∙◌, ℕ, List, length, arith, refl, rules, sym, subst, ap}
+use Rattle.std.proofs.Common.{◌≡◌, ◌≤◌, ◌+◌, ◌-◌, ◌∙◌, ℕ, length, arith, refl, rules, sym, subst, ap}
 use Rattle.machine_semantics.specs.Effect.{Own}
 use Rattle.vm_instructions.specs.Frames.{Frames}
 use Rattle.vm_instructions.specs.Stack.{own_in}
 use Rattle.vm_instructions.specs.Silent.{IsSafe, own_of}
 use Rattle.vm_instructions.specs.Within.{HasDoneWithin}
-use Rattle.vm_instructions.proofs.AtHand.{fits_at_hand, frames_back, laid_back, locals_long, own_at_hand, own_back, room_at_hand, stack_long}
+use Rattle.vm_instructions.proofs.AtHand.{fits_at_hand, frames_back, laid_back, own_at_hand, own_back, room_at_hand, stack_long}
 use Rattle.vm_instructions.proofs.Roomy.{left_less, left_within, length-stacked, room_still}
 use Rattle.vm_instructions.proofs.innermost.step_innermost.Goals as goal
 

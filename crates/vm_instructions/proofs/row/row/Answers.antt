@@ -1,5 +1,5 @@
 -- Each turn is one instruction more.
-use Rattle.std.proofs.Common.{true, ◌≡◌, ◌-◌, ◌<◌, ◌≤◌, ◌+◌, refl, sym, subst, ap, ◌∙◌, arith, length, ℕ, List}
+use Rattle.std.proofs.Common.{◌≡◌, ◌-◌, ◌<◌, ◌+◌, refl, subst, ap, ◌∙◌, arith, length, List}
 use Rattle.std.specs.Prelude.{slice_get}
 use Rattle.machine_isa.specs.declared.instr.Instr.{Instr}
 use Rattle.machine_isa.specs.Ticks.{ticks}
@@ -7,7 +7,7 @@ use Rattle.machine_semantics.specs.Effect.{Own, effect}
 use Rattle.vm_instructions.specs.Stack.{own_in}
 use Rattle.vm_stretch.specs.Silent.{next_own, nowhere}
 use Rattle.vm_instructions.proofs.Roomy.{length-stacked, room_after, room_beyond}
-use Rattle.vm_instructions.proofs.Leading.{Fetched, address, begins, fetched, follows, goes_beyond}
+use Rattle.vm_instructions.proofs.Leading.{address, begins, fetched, follows, goes_beyond}
 use Rattle.vm_instructions.proofs.row.row.Goals as goal
 
 pub loop-left-init : goal.loop-left-init

@@ -1,5 +1,5 @@
 -- What the frame leaves is done beyond it.
-use Rattle.std.proofs.Common.{◌≡◌, ◌∙◌, ℕ, refl, sym, subst}
+use Rattle.std.proofs.Common.{◌∙◌, ℕ, refl, sym, subst}
 use Rattle.vm_instructions.specs.Silent.{IsSafe, own_of}
 use Rattle.vm_instructions.specs.Within.{Beyond}
 use Rattle.vm_instructions.proofs.step.step.Goals as goal

@@ -1,5 +1,5 @@
 -- By the definition, at the element.
-use Rattle.std.proofs.Common.{w32, rules, map, reverse, take}
+use Rattle.std.proofs.Common.{w32, rules}
 use Rattle.std.specs.Prelude.{FitsSigned}
 use Rattle.std.proofs.lemmas.Int.{to_z-of_z}
 use Rattle.vm_instructions.specs.Stack.{stacked}
