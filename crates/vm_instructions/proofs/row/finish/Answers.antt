@@ -1,11 +1,10 @@
 -- The first instruction.
-use Rattle.std.proofs.Common.{◌≡◌, ◌≤◌, ◌-◌, ◌<◌, ◌+◌, refl, subst, ap, ◌∙◌, arith, length, ℕ, List}
+use Rattle.std.proofs.Common.{◌-◌, ◌<◌, ◌+◌, refl, subst, ap, ◌∙◌, arith, length, List}
 use Rattle.std.specs.Prelude.{slice_get}
 use Rattle.machine_isa.specs.declared.instr.Instr.{Instr}
-use Rattle.machine_isa.specs.Ticks.{ticks}
-use Rattle.machine_semantics.specs.Effect.{Own, effect}
+use Rattle.machine_semantics.specs.Effect.{Own}
 use Rattle.vm_instructions.specs.Stack.{own_in}
-use Rattle.vm_stretch.specs.Silent.{CanGo, next_own, nowhere}
+use Rattle.vm_stretch.specs.Silent.{CanGo, next_own}
 use Rattle.vm_instructions.proofs.Roomy.{length-stacked, room_still}
 use Rattle.vm_instructions.proofs.Leading.{address, begins, fetched, passes_none, passes_one, passes_spent, spends_in}
 use Rattle.vm_instructions.proofs.row.finish.Goals as goal

@@ -1,5 +1,5 @@
 -- Each turn is one instruction more.
-use Rattle.std.proofs.Common.{◌≡◌, ◌≤◌, ◌-◌, ◌<◌, ◌+◌, refl, sym, subst, ap, ◌∙◌, arith, length, ℕ, List}
+use Rattle.std.proofs.Common.{◌≡◌, ◌-◌, ◌<◌, ◌+◌, refl, sym, subst, ap, ◌∙◌, arith, length, ℕ, List}
 use Rattle.std.specs.Prelude.{slice_get}
 use Rattle.machine_isa.specs.declared.instr.Instr.{Instr}
 use Rattle.machine_isa.specs.Ticks.{ticks}
@@ -51,8 +51,7 @@ step_within-requires g c =
     let o : Own = own_in g.frame.job c.loop-left.at c.loop-left.stack c.loop-left.locals c.loop-left.owned c.loop-left.shared in
     let led = c.loop-left.invariant.passes.2 c.loop-left-test.true in
     let can : CanGo g.frame.image g.frame.room c.args.left.now (c.args.left.now - c.loop-left.left) o = c.requires.1.0 (c.args.left.now - c.loop-left.left) o led.0 (omega (arith, c.loop-left-test.true, c.loop-left.invariant.passes.0)) in
-    let f = fetched g.frame.image g.frame.room c.args.left.now (c.args.left.now - c.loop-left.left) o c.fetch-instr.result.now can (ap (λ (xs : List Instr). slice_get xs c.loop-left.at.place) c.requires.0 ∙ c.fetch-instr.ensures) in
-    (
+    let f = fetched g.frame.image g.frame.room c.args.left.now (c.args.left.now - c.loop-left.left) o c.fetch-instr.result.now can (ap (λ (xs : List Instr). slice_get xs c.loop-left.at.place) c.requires.0 ∙ c.fetch-instr.ensures) in (
       subst (λ (n : ℕ). IsSafe g.frame.image c.fetch-instr.result.now (own_in g.frame.job (record { place = c.loop-left.at.place + 1; done = n; top = c.loop-left.at.top }) c.loop-left.stack c.loop-left.locals c.loop-left.owned c.loop-left.shared) g.frame.room) (sym led.1) (f.safe (omega (arith, c.loop-left.invariant.passes.0, f.at.early, c.ticks.ensures, c.from-need.ensures, led.1, c.if-need-left.false))),
       (c.loop-left.invariant.top, omega (arith, c.requires.1.1.0.1, c.loop-left.invariant.row, c.loop-left.invariant.locals)),
     )

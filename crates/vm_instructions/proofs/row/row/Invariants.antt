@@ -1,4 +1,4 @@
-use Rattle.std.proofs.Common.{◌≡◌, ◌≤◌, ◌-◌, length}
+use Rattle.std.proofs.Common.{◌≡◌, ◌≤◌, length}
 use Rattle.vm_instructions.specs.Stack.{IsWithinRoom, own_in}
 use Rattle.vm_instructions.specs.Within.{Passes}
 use Rattle.vm_instructions.proofs.row.row.Given as goal
