@@ -22,15 +22,15 @@ struct Mark {
 /// The frames of a process, the innermost last. Once made, they take no memory.
 #[derive(Drop)]
 pub struct Frames {
-    operands: Vec<Operand>,
-    locals: Vec<i32>,
+    pub(crate) operands: Vec<Operand>,
+    pub(crate) locals: Vec<i32>,
     marks: Vec<Mark>,
     /// Where the innermost frame's operands begin, and how many operands there are.
-    floor: usize,
-    top: usize,
+    pub(crate) floor: usize,
+    pub(crate) top: usize,
     /// Where the innermost frame's locals begin, and how many locals there are.
-    base: usize,
-    size: usize,
+    pub(crate) base: usize,
+    pub(crate) size: usize,
 }
 
 impl Model for Frames {

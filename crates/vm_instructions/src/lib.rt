@@ -9,13 +9,18 @@
 mod activation;
 mod burst;
 pub mod calls;
+mod cursor;
 mod frames;
-pub mod jumps;
+mod innermost;
+mod jumps;
 mod operand;
-pub mod operands;
+mod operands;
+mod row;
+mod stack;
 pub mod step;
 mod step_result;
-pub mod words;
+mod within;
+mod words;
 
 pub use activation::{Activation, Ends};
 pub use burst::{Halt, run};

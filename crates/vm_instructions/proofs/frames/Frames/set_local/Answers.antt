@@ -1,5 +1,5 @@
 -- A local is a place in the row.
-use Rattle.std.proofs.Common.{◌<◌, ◌+◌, set, w32, ℤ, arith, refl, subst, sym, length, ap}
+use Rattle.std.proofs.Common.{◌<◌, w32, subst, sym, length}
 use Rattle.std.proofs.lemmas.Int.{to_z-of_z}
 use Rattle.vm_instructions.specs.Frames.{Frames}
 use Rattle.vm_instructions.proofs.Rows.{write_leaves}
