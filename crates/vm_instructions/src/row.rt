@@ -8,7 +8,7 @@ ghost use Rattle.vm_stretch.specs.Silent.{IsSafeFor};
 
 use crate::cursor::Cursor;
 use crate::operand::Operand;
-use crate::within::{Within, step_within};
+use crate::within::{Within, step_begun, step_next};
 use machine_isa::{Instr, ticks};
 
 /// The instruction at an address.
@@ -30,7 +30,7 @@ fn left_of(instr: &Instr, done: u32) -> u64
 }
 
 /// Passes an instruction that was begun before, and does it.
-#[inline(never)]
+#[inline(always)]
 fn finish(
     code: &[Instr],
     at: &mut Cursor,
@@ -68,7 +68,7 @@ fn finish(
     *left -= need;
     at.done = 0;
     at.place += 1;
-    step_within(instr, at, stack, locals, owned, shared)
+    step_begun(instr, at, stack, locals, owned, shared)
 }
 
 /// Passes the instruction that was begun before, if any, and does it.
@@ -144,7 +144,7 @@ pub(crate) fn row(
         }
         *left -= need;
         at.place += 1;
-        match step_within(instr, at, stack, locals, owned, shared) {
+        match step_next(instr, at, stack, locals, owned, shared) {
             Within::Done => {}
             beyond => return beyond,
         }

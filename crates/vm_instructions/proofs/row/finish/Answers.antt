@@ -33,8 +33,8 @@ returns-then-need-left-clause-goes g c =
     let new : Own = own_in g.frame.job (record { place = c.args.at.now.place; done = c.args.at.now.done + c.args.left.now; top = c.args.at.now.top }) c.args.stack.now c.args.locals.now c.args.owned.now c.args.shared.now in
     passes_spent g.frame.image first new c.args.left.now (spends_in g.frame.image first first new 0 c.args.left.now c.args.left.now c.fetch-instr.result.now (begins g.frame.image first 0 refl) (omega arith) f.at (omega (arith, f.at.early, c.left_of-need.ensures, c.if-need-left.true)) refl)
 
-pub step_within-requires : goal.step_within-requires
-step_within-requires g c =
+pub step_begun-requires : goal.step_begun-requires
+step_begun-requires g c =
     let first : Own = own_in g.frame.job c.args.at.now c.args.stack.now c.args.locals.now c.args.owned.now c.args.shared.now in
     let can : CanGo g.frame.image g.frame.room c.args.left.now 0 first = c.requires.1.0 0 first (begins g.frame.image first 0 refl) (omega (arith, c.if-left-eq0.false)) in
     let f = fetched g.frame.image g.frame.room c.args.left.now 0 first c.fetch-instr.result.now can (ap (λ (xs : List Instr). slice_get xs c.args.at.now.place) c.requires.0 ∙ c.fetch-instr.ensures) in
@@ -45,11 +45,11 @@ returns-clause-goes g c =
     let first : Own = own_in g.frame.job c.args.at.now c.args.stack.now c.args.locals.now c.args.owned.now c.args.shared.now in
     let can : CanGo g.frame.image g.frame.room c.args.left.now 0 first = c.requires.1.0 0 first (begins g.frame.image first 0 refl) (omega (arith, c.if-left-eq0.false)) in
     let f = fetched g.frame.image g.frame.room c.args.left.now 0 first c.fetch-instr.result.now can (ap (λ (xs : List Instr). slice_get xs c.args.at.now.place) c.requires.0 ∙ c.fetch-instr.ensures) in
-    passes_one g.frame.image first (own_in g.frame.job c.step_within.new.at c.step_within.new.stack c.step_within.new.locals c.step_within.new.owned c.step_within.new.shared) c.args.left.now (c.args.left.now - c.left_of-need.result) c.step_within.result c.fetch-instr.result.now (omega arith) f.at (omega (arith, f.at.early, c.left_of-need.ensures, c.if-need-left.false)) c.step_within.ensures.done c.step_within.ensures.done_ticks refl refl
+    passes_one g.frame.image first (own_in g.frame.job c.step_begun.new.at c.step_begun.new.stack c.step_begun.new.locals c.step_begun.new.owned c.step_begun.new.shared) c.args.left.now (c.args.left.now - c.left_of-need.result) c.step_begun.result c.fetch-instr.result.now (omega arith) f.at (omega (arith, f.at.early, c.left_of-need.ensures, c.if-need-left.false)) c.step_begun.ensures.done c.step_begun.ensures.done_ticks refl refl
 
 pub returns-clause-room : goal.returns-clause-room
 returns-clause-room g c =
     let first : Own = own_in g.frame.job c.args.at.now c.args.stack.now c.args.locals.now c.args.owned.now c.args.shared.now in
     let can : CanGo g.frame.image g.frame.room c.args.left.now 0 first = c.requires.1.0 0 first (begins g.frame.image first 0 refl) (omega (arith, c.if-left-eq0.false)) in
     let f = fetched g.frame.image g.frame.room c.args.left.now 0 first c.fetch-instr.result.now can (ap (λ (xs : List Instr). slice_get xs c.args.at.now.place) c.requires.0 ∙ c.fetch-instr.ensures) in
-    room_still g.frame.image c.fetch-instr.result.now (next_own first) c.step_within.result g.frame.room c.args.at.now.top g.frame.job c.step_within.new.at c.step_within.new.stack c.step_within.new.locals c.step_within.new.owned c.step_within.new.shared (f.safe (omega (arith, f.at.early, c.left_of-need.ensures, c.if-need-left.false))) c.step_within.ensures.done (length-stacked c.args.at.now.top c.args.stack.now c.requires.1.1.0.0) (omega (arith, c.step_within.ensures.locals, c.requires.1.1.1)) c.step_within.ensures.top
+    room_still g.frame.image c.fetch-instr.result.now (next_own first) c.step_begun.result g.frame.room c.args.at.now.top g.frame.job c.step_begun.new.at c.step_begun.new.stack c.step_begun.new.locals c.step_begun.new.owned c.step_begun.new.shared (f.safe (omega (arith, f.at.early, c.left_of-need.ensures, c.if-need-left.false))) c.step_begun.ensures.done (length-stacked c.args.at.now.top c.args.stack.now c.requires.1.1.0.0) (omega (arith, c.step_begun.ensures.locals, c.requires.1.1.1)) c.step_begun.ensures.top

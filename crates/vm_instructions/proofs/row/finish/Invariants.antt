@@ -1,4 +1,4 @@
 use Rattle.vm_instructions.proofs.row.finish.Given as goal
 
-abbrev pub ghost-step_within : goal.ghost-step_within
-ghost-step_within g a = g.frame
+abbrev pub ghost-step_begun : goal.ghost-step_begun
+ghost-step_begun g a = g.frame

@@ -15,8 +15,8 @@ invariant-loop-left g l = record {
 abbrev pub decreases-loop-left : goal.decreases-loop-left
 decreases-loop-left g l = l.left
 
-abbrev pub ghost-step_within : goal.ghost-step_within
-ghost-step_within g a = g.frame
+abbrev pub ghost-step_next : goal.ghost-step_next
+ghost-step_next g a = g.frame
 
 abbrev pub ghost-catch_up : goal.ghost-catch_up
 ghost-catch_up g a = g.frame
