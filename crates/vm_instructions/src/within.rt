@@ -28,9 +28,9 @@ pub(crate) enum Within {
 }
 
 /// Does an instruction that stays in its frame; its process stands at the next already. Each of its
-/// three calls has a copy of its own, so that each is compiled into its caller.
+/// two calls has a copy of its own, so that the one of a row is compiled into the row's loop.
 #[inline(always)]
-fn step_within<const COPY: u8>(
+fn step_within<const IN_ROW: bool>(
     instr: &Instr,
     at: &mut Cursor,
     stack: &mut [Operand],
@@ -166,32 +166,7 @@ pub(crate) fn step_next(
     ensures locals { length locals.new ≡ length locals.old }
     ensures done_ticks { at.new.done ≡ at.old.done }
 {
-    step_within::<0>(instr, at, stack, locals, owned, shared)
-}
-
-/// The same, of an instruction that was begun before.
-#[inline(always)]
-pub(crate) fn step_begun(
-    instr: &Instr,
-    at: &mut Cursor,
-    stack: &mut [Operand],
-    locals: &mut [i32],
-    owned: &mut [i32],
-    shared: &mut [i32],
-) -> Within
-    ghost frame: { InFrame }
-    requires safe { IsSafe frame.image instr.now
-        (own_in frame.job at.old stack.old locals.old owned.old shared.old) frame.room }
-    requires fits { Fits frame.room frame.job at.old.top stack.old locals.old }
-    ensures done { HasDoneWithin frame.image instr.now
-        (own_in frame.job at.old stack.old locals.old owned.old shared.old) result
-        (own_in frame.job at.new stack.new locals.new owned.new shared.new) }
-    ensures top { at.new.top ≤ length stack.new }
-    ensures row { length stack.new ≡ length stack.old }
-    ensures locals { length locals.new ≡ length locals.old }
-    ensures done_ticks { at.new.done ≡ at.old.done }
-{
-    step_within::<1>(instr, at, stack, locals, owned, shared)
+    step_within::<true>(instr, at, stack, locals, owned, shared)
 }
 
 /// The same, of one instruction alone.
@@ -216,5 +191,5 @@ pub(crate) fn step_alone(
     ensures locals { length locals.new ≡ length locals.old }
     ensures done_ticks { at.new.done ≡ at.old.done }
 {
-    step_within::<2>(instr, at, stack, locals, owned, shared)
+    step_within::<false>(instr, at, stack, locals, owned, shared)
 }
