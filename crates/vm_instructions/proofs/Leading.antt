@@ -1,5 +1,5 @@
 -- One more instruction of a row.
-use Rattle.std.proofs.Common.{◌≡◌, ◌≢◌, ◌≤◌, ◌<◌, ◌+◌, ◌-◌, ℕ, List, true, Some, length, refl, sym, ap, subst, ◌∙◌, arith, inl, inr}
+use Rattle.std.proofs.Common.{◌≡◌, ◌≢◌, ◌≤◌, ◌<◌, ◌+◌, ◌-◌, ℕ, List, true, Some, length, refl, sym, ap, subst, ◌∙◌, arith}
 use Rattle.std.specs.Prelude.{ℤ, slice_get}
 use Rattle.std.proofs.lemmas.Option.{slice_get_within}
 use Rattle.machine_isa.specs.declared.instr.Instr.{Instr}
@@ -7,9 +7,9 @@ use Rattle.machine_isa.specs.Ticks.{ticks}
 use Rattle.machine_semantics.specs.Image.{Image}
 use Rattle.machine_semantics.specs.State.{State}
 use Rattle.machine_semantics.specs.Effect.{Own, Goes, Raises, effect}
-use Rattle.vm_instructions.specs.Rows.{Ended, Spends, stays}
+use Rattle.vm_instructions.specs.Rows.{Ended, Spends}
 use Rattle.vm_instructions.specs.Silent.{IsOf, IsSafe, own_of}
-use Rattle.vm_instructions.specs.Within.{GoesWithin, HasDoneWithin, IsBeyond, Passes, PassesOne}
+use Rattle.vm_instructions.specs.Within.{GoesWithin, HasDoneWithin, IsBeyond}
 use Rattle.vm_instructions.specs.declared.activation.Activation.{Activation as Kept}
 use Rattle.vm_instructions.specs.declared.calls.RoutineHeader.{RoutineHeader as Called}
 use Rattle.vm_instructions.specs.declared.within.Within.{Within}
@@ -119,39 +119,3 @@ pub went_on : (image : Image) (a first : Own) (n budget : ℕ) (came : Within) (
 went_on image a first n budget came left k mid new w other before time goes inside dispatch_ticks =
     let same = kept_inside image w.instr (next_own w.last) mid new came other w.done goes in
     follows image a w.last new (n + w.ended.n) k w.instr (leads_on image a first w.last n w.ended.n before w.ended.leads) w.ended.at goes (inside ∙ same.0) (dispatch_ticks ∙ same.1) (omega (arith, time, w.ended.time))
-
--- ---- up to where an instruction begins
-
-at_once : (o : Own) → o ≡ stays 0 o
-at_once o = let e : o.job.done ≡ o.job.done + 0 = omega arith in ap (λ (n : ℕ). record o { job = record (o.job) { done = n } }) e
-
-pub passes_led : (image : Image) (first : Own) (budget left : ℕ) (new : Own) → left ≤ budget → Leads image first (budget - left) new → new.job.done ≡ 0 → Passes image first budget left new
-passes_led image first budget left new less leads done = (less, (λ none. (budget - left, 0, new, leads, omega (arith, none, less), at_once new, inl refl)), (λ some. (leads, done)))
-
--- no tick is left to pass
-pub passes_none : (image : Image) (first : Own) (budget : ℕ) → budget ≡ 0 → Passes image first budget budget first
-passes_none image first budget none = (omega arith, (λ is. (0, 0, first, Begins, omega (arith, none), at_once first, inl refl)), (λ some. absurd (omega (arith, none, some))))
-
--- all ticks passed before it is
-pub passes_spent : (image : Image) (first new : Own) (budget : ℕ) → Spends image first budget new → Passes image first budget 0 new
-passes_spent image first new budget spends = (omega arith, (λ none. spends), (λ some. absurd (omega (arith, some))))
-
-pub spends_in : (image : Image) (first o new : Own) (n m budget : ℕ) (instr : Instr) → Leads image first n o → n + m ≡ budget → IsAt image o instr → o.job.done + m < ticks instr → new ≡ stays m o → Spends image first budget new
-spends_in image first o new n m budget instr leads whole at less is = (n, m, o, leads, whole, is, inr (instr, at, less))
-
-pub passes_one : (image : Image) (first new : Own) (budget left : ℕ) (came : Within) (instr : Instr) → left ≤ budget → IsAt image first instr → ticks instr - first.job.done ≡ budget - left → HasDoneWithin image instr (next_own first) came new → new.job.done ≡ 0 → new.job.inside ≡ first.job.inside
-    → new.job.dispatch_ticks ≡ first.job.dispatch_ticks → PassesOne image first budget came left new
-passes_one image first new budget left within.Done instr less at time done none inside dispatch_ticks = passes_led image first budget left new less (follows image first first new 0 (budget - left) instr Begins at done.1 inside dispatch_ticks (omega (arith, time))) none
-passes_one image first new budget left (within.Raises n) instr less at time done none inside dispatch_ticks = (first, instr, less, record { n = 0; leads = Begins; at = at; time = omega (arith, time) }, done)
-passes_one image first new budget left within.Seen instr less at time done none inside dispatch_ticks = (first, instr, less, record { n = 0; leads = Begins; at = at; time = omega (arith, time) }, done)
-passes_one image first new budget left (within.Calls n) instr less at time done none inside dispatch_ticks = (first, instr, less, record { n = 0; leads = Begins; at = at; time = omega (arith, time) }, done)
-passes_one image first new budget left within.Returns instr less at time done none inside dispatch_ticks = (first, instr, less, record { n = 0; leads = Begins; at = at; time = omega (arith, time) }, done)
-passes_one image first new budget left within.ReturnsValue instr less at time done none inside dispatch_ticks = (first, instr, less, record { n = 0; leads = Begins; at = at; time = omega (arith, time) }, done)
-
-pub goes_so : (image : Image) (first : Own) (budget : ℕ) (came : Within) (left : ℕ) (new : Own) → came ≢ within.Done → PassesOne image first budget came left new → GoesWithin image first budget came left new
-goes_so image first budget within.Done left new other passes = absurd (other refl)
-goes_so image first budget (within.Raises n) left new other passes = passes
-goes_so image first budget within.Seen left new other passes = passes
-goes_so image first budget (within.Calls n) left new other passes = passes
-goes_so image first budget within.Returns left new other passes = passes
-goes_so image first budget within.ReturnsValue left new other passes = passes

@@ -1,5 +1,5 @@
 -- What an instruction comes to in the frame in which it stands.
-use Rattle.std.specs.Prelude.{◌≡◌, ◌<◌, ◌≤◌, ◌-◌, ℕ, ℤ, List, true, false}
+use Rattle.std.specs.Prelude.{◌≡◌, ◌≤◌, ◌-◌, ℕ, ℤ, List, true, false}
 use Rattle.machine_isa.specs.declared.instr.Instr.{Instr}
 use Rattle.machine_isa.specs.declared.instr.Instr.TheVariants as i
 use Rattle.machine_semantics.specs.Image.{Image}
@@ -11,7 +11,7 @@ use Rattle.vm_instructions.specs.Silent.{IsOf, IsSafe, RaisesAs, job_of, own_of}
 use Rattle.vm_instructions.specs.declared.activation.Activation.{Activation as Kept}
 use Rattle.vm_instructions.specs.declared.calls.RoutineHeader.{RoutineHeader as Called}
 use Rattle.vm_instructions.specs.Rows.{Ended, Spends}
-use Rattle.vm_stretch.specs.Silent.{Leads, is_silent, next_own}
+use Rattle.vm_stretch.specs.Silent.{is_silent, next_own}
 
 -- in whose frame: the image, the activation with its callers, and the words of its stack
 pub record InFrame : Type 0 where
@@ -52,15 +52,6 @@ abbrev pub GoesWithin : Image → Own → ℕ → Within → ℕ → Own → Typ
 GoesWithin image first budget within.Done left new = Spends image first budget new
 GoesWithin image first budget came left new =
     (last : Own) × (instr : Instr) × (left ≤ budget) × Ended image first (budget - left) last instr × HasDoneWithin image instr (next_own last) came new
-
--- as far as this: all ticks passed, or those up to where an instruction begins
-abbrev pub Passes : Image → Own → ℕ → ℕ → Own → Type 0
-Passes image first budget left new = (left ≤ budget) × (left ≡ 0 → Spends image first budget new) × (0 < left → Leads image first (budget - left) new × (new.job.done ≡ 0))
-
--- an instruction is passed, or all ticks are before it is
-abbrev pub PassesOne : Image → Own → ℕ → Within → ℕ → Own → Type 0
-PassesOne image first budget within.Done left new = Passes image first budget left new
-PassesOne image first budget came left new = GoesWithin image first budget came left new
 
 -- the process has gone so far, which may go beyond its frame: the instruction can, and was done
 -- within the frame as far as it is

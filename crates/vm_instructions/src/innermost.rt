@@ -8,7 +8,7 @@ ghost use Rattle.vm_stretch.specs.Silent.{IsSafeFor};
 use crate::activation::Activation;
 use crate::cursor::Cursor;
 use crate::row::row;
-use crate::within::{Within, step_within};
+use crate::within::{Within, step_alone};
 use machine_isa::Instr;
 
 /// How many operands are left: an exception drops them.
@@ -49,7 +49,7 @@ pub(crate) fn step_innermost(
         done: job.done,
         top: frames.top - floor,
     };
-    let came = step_within(
+    let came = step_alone(
         instr,
         &mut at,
         &mut frames.operands[floor..],

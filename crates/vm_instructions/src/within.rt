@@ -27,9 +27,10 @@ pub(crate) enum Within {
     ReturnsValue,
 }
 
-/// Does an instruction that stays in its frame; its process stands at the next already.
+/// Does an instruction that stays in its frame; its process stands at the next already. Each of its
+/// two calls has a copy of its own, so that the one of a row is compiled into the row's loop.
 #[inline(always)]
-pub(crate) fn step_within(
+fn step_within<const IN_ROW: bool>(
     instr: &Instr,
     at: &mut Cursor,
     stack: &mut [Operand],
@@ -141,4 +142,54 @@ pub(crate) fn step_within(
         | Instr::Raise { .. }
         | Instr::End => Within::Seen,
     }
+}
+
+/// The same, in the loop of a row.
+#[inline(always)]
+pub(crate) fn step_next(
+    instr: &Instr,
+    at: &mut Cursor,
+    stack: &mut [Operand],
+    locals: &mut [i32],
+    owned: &mut [i32],
+    shared: &mut [i32],
+) -> Within
+    ghost frame: { InFrame }
+    requires safe { IsSafe frame.image instr.now
+        (own_in frame.job at.old stack.old locals.old owned.old shared.old) frame.room }
+    requires fits { Fits frame.room frame.job at.old.top stack.old locals.old }
+    ensures done { HasDoneWithin frame.image instr.now
+        (own_in frame.job at.old stack.old locals.old owned.old shared.old) result
+        (own_in frame.job at.new stack.new locals.new owned.new shared.new) }
+    ensures top { at.new.top ≤ length stack.new }
+    ensures row { length stack.new ≡ length stack.old }
+    ensures locals { length locals.new ≡ length locals.old }
+    ensures done_ticks { at.new.done ≡ at.old.done }
+{
+    step_within::<true>(instr, at, stack, locals, owned, shared)
+}
+
+/// The same, of one instruction alone.
+#[inline(always)]
+pub(crate) fn step_alone(
+    instr: &Instr,
+    at: &mut Cursor,
+    stack: &mut [Operand],
+    locals: &mut [i32],
+    owned: &mut [i32],
+    shared: &mut [i32],
+) -> Within
+    ghost frame: { InFrame }
+    requires safe { IsSafe frame.image instr.now
+        (own_in frame.job at.old stack.old locals.old owned.old shared.old) frame.room }
+    requires fits { Fits frame.room frame.job at.old.top stack.old locals.old }
+    ensures done { HasDoneWithin frame.image instr.now
+        (own_in frame.job at.old stack.old locals.old owned.old shared.old) result
+        (own_in frame.job at.new stack.new locals.new owned.new shared.new) }
+    ensures top { at.new.top ≤ length stack.new }
+    ensures row { length stack.new ≡ length stack.old }
+    ensures locals { length locals.new ≡ length locals.old }
+    ensures done_ticks { at.new.done ≡ at.old.done }
+{
+    step_within::<false>(instr, at, stack, locals, owned, shared)
 }

@@ -12,26 +12,26 @@ use Rattle.vm_instructions.proofs.innermost.step_innermost.Goals as goal
 pub overflow_sub-at : goal.overflow_sub-at
 overflow_sub-at g c = c.frames.invariant.operands_begin
 
-pub slice_bounds-step_within-count : goal.slice_bounds-step_within-count
-slice_bounds-step_within-count g c = omega (arith, ap length c.deref_mut.ensures.value, c.frames.invariant.operands_begin, c.frames.invariant.operands_room)
+pub slice_bounds-step_alone-count : goal.slice_bounds-step_alone-count
+slice_bounds-step_alone-count g c = omega (arith, ap length c.deref_mut.ensures.value, c.frames.invariant.operands_begin, c.frames.invariant.operands_room)
 
-pub slice_bounds-step_within-start : goal.slice_bounds-step_within-start
-slice_bounds-step_within-start g c = omega (arith, ap length c.deref_mut.ensures.value, c.frames.invariant.operands_begin, c.frames.invariant.operands_room)
+pub slice_bounds-step_alone-start : goal.slice_bounds-step_alone-start
+slice_bounds-step_alone-start g c = omega (arith, ap length c.deref_mut.ensures.value, c.frames.invariant.operands_begin, c.frames.invariant.operands_room)
 
-pub slice_bounds-step_within-end : goal.slice_bounds-step_within-end
-slice_bounds-step_within-end g c = omega arith
+pub slice_bounds-step_alone-end : goal.slice_bounds-step_alone-end
+slice_bounds-step_alone-end g c = omega arith
 
-pub slice_bounds-step_within-count-2 : goal.slice_bounds-step_within-count-2
-slice_bounds-step_within-count-2 g c = c.frames.invariant.locals_begin
+pub slice_bounds-step_alone-count-2 : goal.slice_bounds-step_alone-count-2
+slice_bounds-step_alone-count-2 g c = c.frames.invariant.locals_begin
 
-pub slice_bounds-step_within-start-2 : goal.slice_bounds-step_within-start-2
-slice_bounds-step_within-start-2 g c = c.frames.invariant.locals_begin
+pub slice_bounds-step_alone-start-2 : goal.slice_bounds-step_alone-start-2
+slice_bounds-step_alone-start-2 g c = c.frames.invariant.locals_begin
 
-pub slice_bounds-step_within-end-2 : goal.slice_bounds-step_within-end-2
-slice_bounds-step_within-end-2 g c = omega (arith, ap length c.deref_mut-2.ensures.value, c.frames.invariant.locals_room)
+pub slice_bounds-step_alone-end-2 : goal.slice_bounds-step_alone-end-2
+slice_bounds-step_alone-end-2 g c = omega (arith, ap length c.deref_mut-2.ensures.value, c.frames.invariant.locals_room)
 
-pub step_within-came-requires : goal.step_within-came-requires
-step_within-came-requires g c =
+pub step_alone-came-requires : goal.step_alone-came-requires
+step_alone-came-requires g c =
     let own = own_at_hand c.frames.inside c.args.job.now g.frame.job c.deref_mut.result.now c.deref_mut-2.result.now c.frames.invariant c.frames.view_is c.requires.0.job_is c.deref_mut.ensures.value c.deref_mut-2.ensures.value c.args.owned.now c.args.shared.now in
     let fits = fits_at_hand c.frames.inside c.args.job.now g.frame.job c.deref_mut.result.now c.deref_mut-2.result.now c.frames.invariant c.frames.view_is c.requires.0.job_is c.deref_mut.ensures.value c.deref_mut-2.ensures.value g.frame.room c.requires.0.room_is in (
       subst (λ (o : Own). IsSafe g.frame.image c.args.instr.now o g.frame.room) (sym own) (subst (λ (n : ℕ). IsSafe g.frame.image c.args.instr.now (own_of c.args.job.now c.args.owned.now c.args.shared.now) n) (sym c.requires.0.room_is) c.requires.1),
@@ -41,17 +41,17 @@ step_within-came-requires g c =
 pub overflow_add-frames : goal.overflow_add-frames
 overflow_add-frames g c =
     let s = c.frames.inside in
-    let less = left_less c.step_within-came.result c.step_within-came.new.at.top in
+    let less = left_less c.step_alone-came.result c.step_alone-came.new.at.top in
     let long = stack_long s c.args.job.now g.frame.job c.deref_mut.result.now c.deref_mut-2.result.now c.frames.invariant c.frames.view_is c.requires.0.job_is c.deref_mut.ensures.value c.deref_mut-2.ensures.value in
     let le : s.floor + c.left_after.result ≤ length s.operands.items =
-    omega (arith, less, long, c.left_after.ensures, c.step_within-came.ensures.row, c.step_within-came.ensures.top, c.frames.invariant.operands_begin, c.frames.invariant.operands_room) in
+    omega (arith, less, long, c.left_after.ensures, c.step_alone-came.ensures.row, c.step_alone-came.ensures.top, c.frames.invariant.operands_begin, c.frames.invariant.operands_room) in
     search rules
 
 pub invariant_of-frames : goal.invariant_of-frames
 invariant_of-frames g c =
     let s = c.frames.inside in
     let laid = c.frames.invariant in
-    let came = c.step_within-came in
+    let came = c.step_alone-came in
     let row = c.deref_mut.result.now in
     let words = c.deref_mut-2.result.now in
     let own = own_at_hand s c.args.job.now g.frame.job row words laid c.frames.view_is c.requires.0.job_is c.deref_mut.ensures.value c.deref_mut-2.ensures.value c.args.owned.now c.args.shared.now in
@@ -70,7 +70,7 @@ pub returns-clause-done : goal.returns-clause-done
 returns-clause-done g c =
     let s = c.frames.inside in
     let laid = c.frames.invariant in
-    let came = c.step_within-came in
+    let came = c.step_alone-came in
     let row = c.deref_mut.result.now in
     let words = c.deref_mut-2.result.now in
     let own = own_at_hand s c.args.job.now g.frame.job row words laid c.frames.view_is c.requires.0.job_is c.deref_mut.ensures.value c.deref_mut-2.ensures.value c.args.owned.now c.args.shared.now in
@@ -85,7 +85,7 @@ returns-clause-done g c =
 
 pub returns-clause-room : goal.returns-clause-room
 returns-clause-room g c =
-    let came = c.step_within-came in
+    let came = c.step_alone-came in
     let left : c.left_after.result ≤ length came.new.stack = omega (arith, left_less came.result came.new.at.top, c.left_after.ensures, came.ensures.top) in
     let back = frames_back c.frames.inside c.args.job.now g.frame.job c.deref_mut.result.now c.deref_mut-2.result.now c.frames.invariant c.frames.view_is c.requires.0.job_is c.deref_mut.ensures.value c.deref_mut-2.ensures.value came.new.stack came.new.locals c.left_after.result came.ensures.row came.ensures.locals left in
     ap (λ (f : Frames). f.room) back

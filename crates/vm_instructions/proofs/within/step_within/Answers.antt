@@ -42,13 +42,13 @@ pub returns-in-LoadMon-clause-done : goal.returns-in-LoadMon-clause-done
 returns-in-LoadMon-clause-done g c =
     let f0 : FitsSigned w32 c.in-LoadMon.word = search rules in
     let does = simp to_z-of_z at c.load_mon.ensures.does in
-    of_shared g.frame.image c.args.instr.now g.frame.job c.args.at.now c.args.stack.now c.args.locals.now c.args.owned.now c.args.shared.now (i.LoadMon c.in-LoadMon.word) c.load_mon.new.top c.load_mon.new.stack c.load_mon.result c.in-LoadMon.is refl (λ s. does g.frame.image s (own_in g.frame.job c.args.at.now c.args.stack.now c.args.locals.now c.args.owned.now c.args.shared.now) ((safe.load_mon_reached g.frame.image c.args.instr.now g.frame.job c.args.at.now c.args.stack.now c.args.locals.now c.args.owned.now c.args.shared.now g.frame.room c.in-LoadMon.word c.in-LoadMon.is c.requires.0))) c.load_mon.ensures.acts
+    of_shared g.frame.image c.args.instr.now g.frame.job c.args.at.now c.args.stack.now c.args.locals.now c.args.owned.now c.args.shared.now (i.LoadMon c.in-LoadMon.word) c.load_mon.new.top c.load_mon.new.stack c.load_mon.result c.in-LoadMon.is refl (λ s. does g.frame.image s (own_in g.frame.job c.args.at.now c.args.stack.now c.args.locals.now c.args.owned.now c.args.shared.now) ((safe.load_mon_reached g.frame.image c.args.instr.now g.frame.job c.args.at.now c.args.stack.now c.args.locals.now c.args.owned.now c.args.shared.now g.frame.room c.in-LoadMon.word c.in-LoadMon.is c.requires.1.0))) c.load_mon.ensures.acts
 
 pub returns-in-StoreMon-clause-done : goal.returns-in-StoreMon-clause-done
 returns-in-StoreMon-clause-done g c =
     let f0 : FitsSigned w32 c.in-StoreMon.word = search rules in
     let does = simp to_z-of_z at c.store_mon.ensures.does in
-    on_shared g.frame.image c.args.instr.now g.frame.job c.args.at.now c.args.stack.now c.args.locals.now c.args.owned.now c.args.shared.now (i.StoreMon c.in-StoreMon.word) c.store_mon.new.top c.args.stack.now c.store_mon.new.shared c.store_mon.result c.in-StoreMon.is refl (λ s. does g.frame.image s (own_in g.frame.job c.args.at.now c.args.stack.now c.args.locals.now c.args.owned.now c.args.shared.now) ((safe.store_mon_reached g.frame.image c.args.instr.now g.frame.job c.args.at.now c.args.stack.now c.args.locals.now c.args.owned.now c.args.shared.now g.frame.room c.in-StoreMon.word c.in-StoreMon.is c.requires.0))) c.store_mon.ensures.acts c.store_mon.ensures.words
+    on_shared g.frame.image c.args.instr.now g.frame.job c.args.at.now c.args.stack.now c.args.locals.now c.args.owned.now c.args.shared.now (i.StoreMon c.in-StoreMon.word) c.store_mon.new.top c.args.stack.now c.store_mon.new.shared c.store_mon.result c.in-StoreMon.is refl (λ s. does g.frame.image s (own_in g.frame.job c.args.at.now c.args.stack.now c.args.locals.now c.args.owned.now c.args.shared.now) ((safe.store_mon_reached g.frame.image c.args.instr.now g.frame.job c.args.at.now c.args.stack.now c.args.locals.now c.args.owned.now c.args.shared.now g.frame.room c.in-StoreMon.word c.in-StoreMon.is c.requires.1.0))) c.store_mon.ensures.acts c.store_mon.ensures.words
 
 pub returns-in-LoadLocalAt-clause-done : goal.returns-in-LoadLocalAt-clause-done
 returns-in-LoadLocalAt-clause-done g c =
@@ -88,7 +88,7 @@ returns-in-LoadMonAt-clause-done g c =
     let f1 : FitsSigned w32 c.in-LoadMonAt.low = search rules in
     let f2 : FitsSigned w32 c.in-LoadMonAt.len = search rules in
     let does = simp to_z-of_z at c.load_mon_at.ensures.does in
-    of_shared g.frame.image c.args.instr.now g.frame.job c.args.at.now c.args.stack.now c.args.locals.now c.args.owned.now c.args.shared.now (i.LoadMonAt c.in-LoadMonAt.word c.in-LoadMonAt.low c.in-LoadMonAt.len) c.load_mon_at.new.top c.load_mon_at.new.stack c.load_mon_at.result c.in-LoadMonAt.is refl (λ s. does g.frame.image s (own_in g.frame.job c.args.at.now c.args.stack.now c.args.locals.now c.args.owned.now c.args.shared.now) ((safe.load_mon_at g.frame.image c.args.instr.now g.frame.job c.args.at.now c.args.stack.now c.args.locals.now c.args.owned.now c.args.shared.now g.frame.room c.in-LoadMonAt.word c.in-LoadMonAt.low c.in-LoadMonAt.len c.in-LoadMonAt.is c.requires.0).1)) c.load_mon_at.ensures.acts
+    of_shared g.frame.image c.args.instr.now g.frame.job c.args.at.now c.args.stack.now c.args.locals.now c.args.owned.now c.args.shared.now (i.LoadMonAt c.in-LoadMonAt.word c.in-LoadMonAt.low c.in-LoadMonAt.len) c.load_mon_at.new.top c.load_mon_at.new.stack c.load_mon_at.result c.in-LoadMonAt.is refl (λ s. does g.frame.image s (own_in g.frame.job c.args.at.now c.args.stack.now c.args.locals.now c.args.owned.now c.args.shared.now) ((safe.load_mon_at g.frame.image c.args.instr.now g.frame.job c.args.at.now c.args.stack.now c.args.locals.now c.args.owned.now c.args.shared.now g.frame.room c.in-LoadMonAt.word c.in-LoadMonAt.low c.in-LoadMonAt.len c.in-LoadMonAt.is c.requires.1.0).1)) c.load_mon_at.ensures.acts
 
 pub returns-in-StoreMonAt-clause-done : goal.returns-in-StoreMonAt-clause-done
 returns-in-StoreMonAt-clause-done g c =
@@ -96,7 +96,7 @@ returns-in-StoreMonAt-clause-done g c =
     let f1 : FitsSigned w32 c.in-StoreMonAt.low = search rules in
     let f2 : FitsSigned w32 c.in-StoreMonAt.len = search rules in
     let does = simp to_z-of_z at c.store_mon_at.ensures.does in
-    on_shared g.frame.image c.args.instr.now g.frame.job c.args.at.now c.args.stack.now c.args.locals.now c.args.owned.now c.args.shared.now (i.StoreMonAt c.in-StoreMonAt.word c.in-StoreMonAt.low c.in-StoreMonAt.len) c.store_mon_at.new.top c.args.stack.now c.store_mon_at.new.shared c.store_mon_at.result c.in-StoreMonAt.is refl (λ s. does g.frame.image s (own_in g.frame.job c.args.at.now c.args.stack.now c.args.locals.now c.args.owned.now c.args.shared.now) ((safe.store_mon_at g.frame.image c.args.instr.now g.frame.job c.args.at.now c.args.stack.now c.args.locals.now c.args.owned.now c.args.shared.now g.frame.room c.in-StoreMonAt.word c.in-StoreMonAt.low c.in-StoreMonAt.len c.in-StoreMonAt.is c.requires.0).1)) c.store_mon_at.ensures.acts c.store_mon_at.ensures.words
+    on_shared g.frame.image c.args.instr.now g.frame.job c.args.at.now c.args.stack.now c.args.locals.now c.args.owned.now c.args.shared.now (i.StoreMonAt c.in-StoreMonAt.word c.in-StoreMonAt.low c.in-StoreMonAt.len) c.store_mon_at.new.top c.args.stack.now c.store_mon_at.new.shared c.store_mon_at.result c.in-StoreMonAt.is refl (λ s. does g.frame.image s (own_in g.frame.job c.args.at.now c.args.stack.now c.args.locals.now c.args.owned.now c.args.shared.now) ((safe.store_mon_at g.frame.image c.args.instr.now g.frame.job c.args.at.now c.args.stack.now c.args.locals.now c.args.owned.now c.args.shared.now g.frame.room c.in-StoreMonAt.word c.in-StoreMonAt.low c.in-StoreMonAt.len c.in-StoreMonAt.is c.requires.1.0).1)) c.store_mon_at.ensures.acts c.store_mon_at.ensures.words
 
 pub returns-in-Neg-clause-done : goal.returns-in-Neg-clause-done
 returns-in-Neg-clause-done g c =
@@ -200,54 +200,54 @@ load_local_at-requires-clause-word g c =
     let f0 : FitsSigned w32 c.in-LoadLocalAt.word = search rules in
     let f1 : FitsSigned w32 c.in-LoadLocalAt.low = search rules in
     let f2 : FitsSigned w32 c.in-LoadLocalAt.len = search rules in
-    simp to_z-of_z ((safe.load_local_at g.frame.image c.args.instr.now g.frame.job c.args.at.now c.args.stack.now c.args.locals.now c.args.owned.now c.args.shared.now g.frame.room c.in-LoadLocalAt.word c.in-LoadLocalAt.low c.in-LoadLocalAt.len c.in-LoadLocalAt.is c.requires.0))
+    simp to_z-of_z ((safe.load_local_at g.frame.image c.args.instr.now g.frame.job c.args.at.now c.args.stack.now c.args.locals.now c.args.owned.now c.args.shared.now g.frame.room c.in-LoadLocalAt.word c.in-LoadLocalAt.low c.in-LoadLocalAt.len c.in-LoadLocalAt.is c.requires.1.0))
 
 pub store_local_at-requires-clause-word : goal.store_local_at-requires-clause-word
 store_local_at-requires-clause-word g c =
     let f0 : FitsSigned w32 c.in-StoreLocalAt.word = search rules in
     let f1 : FitsSigned w32 c.in-StoreLocalAt.low = search rules in
     let f2 : FitsSigned w32 c.in-StoreLocalAt.len = search rules in
-    simp to_z-of_z ((safe.store_local_at g.frame.image c.args.instr.now g.frame.job c.args.at.now c.args.stack.now c.args.locals.now c.args.owned.now c.args.shared.now g.frame.room c.in-StoreLocalAt.word c.in-StoreLocalAt.low c.in-StoreLocalAt.len c.in-StoreLocalAt.is c.requires.0))
+    simp to_z-of_z ((safe.store_local_at g.frame.image c.args.instr.now g.frame.job c.args.at.now c.args.stack.now c.args.locals.now c.args.owned.now c.args.shared.now g.frame.room c.in-StoreLocalAt.word c.in-StoreLocalAt.low c.in-StoreLocalAt.len c.in-StoreLocalAt.is c.requires.1.0))
 
 pub load_own_at-requires-clause-word : goal.load_own_at-requires-clause-word
 load_own_at-requires-clause-word g c =
     let f0 : FitsSigned w32 c.in-LoadOwnAt.word = search rules in
     let f1 : FitsSigned w32 c.in-LoadOwnAt.low = search rules in
     let f2 : FitsSigned w32 c.in-LoadOwnAt.len = search rules in
-    simp to_z-of_z ((safe.load_own_at g.frame.image c.args.instr.now g.frame.job c.args.at.now c.args.stack.now c.args.locals.now c.args.owned.now c.args.shared.now g.frame.room c.in-LoadOwnAt.word c.in-LoadOwnAt.low c.in-LoadOwnAt.len c.in-LoadOwnAt.is c.requires.0))
+    simp to_z-of_z ((safe.load_own_at g.frame.image c.args.instr.now g.frame.job c.args.at.now c.args.stack.now c.args.locals.now c.args.owned.now c.args.shared.now g.frame.room c.in-LoadOwnAt.word c.in-LoadOwnAt.low c.in-LoadOwnAt.len c.in-LoadOwnAt.is c.requires.1.0))
 
 pub store_own_at-requires-clause-word : goal.store_own_at-requires-clause-word
 store_own_at-requires-clause-word g c =
     let f0 : FitsSigned w32 c.in-StoreOwnAt.word = search rules in
     let f1 : FitsSigned w32 c.in-StoreOwnAt.low = search rules in
     let f2 : FitsSigned w32 c.in-StoreOwnAt.len = search rules in
-    simp to_z-of_z ((safe.store_own_at g.frame.image c.args.instr.now g.frame.job c.args.at.now c.args.stack.now c.args.locals.now c.args.owned.now c.args.shared.now g.frame.room c.in-StoreOwnAt.word c.in-StoreOwnAt.low c.in-StoreOwnAt.len c.in-StoreOwnAt.is c.requires.0))
+    simp to_z-of_z ((safe.store_own_at g.frame.image c.args.instr.now g.frame.job c.args.at.now c.args.stack.now c.args.locals.now c.args.owned.now c.args.shared.now g.frame.room c.in-StoreOwnAt.word c.in-StoreOwnAt.low c.in-StoreOwnAt.len c.in-StoreOwnAt.is c.requires.1.0))
 
 pub load_mon_at-requires-clause-word : goal.load_mon_at-requires-clause-word
 load_mon_at-requires-clause-word g c =
     let f0 : FitsSigned w32 c.in-LoadMonAt.word = search rules in
     let f1 : FitsSigned w32 c.in-LoadMonAt.low = search rules in
     let f2 : FitsSigned w32 c.in-LoadMonAt.len = search rules in
-    simp to_z-of_z ((safe.load_mon_at g.frame.image c.args.instr.now g.frame.job c.args.at.now c.args.stack.now c.args.locals.now c.args.owned.now c.args.shared.now g.frame.room c.in-LoadMonAt.word c.in-LoadMonAt.low c.in-LoadMonAt.len c.in-LoadMonAt.is c.requires.0).0)
+    simp to_z-of_z ((safe.load_mon_at g.frame.image c.args.instr.now g.frame.job c.args.at.now c.args.stack.now c.args.locals.now c.args.owned.now c.args.shared.now g.frame.room c.in-LoadMonAt.word c.in-LoadMonAt.low c.in-LoadMonAt.len c.in-LoadMonAt.is c.requires.1.0).0)
 
 pub store_mon_at-requires-clause-word : goal.store_mon_at-requires-clause-word
 store_mon_at-requires-clause-word g c =
     let f0 : FitsSigned w32 c.in-StoreMonAt.word = search rules in
     let f1 : FitsSigned w32 c.in-StoreMonAt.low = search rules in
     let f2 : FitsSigned w32 c.in-StoreMonAt.len = search rules in
-    simp to_z-of_z ((safe.store_mon_at g.frame.image c.args.instr.now g.frame.job c.args.at.now c.args.stack.now c.args.locals.now c.args.owned.now c.args.shared.now g.frame.room c.in-StoreMonAt.word c.in-StoreMonAt.low c.in-StoreMonAt.len c.in-StoreMonAt.is c.requires.0).0)
+    simp to_z-of_z ((safe.store_mon_at g.frame.image c.args.instr.now g.frame.job c.args.at.now c.args.stack.now c.args.locals.now c.args.owned.now c.args.shared.now g.frame.room c.in-StoreMonAt.word c.in-StoreMonAt.low c.in-StoreMonAt.len c.in-StoreMonAt.is c.requires.1.0).0)
 
 pub push-requires : goal.push-requires
-push-requires g c = (safe.push_place g.frame.image c.args.instr.now g.frame.job c.args.at.now c.args.stack.now c.args.locals.now c.args.owned.now c.args.shared.now g.frame.room c.in-Push.value c.in-Push.is c.requires.0 c.requires.1)
+push-requires g c = (safe.push_place g.frame.image c.args.instr.now g.frame.job c.args.at.now c.args.stack.now c.args.locals.now c.args.owned.now c.args.shared.now g.frame.room c.in-Push.value c.in-Push.is c.requires.1.0 c.requires.1.1)
 
 pub load_local-requires-clause-room : goal.load_local-requires-clause-room
-load_local-requires-clause-room g c = (safe.load_local_place g.frame.image c.args.instr.now g.frame.job c.args.at.now c.args.stack.now c.args.locals.now c.args.owned.now c.args.shared.now g.frame.room c.in-LoadLocal.word c.in-LoadLocal.is c.requires.0 c.requires.1)
+load_local-requires-clause-room g c = (safe.load_local_place g.frame.image c.args.instr.now g.frame.job c.args.at.now c.args.stack.now c.args.locals.now c.args.owned.now c.args.shared.now g.frame.room c.in-LoadLocal.word c.in-LoadLocal.is c.requires.1.0 c.requires.1.1)
 
 pub load_own-requires-clause-room : goal.load_own-requires-clause-room
-load_own-requires-clause-room g c = (safe.load_own_place g.frame.image c.args.instr.now g.frame.job c.args.at.now c.args.stack.now c.args.locals.now c.args.owned.now c.args.shared.now g.frame.room c.in-LoadOwn.word c.in-LoadOwn.is c.requires.0 c.requires.1)
+load_own-requires-clause-room g c = (safe.load_own_place g.frame.image c.args.instr.now g.frame.job c.args.at.now c.args.stack.now c.args.locals.now c.args.owned.now c.args.shared.now g.frame.room c.in-LoadOwn.word c.in-LoadOwn.is c.requires.1.0 c.requires.1.1)
 
 pub load_mon-requires-clause-room : goal.load_mon-requires-clause-room
-load_mon-requires-clause-room g c = (safe.load_mon_place g.frame.image c.args.instr.now g.frame.job c.args.at.now c.args.stack.now c.args.locals.now c.args.owned.now c.args.shared.now g.frame.room c.in-LoadMon.word c.in-LoadMon.is c.requires.0 c.requires.1)
+load_mon-requires-clause-room g c = (safe.load_mon_place g.frame.image c.args.instr.now g.frame.job c.args.at.now c.args.stack.now c.args.locals.now c.args.owned.now c.args.shared.now g.frame.room c.in-LoadMon.word c.in-LoadMon.is c.requires.1.0 c.requires.1.1)
 
 pub repeats-requires-clause-room : goal.repeats-requires-clause-room
-repeats-requires-clause-room g c = (safe.repeats_place g.frame.image c.args.instr.now g.frame.job c.args.at.now c.args.stack.now c.args.locals.now c.args.owned.now c.args.shared.now g.frame.room c.in-Repeats.turns c.in-Repeats.is c.requires.0 c.requires.1)
+repeats-requires-clause-room g c = (safe.repeats_place g.frame.image c.args.instr.now g.frame.job c.args.at.now c.args.stack.now c.args.locals.now c.args.owned.now c.args.shared.now g.frame.room c.in-Repeats.turns c.in-Repeats.is c.requires.1.0 c.requires.1.1)

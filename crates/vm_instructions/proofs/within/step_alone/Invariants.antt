@@ -1,4 +1,4 @@
-use Rattle.vm_instructions.proofs.row.finish.Given as goal
+use Rattle.vm_instructions.proofs.within.step_alone.Given as goal
 
 abbrev pub ghost-step_within : goal.ghost-step_within
 ghost-step_within g a = g.frame
