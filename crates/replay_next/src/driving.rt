@@ -13,6 +13,7 @@ ghost use Rattle.replay_next.specs.Ran.{ran_of};
 ghost use Rattle.replay_next.specs.Remains.{came_of, came_step, function_step, part_step, procedure_step};
 ghost use Rattle.replay_next.specs.Weights.{Costs, answers_weight, costs};
 
+use crate::at_once::at_once;
 use crate::beginning::evaluates;
 use crate::calling::{answering, given_back, statements};
 use crate::evaluating::evaluate;
@@ -337,17 +338,16 @@ fn next_part<'s, 'a>(
     let home = running.home;
     let depth = running.depth;
     match part {
-        Part::Expr(expr) => evaluate(scope, home, depth, memory, expr, remains),
+        Part::Expr(expr) => match at_once(scope, home, depth, memory, expr) {
+            None => evaluate(scope, home, depth, memory, expr, remains),
+            Some(answer) => {
+                let kept = &mut running.kept;
+                tell(scope, home, depth, memory, kept, remains, answer)
+            }
+        },
         Part::Answer(answer) => {
-            tell(
-                scope,
-                home,
-                depth,
-                memory,
-                &mut running.kept,
-                remains,
-                answer,
-            )
+            let kept = &mut running.kept;
+            tell(scope, home, depth, memory, kept, remains, answer)
         }
         Part::Call(called) => call_function(scope, memory, running, called, remains),
     }

@@ -11,6 +11,7 @@
 //! How much is left to do falls with each step (`specs/Weights.antt`).
 #![tactic(auto)]
 
+mod at_once;
 mod beginning;
 mod binding;
 mod calling;
