@@ -4,25 +4,25 @@ ghost use Rattle.std.specs.Prelude.{◌≡◌, ◌+◌, ◌-◌, ◌<◌, ◌≤
 ghost use Rattle.source_semantics.specs.Next as next_of_source;
 ghost use Rattle.source_semantics.specs.Run as run_of;
 ghost use Rattle.source_semantics.specs.Store as vars;
-ghost use Rattle.replay_state.specs.View.{answers_of, item_of, vars_of};
+ghost use Rattle.replay_state.specs.View.{action_of, answers_of, calls_of, item_of, vars_of};
 ghost use Rattle.replay_calls.specs.declared.lookup.EvalContext as code_scope;
 ghost use Rattle.replay_calls.specs.Reach.{area_of, memory_of, site_of};
 ghost use Rattle.replay_calls.specs.Seen.{answer_of};
-ghost use Rattle.replay_next.specs.Driving.{HasGone, answer_within, callers_run, callers_weight, driven_run, end_answer, end_weight, function_weight, function_within, others_in, others_of, procedure_weight, procedure_within, running_run, running_weight, waiting_weight};
+ghost use Rattle.replay_next.specs.Driving.{HasGone, after_run, after_weight, answer_within, callers_run, callers_weight, driven_run, end_answer, end_weight, function_weight, function_within, others_in, others_of, procedure_weight, procedure_within, running_run, running_weight, waiting_weight};
 ghost use Rattle.replay_next.specs.Ran.{ran_of};
 ghost use Rattle.replay_next.specs.Remains.{came_of, came_step, function_step, part_step, procedure_step};
 ghost use Rattle.replay_next.specs.Weights.{Costs, answers_weight, costs};
 
 use crate::at_once::at_once;
-use crate::beginning::evaluates;
+use crate::beginning::{evaluates, ran};
 use crate::calling::{answering, given_back, statements};
 use crate::evaluating::evaluate;
-use crate::items::{next_item, next_stmt, next_turn};
+use crate::items::{begin_item, leave_item, next_stmt, next_turn};
 use crate::remains::{
     Beside, CalledRoutine, Caller, Driven, FunctionCaller, FunctionEnd, ItemResult, Part,
     ProcedureCaller, Remains, Running, Step, StmtItem,
 };
-use crate::results::RunResult;
+use crate::results::{RunResult, Stop, stopped_before};
 use crate::telling::tell;
 use replay_calls::{Answer, EvalContext, Memory, home_in};
 use replay_state::{CallOwner, Item, ResultExpr};
@@ -296,6 +296,68 @@ fn returned<'s, 'a>(
     }
 }
 
+/// The next step of the call that runs, which goes on.
+fn goes_on<'s, 'a>(
+    scope: &EvalContext<'a>,
+    memory: &mut Memory<'s, 'a>,
+    running: &mut Running<'s, 'a>,
+) -> Result<Driven<'a>, AllocError>
+    ensures run { IfOk result (λ driven. driven_run scope.now running.new driven memory.new ≡
+        after_run scope.now running.old memory.old (run_of.goes (memory_of memory.old))) }
+    ensures falls { IfOk result (λ driven. HasGone scope.now running.new driven
+        (after_weight scope.now running.old)) }
+{
+    match running.rest.pop() {
+        None => returned(scope, memory, running, ItemResult::Ran(RunResult::Goes)),
+        Some(item) => {
+            let Running {
+                home,
+                depth,
+                kept,
+                rest,
+                ..
+            } = running;
+            Ok(Driven::At(begin_item(scope, *home, *depth, memory, kept, rest, item)?))
+        }
+    }
+}
+
+/// The next step of the call that runs, whose innermost loop is being left.
+fn exits_on<'s, 'a>(
+    scope: &EvalContext<'a>,
+    memory: &mut Memory<'s, 'a>,
+    running: &mut Running<'s, 'a>,
+) -> Result<Driven<'a>, AllocError>
+    ensures run { IfOk result (λ driven. driven_run scope.now running.new driven memory.new ≡
+        after_run scope.now running.old memory.old (run_of.exits (memory_of memory.old))) }
+    ensures falls { IfOk result (λ driven. HasGone scope.now running.new driven
+        (after_weight scope.now running.old)) }
+{
+    match running.rest.pop() {
+        None => returned(scope, memory, running, ItemResult::Ran(RunResult::Exits)),
+        Some(item) => Ok(Driven::At(ran(leave_item(memory, item)))),
+    }
+}
+
+/// The caller of the call that runs goes on, since that stops; its items remain.
+fn stops_with<'s, 'a>(
+    scope: &EvalContext<'a>,
+    memory: &mut Memory<'s, 'a>,
+    running: &mut Running<'s, 'a>,
+    stop: Stop<'a>,
+) -> Result<Driven<'a>, AllocError>
+    ensures run { IfOk result (λ driven. driven_run scope.now running.new driven memory.new ≡
+        after_run scope.now running.old memory.old (run_of.stops (action_of stop.entry.action)
+        (calls_of stop.entry.inside.items) (map item_of stop.entry.rest.items)
+        (memory_of memory.old))) }
+    ensures falls { IfOk result (λ driven. HasGone scope.now running.new driven
+        (after_weight scope.now running.old)) }
+{
+    let items = mem::replace(&mut running.rest, Vec::new(scope.alloc));
+    let whole = stopped_before(stop, items)?;
+    returned(scope, memory, running, ItemResult::Ran(whole))
+}
+
 /// The next step of the call that runs, which came to this.
 fn go_on<'s, 'a>(
     scope: &EvalContext<'a>,
@@ -308,17 +370,17 @@ fn go_on<'s, 'a>(
     ensures falls { IfOk result (λ driven. HasGone scope.now running.new driven
         (running_weight scope.now running.old (came_step came.entry))) }
 {
-    match running.rest.pop() {
-        None => returned(scope, memory, running, came),
-        Some(item) => {
-            let Running {
-                home,
-                depth,
-                kept,
-                ..
-            } = running;
-            Ok(Driven::At(next_item(scope, *home, *depth, memory, kept, came, item)?))
-        }
+    match came {
+        ItemResult::Gives(value) => returned(scope, memory, running, ItemResult::Gives(value)),
+        ItemResult::Ran(ran) => match ran {
+            RunResult::Goes => goes_on(scope, memory, running),
+            RunResult::Exits => exits_on(scope, memory, running),
+            RunResult::Stops(stop) => stops_with(scope, memory, running, stop),
+            RunResult::Fails(number) => {
+                let fails = ItemResult::Ran(RunResult::Fails(number));
+                returned(scope, memory, running, fails)
+            }
+        },
     }
 }
 
