@@ -473,12 +473,12 @@ pub fn run_whole<'s, 'a>(
     home: CallOwner,
     depth: usize,
     memory: &mut Memory<'s, 'a>,
-    items: &[Item<'a>],
+    items: Vec<Item<'a>>,
 ) -> Result<ItemResult<'a>, AllocError>
     ensures { IfOk result (λ came. came_of came (memory_of memory.new) ≡ next_of_source.run_items
-        (site_of scope.now home depth) (memory_of memory.old) (map item_of items.now)) }
+        (site_of scope.now home depth) (memory_of memory.old) (map item_of items.entry.items)) }
 {
-    let mut rest = Vec::from_slice(scope.alloc, items)?;
+    let mut rest = items;
     rest.reverse();
     let mut running = Running {
         home,

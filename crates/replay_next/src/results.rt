@@ -50,10 +50,7 @@ pub fn stops<'a>(
 }
 
 /// A stop after which these items remain besides, the outermost first.
-pub fn stopped_before<'a>(
-    stop: Stop<'a>,
-    items: Vec<Item<'a>>,
-) -> Result<RunResult<'a>, AllocError>
+pub fn stopped_before<'a>(stop: Stop<'a>, items: Vec<Item<'a>>) -> Result<RunResult<'a>, AllocError>
     ensures { IfOk result (λ ran. (m : run_of.Memory) → ran_of ran m ≡
         run_of.stops (action_of stop.entry.action) (calls_of stop.entry.inside.items)
         (map item_of stop.entry.rest.items ++ rest_of items.entry.items) m) }
