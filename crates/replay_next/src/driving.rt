@@ -19,10 +19,11 @@ use crate::calling::{answering, given_back, statements};
 use crate::evaluating::evaluate;
 use crate::items::{begin_item, leave_item, next_stmt, next_turn};
 use crate::remains::{
-    Beside, CalledRoutine, Caller, Driven, FunctionCaller, FunctionEnd, ItemResult, Part,
-    ProcedureCaller, Remains, Running, Step, StmtItem,
+    CalledRoutine, Caller, Driven, FunctionCaller, FunctionEnd, ItemResult, Part, ProcedureCaller,
+    Remains, Running, Step, StmtItem,
 };
 use crate::results::{RunResult, Stop, stopped_before};
+use crate::storing::back_beside;
 use crate::telling::tell;
 use replay_calls::{Answer, EvalContext, Memory, home_in};
 use replay_state::{CallOwner, Item, ResultExpr};
@@ -171,23 +172,6 @@ fn function_end<'a>(came: ItemResult<'a>, value: Option<ResultExpr<'a>>) -> Func
     }
 }
 
-/// The variables beside its own are those of a function's caller again.
-fn back_beside<'s, 'a>(
-    memory: &mut Memory<'s, 'a>,
-    kept: &mut Option<Beside<'s, 'a>>,
-    before: Option<Beside<'s, 'a>>,
-)
-    ensures process { area_of memory.new.process ≡ (others_of kept.old memory.old).process }
-    ensures monitor { area_of memory.new.monitor ≡ (others_of kept.old memory.old).monitor }
-    ensures own { vars_of memory.new.own.items ≡ vars_of memory.old.own.items }
-    ensures kept { kept.new ≡ before.entry }
-{
-    if let Some(beside) = mem::replace(kept, before) {
-        memory.process = beside.process;
-        memory.monitor = beside.monitor;
-    }
-}
-
 /// The caller of a function goes on, whose answer is this.
 fn answer_given<'s, 'a>(
     memory: &mut Memory<'s, 'a>,
@@ -296,6 +280,24 @@ fn returned<'s, 'a>(
     }
 }
 
+/// The step, or the one after it where it is a part of an expression.
+fn part_met<'s, 'a>(
+    scope: &EvalContext<'a>,
+    memory: &mut Memory<'s, 'a>,
+    running: &mut Running<'s, 'a>,
+    step: Step<'a>,
+) -> Result<Step<'a>, AllocError>
+    ensures run { IfOk result (λ next. running_run scope.now running.new next memory.new ≡
+        running_run scope.now running.old step.entry memory.old) }
+    ensures falls { IfOk result (λ next. running_weight scope.now running.new next ≤
+        running_weight scope.now running.old step.entry) }
+{
+    match step {
+        Step::Part(part, remains) => next_part(scope, memory, running, part, remains),
+        other => Ok(other),
+    }
+}
+
 /// The next step of the call that runs, which goes on.
 fn goes_on<'s, 'a>(
     scope: &EvalContext<'a>,
@@ -310,14 +312,12 @@ fn goes_on<'s, 'a>(
     match running.rest.pop() {
         None => returned(scope, memory, running, ItemResult::Ran(RunResult::Goes)),
         Some(item) => {
-            let Running {
-                home,
-                depth,
-                kept,
-                rest,
-                ..
-            } = running;
-            Ok(Driven::At(begin_item(scope, *home, *depth, memory, kept, rest, item)?))
+            let home = running.home;
+            let depth = running.depth;
+            let kept = &mut running.kept;
+            let rest = &mut running.rest;
+            let step = begin_item(scope, home, depth, memory, kept, rest, item)?;
+            Ok(Driven::At(part_met(scope, memory, running, step)?))
         }
     }
 }

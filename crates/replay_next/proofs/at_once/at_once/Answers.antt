@@ -1,4 +1,3 @@
-use Rattle.std.specs.Prelude.{◌≡◌, IfSome, Option, Some, None}
 use Rattle.std.proofs.Common.{◌∙◌, ap, sym}
 use Rattle.base.specs.Words.{with_word}
 use Rattle.source_semantics.specs.Run as run

@@ -1,4 +1,4 @@
-use Rattle.std.specs.Prelude.{List, None, reverse}
+use Rattle.std.specs.Prelude.{List, None}
 use Rattle.std.proofs.Common.{◌∙◌, ap}
 use Rattle.source_semantics.specs.Run as run
 use Rattle.source_semantics.specs.Next.{run_items}
