@@ -439,7 +439,8 @@ fn drive<'s, 'a>(
         }
         Step::Does(stmts) => {
             let rest = &mut running.rest;
-            Ok(Driven::At(next_stmt(scope, home, depth, rest, stmts)?))
+            let step = next_stmt(scope, home, depth, rest, stmts)?;
+            Ok(Driven::At(part_met(scope, memory, running, step)?))
         }
         Step::Turns { name, turns, body } => {
             let rest = &mut running.rest;
