@@ -16,7 +16,8 @@ ghost use Rattle.replay_next.specs.Weights.{Costs, bound_weight, costs, expr_wei
 use crate::binding::next_argument;
 use crate::calling::{entered, own_vars, statements};
 use crate::remains::{
-    BoundSoFar, CalledRoutine, ItemResult, Part, Remains, Step, StmtItem, TargetUse,
+    AwaitingCall, Binding, BoundSoFar, CalledRoutine, ItemResult, Part, Remains, Step, StmtItem,
+    TargetUse,
 };
 use crate::results::{RunResult, stops};
 use crate::visible::{device_here, monitor_here, waits};
@@ -48,6 +49,19 @@ pub fn evaluates<'a>(alloc: Global, part: &'a Expr, stmt: StmtItem<'a>) -> Step<
     Step::Part(Part::Expr(part), Remains { exprs, stmt })
 }
 
+/// A call, an argument of which is to be evaluated.
+fn awaiting<'a>(
+    alloc: Global,
+    found: ResolvedRoutine<'a>,
+    binding: Binding<'a>,
+) -> Result<Box<AwaitingCall<'a>>, OutOfMemory>
+    ensures found { IfOk result (λ call. call.value.found ≡ found.entry) }
+    ensures binding { IfOk result (λ call. call.value.binding ≡ binding.entry) }
+{
+    let call = Box::new(alloc, AwaitingCall { found, binding })?;
+    Ok(call)
+}
+
 /// A call of a procedure, its arguments so far.
 pub fn procedure_called<'a>(
     scope: &EvalContext<'a>,
@@ -63,7 +77,8 @@ pub fn procedure_called<'a>(
     match bound {
         BoundSoFar::Raised(number) => Ok(ran(RunResult::Fails(number))),
         BoundSoFar::Next(part, binding) => {
-            Ok(evaluates(scope.alloc, part, StmtItem::Perform { found, binding }))
+            let call = awaiting(scope.alloc, found, binding)?;
+            Ok(evaluates(scope.alloc, part, StmtItem::Perform(call)))
         }
         BoundSoFar::All(params) => {
             let own = own_vars(scope.alloc, scope.declarations, found.routine, params)?;
@@ -114,13 +129,8 @@ pub fn entry_called<'a>(
     match bound {
         BoundSoFar::Raised(number) => Ok(ran(RunResult::Fails(number))),
         BoundSoFar::Next(part, binding) => {
-            let item = StmtItem::Enter {
-                found,
-                binding,
-                mon,
-                target,
-            };
-            Ok(evaluates(scope.alloc, part, item))
+            let call = awaiting(scope.alloc, found, binding)?;
+            Ok(evaluates(scope.alloc, part, StmtItem::Enter { call, mon, target }))
         }
         BoundSoFar::All(params) => {
             let result = entered(scope, &found, mon, params, target)?;

@@ -4,24 +4,26 @@ ghost use Rattle.std.specs.Prelude.{◌≡◌, ◌+◌, ◌-◌, ◌<◌, ◌≤
 ghost use Rattle.source_semantics.specs.Next as next_of_source;
 ghost use Rattle.source_semantics.specs.Run as run_of;
 ghost use Rattle.source_semantics.specs.Store as vars;
-ghost use Rattle.replay_state.specs.View.{answers_of, item_of, vars_of};
+ghost use Rattle.replay_state.specs.View.{action_of, answers_of, calls_of, item_of, vars_of};
 ghost use Rattle.replay_calls.specs.declared.lookup.EvalContext as code_scope;
 ghost use Rattle.replay_calls.specs.Reach.{area_of, memory_of, site_of};
 ghost use Rattle.replay_calls.specs.Seen.{answer_of};
-ghost use Rattle.replay_next.specs.Driving.{HasGone, answer_within, callers_run, callers_weight, driven_run, end_answer, end_weight, function_weight, function_within, others_in, others_of, procedure_weight, procedure_within, running_run, running_weight, waiting_weight};
+ghost use Rattle.replay_next.specs.Driving.{HasGone, after_run, after_weight, answer_within, callers_run, callers_weight, driven_run, end_answer, end_weight, function_weight, function_within, others_in, others_of, procedure_weight, procedure_within, running_run, running_weight, waiting_weight};
 ghost use Rattle.replay_next.specs.Ran.{ran_of};
 ghost use Rattle.replay_next.specs.Remains.{came_of, came_step, function_step, part_step, procedure_step};
 ghost use Rattle.replay_next.specs.Weights.{Costs, answers_weight, costs};
 
-use crate::beginning::evaluates;
+use crate::at_once::at_once;
+use crate::beginning::{evaluates, ran};
 use crate::calling::{answering, given_back, statements};
 use crate::evaluating::evaluate;
-use crate::items::{next_item, next_stmt, next_turn};
+use crate::items::{begin_item, leave_item, next_stmt, next_turn};
 use crate::remains::{
-    Beside, CalledRoutine, Caller, Driven, FunctionCaller, FunctionEnd, ItemResult, Part,
-    ProcedureCaller, Remains, Running, Step, StmtItem,
+    CalledRoutine, Caller, Driven, FunctionCaller, FunctionEnd, ItemResult, Part, ProcedureCaller,
+    Remains, Running, Step, StmtItem,
 };
-use crate::results::RunResult;
+use crate::results::{RunResult, Stop, stopped_before};
+use crate::storing::back_beside;
 use crate::telling::tell;
 use out_of_memory::OutOfMemory;
 use replay_calls::{Answer, EvalContext, Memory, home_in};
@@ -171,23 +173,6 @@ fn function_end<'a>(came: ItemResult<'a>, value: Option<ResultExpr<'a>>) -> Func
     }
 }
 
-/// The variables beside its own are those of a function's caller again.
-fn back_beside<'s, 'a>(
-    memory: &mut Memory<'s, 'a>,
-    kept: &mut Option<Beside<'s, 'a>>,
-    before: Option<Beside<'s, 'a>>,
-)
-    ensures process { area_of memory.new.process ≡ (others_of kept.old memory.old).process }
-    ensures monitor { area_of memory.new.monitor ≡ (others_of kept.old memory.old).monitor }
-    ensures own { vars_of memory.new.own.items ≡ vars_of memory.old.own.items }
-    ensures kept { kept.new ≡ before.entry }
-{
-    if let Some(beside) = mem::replace(kept, before) {
-        memory.process = beside.process;
-        memory.monitor = beside.monitor;
-    }
-}
-
 /// The caller of a function goes on, whose answer is this.
 fn answer_given<'s, 'a>(
     memory: &mut Memory<'s, 'a>,
@@ -296,6 +281,84 @@ fn returned<'s, 'a>(
     }
 }
 
+/// The step, or the one after it where it is a part of an expression.
+fn part_met<'s, 'a>(
+    scope: &EvalContext<'a>,
+    memory: &mut Memory<'s, 'a>,
+    running: &mut Running<'s, 'a>,
+    step: Step<'a>,
+) -> Result<Step<'a>, OutOfMemory>
+    ensures run { IfOk result (λ next. running_run scope.now running.new next memory.new ≡
+        running_run scope.now running.old step.entry memory.old) }
+    ensures falls { IfOk result (λ next. running_weight scope.now running.new next ≤
+        running_weight scope.now running.old step.entry) }
+{
+    match step {
+        Step::Part(part, remains) => next_part(scope, memory, running, part, remains),
+        other => Ok(other),
+    }
+}
+
+/// The next step of the call that runs, which goes on.
+fn goes_on<'s, 'a>(
+    scope: &EvalContext<'a>,
+    memory: &mut Memory<'s, 'a>,
+    running: &mut Running<'s, 'a>,
+) -> Result<Driven<'a>, OutOfMemory>
+    ensures run { IfOk result (λ driven. driven_run scope.now running.new driven memory.new ≡
+        after_run scope.now running.old memory.old (run_of.goes (memory_of memory.old))) }
+    ensures falls { IfOk result (λ driven. HasGone scope.now running.new driven
+        (after_weight scope.now running.old)) }
+{
+    match running.rest.pop() {
+        None => returned(scope, memory, running, ItemResult::Ran(RunResult::Goes)),
+        Some(item) => {
+            let home = running.home;
+            let depth = running.depth;
+            let kept = &mut running.kept;
+            let rest = &mut running.rest;
+            let step = begin_item(scope, home, depth, memory, kept, rest, item)?;
+            Ok(Driven::At(part_met(scope, memory, running, step)?))
+        }
+    }
+}
+
+/// The next step of the call that runs, whose innermost loop is being left.
+fn exits_on<'s, 'a>(
+    scope: &EvalContext<'a>,
+    memory: &mut Memory<'s, 'a>,
+    running: &mut Running<'s, 'a>,
+) -> Result<Driven<'a>, OutOfMemory>
+    ensures run { IfOk result (λ driven. driven_run scope.now running.new driven memory.new ≡
+        after_run scope.now running.old memory.old (run_of.exits (memory_of memory.old))) }
+    ensures falls { IfOk result (λ driven. HasGone scope.now running.new driven
+        (after_weight scope.now running.old)) }
+{
+    match running.rest.pop() {
+        None => returned(scope, memory, running, ItemResult::Ran(RunResult::Exits)),
+        Some(item) => Ok(Driven::At(ran(leave_item(memory, item)))),
+    }
+}
+
+/// The caller of the call that runs goes on, since that stops; its items remain.
+fn stops_with<'s, 'a>(
+    scope: &EvalContext<'a>,
+    memory: &mut Memory<'s, 'a>,
+    running: &mut Running<'s, 'a>,
+    stop: Stop<'a>,
+) -> Result<Driven<'a>, OutOfMemory>
+    ensures run { IfOk result (λ driven. driven_run scope.now running.new driven memory.new ≡
+        after_run scope.now running.old memory.old (run_of.stops (action_of stop.entry.action)
+        (calls_of stop.entry.inside.items) (map item_of stop.entry.rest.items)
+        (memory_of memory.old))) }
+    ensures falls { IfOk result (λ driven. HasGone scope.now running.new driven
+        (after_weight scope.now running.old)) }
+{
+    let items = mem::replace(&mut running.rest, Vec::new(scope.alloc));
+    let whole = stopped_before(stop, items)?;
+    returned(scope, memory, running, ItemResult::Ran(whole))
+}
+
 /// The next step of the call that runs, which came to this.
 fn go_on<'s, 'a>(
     scope: &EvalContext<'a>,
@@ -308,17 +371,17 @@ fn go_on<'s, 'a>(
     ensures falls { IfOk result (λ driven. HasGone scope.now running.new driven
         (running_weight scope.now running.old (came_step came.entry))) }
 {
-    match running.rest.pop() {
-        None => returned(scope, memory, running, came),
-        Some(item) => {
-            let Running {
-                home,
-                depth,
-                kept,
-                ..
-            } = running;
-            Ok(Driven::At(next_item(scope, *home, *depth, memory, kept, came, item)?))
-        }
+    match came {
+        ItemResult::Gives(value) => returned(scope, memory, running, ItemResult::Gives(value)),
+        ItemResult::Ran(ran) => match ran {
+            RunResult::Goes => goes_on(scope, memory, running),
+            RunResult::Exits => exits_on(scope, memory, running),
+            RunResult::Stops(stop) => stops_with(scope, memory, running, stop),
+            RunResult::Fails(number) => {
+                let fails = ItemResult::Ran(RunResult::Fails(number));
+                returned(scope, memory, running, fails)
+            }
+        },
     }
 }
 
@@ -338,17 +401,16 @@ fn next_part<'s, 'a>(
     let home = running.home;
     let depth = running.depth;
     match part {
-        Part::Expr(expr) => evaluate(scope, home, depth, memory, expr, remains),
+        Part::Expr(expr) => match at_once(scope, home, depth, memory, expr) {
+            None => evaluate(scope, home, depth, memory, expr, remains),
+            Some(answer) => {
+                let kept = &mut running.kept;
+                tell(scope, home, depth, memory, kept, remains, answer)
+            }
+        },
         Part::Answer(answer) => {
-            tell(
-                scope,
-                home,
-                depth,
-                memory,
-                &mut running.kept,
-                remains,
-                answer,
-            )
+            let kept = &mut running.kept;
+            tell(scope, home, depth, memory, kept, remains, answer)
         }
         Part::Call(called) => call_function(scope, memory, running, called, remains),
     }
@@ -378,7 +440,8 @@ fn drive<'s, 'a>(
         }
         Step::Does(stmts) => {
             let rest = &mut running.rest;
-            Ok(Driven::At(next_stmt(scope, home, depth, rest, stmts)?))
+            let step = next_stmt(scope, home, depth, rest, stmts)?;
+            Ok(Driven::At(part_met(scope, memory, running, step)?))
         }
         Step::Turns { name, turns, body } => {
             let rest = &mut running.rest;
@@ -412,12 +475,12 @@ pub fn run_whole<'s, 'a>(
     home: CallOwner,
     depth: usize,
     memory: &mut Memory<'s, 'a>,
-    items: &[Item<'a>],
+    items: Vec<Item<'a>>,
 ) -> Result<ItemResult<'a>, OutOfMemory>
     ensures { IfOk result (λ came. came_of came (memory_of memory.new) ≡ next_of_source.run_items
-        (site_of scope.now home depth) (memory_of memory.old) (map item_of items.now)) }
+        (site_of scope.now home depth) (memory_of memory.old) (map item_of items.entry.items)) }
 {
-    let mut rest = Vec::from_slice(scope.alloc, items)?;
+    let mut rest = items;
     rest.reverse();
     let mut running = Running {
         home,

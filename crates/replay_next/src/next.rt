@@ -157,11 +157,8 @@ fn run_given<'a>(
         (site_of scope.now home depth) (memory_of memory.old)
         (next_of_source.given_item given (map item_of items.now))) }
 {
-    if given.is_none() {
-        return run_whole(scope, home, depth, memory, items);
-    }
     let items = given_items(scope.alloc, items, given)?;
-    run_whole(scope, home, depth, memory, items.as_slice())
+    run_whole(scope, home, depth, memory, items)
 }
 
 /// The next action from calls in progress, the innermost first, over these variables of the process

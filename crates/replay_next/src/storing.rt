@@ -4,7 +4,7 @@
 ghost use Rattle.std.specs.Prelude.{◌≡◌, IfOk, OnOk, cond, is_some};
 ghost use Rattle.source_semantics.specs.Run as run_of;
 ghost use Rattle.source_semantics.specs.Store.{slot_named};
-ghost use Rattle.replay_state.specs.View.{home_of, target_of};
+ghost use Rattle.replay_state.specs.View.{home_of, target_of, vars_of};
 ghost use Rattle.replay_calls.specs.Reach.{area_of, memory_of};
 ghost use Rattle.replay_calls.specs.Seen.{answer_of};
 ghost use Rattle.replay_next.specs.Driving.{IsGuarded, others_of};
@@ -54,6 +54,23 @@ fn set_aside<'s, 'a>(
     let process = area_aside(alloc, &mut memory.process)?;
     let monitor = area_aside(alloc, &mut memory.monitor)?;
     Ok(Beside { process, monitor })
+}
+
+/// The variables beside its own are those of a function's caller again.
+pub fn back_beside<'s, 'a>(
+    memory: &mut Memory<'s, 'a>,
+    kept: &mut Option<Beside<'s, 'a>>,
+    before: Option<Beside<'s, 'a>>,
+)
+    ensures process { area_of memory.new.process ≡ (others_of kept.old memory.old).process }
+    ensures monitor { area_of memory.new.monitor ≡ (others_of kept.old memory.old).monitor }
+    ensures own { vars_of memory.new.own.items ≡ vars_of memory.old.own.items }
+    ensures kept { kept.new ≡ before.entry }
+{
+    if let Some(beside) = mem::replace(kept, before) {
+        memory.process = beside.process;
+        memory.monitor = beside.monitor;
+    }
 }
 
 /// Before a store to this variable: if it is none of the call's own, all of those are kept as they

@@ -13,7 +13,7 @@ ghost use Rattle.replay_next.specs.Ran.{ran_of};
 use crate::beginning::{entry_called, procedure_called, ran, use_target};
 use crate::binding::bind;
 use crate::evaluating::tell_expr;
-use crate::remains::{Beside, ItemResult, Remains, Step, StmtItem};
+use crate::remains::{AwaitingCall, Beside, ItemResult, Remains, Step, StmtItem};
 use crate::results::{RunResult, stops};
 use crate::storing::store;
 use crate::visible::{ConditionResult, asserted, device_here, exited, puts, tested};
@@ -94,16 +94,13 @@ fn tell_stmt<'s, 'a>(
         StmtItem::Exit => Ok(ran(exited(answer))),
         StmtItem::Assertion => Ok(ran(asserted(answer))),
         StmtItem::Put(device) => { Ok(ran(puts(scope.alloc, device_here(scope, device), answer)?)) }
-        StmtItem::Perform { found, binding } => {
+        StmtItem::Perform(call) => {
+            let AwaitingCall { found, binding } = Box::into_inner(call);
             let bound = bind(scope, binding, answer)?;
             procedure_called(scope, found, bound)
         }
-        StmtItem::Enter {
-            found,
-            binding,
-            mon,
-            target,
-        } => {
+        StmtItem::Enter { call, mon, target } => {
+            let AwaitingCall { found, binding } = Box::into_inner(call);
             let bound = bind(scope, binding, answer)?;
             entry_called(scope, found, bound, mon, target)
         }
