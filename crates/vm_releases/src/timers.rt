@@ -118,6 +118,7 @@ impl Timers {
     }
 
     /// Begins a tick: does its lines, its periodic releases and its time-outs.
+    #[inline(always)]
     pub fn begin(
         &mut self,
         plan: &DecodedImage,
