@@ -5,5 +5,5 @@ pub mod Endings
 pub mod Once
 pub mod Fronts
 pub mod Right
-pub mod Quick
+pub mod OnePass
 pub mod Faults

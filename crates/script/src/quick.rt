@@ -4,10 +4,11 @@ ghost use Rattle.std.specs.Prelude.{◌≡◌, ◌≤◌, ◌<◌, ◌^◌, ◌+
 ghost use Rattle.std.specs.Fmt.{signed_decimal};
 ghost use Rattle.text_fields.specs.Fields.{IsWord};
 ghost use Rattle.script.specs.Saying.{Begins};
-ghost use Rattle.script.specs.Reading.{seen};
+ghost use Rattle.std.specs.List.{prefix_len};
+ghost use Rattle.script.specs.Reading.{is_in_word, seen};
 
 use crate::line::{LAST_TICK, Line};
-use text_fields::{Cut, cut_at};
+use text_fields::Cut;
 
 /// The first line of some bytes, and the bytes after it.
 #[derive(Clone, Copy)]
@@ -30,6 +31,10 @@ struct Valued<'a> {
     rest: &'a [u8],
 }
 
+/// More digits than a number of a line has, so that the steps over them stand in the code one by
+/// one.
+const MOST_DIGITS: usize = 11;
+
 /// Whether so many digits that the bytes begin with are a number: there is one, and the first of
 /// more is no 0.
 #[inline(always)]
@@ -49,19 +54,19 @@ fn number_to(bytes: &[u8], stop: u8, most: u64) -> Option<Front<'_>>
     ensures small { IfSome result (λ it. it.number ≤ most) }
 {
     let mut number = 0;
-    for at in 0..bytes.len() {
+    for at in 0..MOST_DIGITS {
+        if at >= bytes.len() {
+            return None;
+        }
         let byte = bytes[at];
-        if byte == stop {
-            if !is_spelled(bytes, at) {
+        if byte < b'0' || byte > b'9' {
+            if byte != stop || !is_spelled(bytes, at) {
                 return None;
             }
             return Some(Front {
                 number,
                 rest: &bytes[at + 1..],
             });
-        }
-        if byte < b'0' || byte > b'9' {
-            return None;
         }
         number = 10 * number + u64::from(byte - b'0');
         if number > most {
@@ -71,7 +76,7 @@ fn number_to(bytes: &[u8], stop: u8, most: u64) -> Option<Front<'_>>
     None
 }
 
-/// The value up to the LF, with its sign.
+/// The value up to the LF, which is not below zero.
 #[inline(always)]
 fn value_to(bytes: &[u8]) -> Option<Valued<'_>>
     ensures { IfSome result (λ it. bytes.now ≡ signed_decimal it.value ++ 10 ∷ it.rest.now) }
@@ -85,25 +90,36 @@ fn value_to(bytes: &[u8]) -> Option<Valued<'_>>
     }
 }
 
+/// How many bytes stand before the first space or LF, or before the end.
+#[inline(always)]
+fn word_len(bytes: &[u8]) -> usize
+    ensures value { result ≡ prefix_len is_in_word bytes.now }
+    ensures within { result ≤ length bytes.now }
+{
+    bytes
+        .iter()
+        .take_while(|byte| **byte != b' ' && **byte != b'\n')
+        .count()
+}
+
 /// The word up to the space, and the bytes behind it.
 #[inline(always)]
 fn word_to(bytes: &[u8]) -> Option<Cut<'_>>
     ensures found { IfSome result (λ cut. bytes.now ≡ cut.before.now ++ 32 ∷ cut.after.now) }
     ensures word { IfSome result (λ cut. IsWord cut.before.now) }
 {
-    match cut_at(bytes, b' ') {
-        None => None,
-        Some(cut) => {
-            if cut.before.is_empty() || cut_at(cut.before, b'\n').is_some() {
-                return None;
-            }
-            Some(cut)
-        }
+    let len = word_len(bytes);
+    if len == 0 || len == bytes.len() || bytes[len] != b' ' {
+        return None;
     }
+    Some(Cut {
+        before: &bytes[..len],
+        after: &bytes[len + 1..],
+    })
 }
 
 /// The first line of the bytes, where it sets a device to a value that is not below zero.
-#[tactic(auto, using(crate::proofs::Quick::set_begins))]
+#[tactic(auto, using(crate::proofs::OnePass::set_begins))]
 pub fn quick_line(bytes: &[u8]) -> Option<First<'_>>
     ensures { IfSome result (λ first. Begins bytes.now (seen first.line) first.rest.now) }
 {
