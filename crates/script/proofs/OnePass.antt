@@ -72,16 +72,6 @@ word_front bytes n is some within = record {
   no_line_feed = subst (λ k. Lacks 10 (take k bytes)) (sym is) (front_lacks 10 no_feed bytes);
 }
 
--- bytes before a byte, and those behind it
-pub cut_here : (bytes : List ℕ) (n stop : ℕ) → n < length bytes → get_or bytes n 0 ≡ stop → bytes ≡ take n bytes ++ stop ∷ take (length bytes - (n + 1)) (drop (n + 1) bytes)
-cut_here bytes n stop below here =
-    let on : suc n ≡ n + 1 = omega arith in
-    let rest : take (length bytes - (n + 1)) (drop (n + 1) bytes) ≡ drop (n + 1) bytes = take_all (length bytes - (n + 1)) (drop (n + 1) bytes) (simp length-drop (omega arith)) in
-    sym (take-append-drop n bytes)
-    ∙ ap (λ t. take n bytes ++ t) (drop-cons bytes n 0 below ∙ ap (λ k. get_or bytes n 0 ∷ drop k bytes) on)
-    ∙ ap (λ b. take n bytes ++ b ∷ drop (n + 1) bytes) here
-    ∙ ap (λ t. take n bytes ++ stop ∷ t) (sym rest)
-
 -- a line that sets a device, by its parts
 pub set_begins : (bytes timed named valued rest dev : List ℕ) (tick : ℕ) (value : ℤ) → tick < 1000000000 → IsWord dev → Is32 value → bytes ≡ decimal tick ++ 32 ∷ timed → timed ≡ 115 ∷ 101 ∷ 116 ∷ 32 ∷ named → named ≡ dev ++ 32 ∷ valued → valued ≡ signed_decimal value ++ 10 ∷ rest → Begins bytes (set tick dev value) rest
 set_begins bytes timed named valued rest dev tick value small word is32 one two three four = record {
