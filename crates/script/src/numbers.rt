@@ -9,14 +9,25 @@ use image::{DeviceName, ImageNames};
 use indexmap::IndexMap;
 use out_of_memory::OutOfMemory;
 use std::alloc::Global;
+use text_fields::is_same;
 
 /// Numbers by name.
 pub type SymbolNumbers<'a> = IndexMap<&'a [u8], u16>;
+
+/// So many names are compared before the map is asked.
+const FEW: usize = 4;
 
 /// The number of a name.
 pub fn find(numbers: &SymbolNumbers<'_>, name: &[u8]) -> Option<u16>
     ensures { result ≡ number_in numbers.now.entries name.now }
 {
+    for at in 0..FEW {
+        if let Some((key, number)) = numbers.get_index(at) {
+            if is_same(key, name) {
+                return Some(*number);
+            }
+        }
+    }
     numbers.get(name).copied()
 }
 
