@@ -70,7 +70,8 @@ fn monitors_spots<'a>(
     let mut base = 0;
     for monitor in monitors {
         let laid = laid_monitor(alloc, values, base, monitor)?;
-        base = behind(laid.word);
+        let end = laid.word;
+        base = behind(end);
         let spots = VarLocations::new(alloc, laid)?;
         tables.push(spots)?;
     }

@@ -29,14 +29,14 @@ loop-monitor-preserved c =
     let told : table ≡ monitor_table g base (monitor_of c.monitor-item.result) =
     same_table table _ _ (c.in_ok-spots.ensures.names ∙ c.in_ok-laid.ensures.places.names_are) (c.in_ok-spots.ensures.spots ∙ c.in_ok-laid.ensures.places.spots_are)
     in
-    let next : listed g c.behind.result rest ≡ listed g c.in_ok-laid.laid.word rest =
-    ap (λ w. listed g w rest) c.behind.ensures ∙ behind_same g c.in_ok-laid.laid.word (seen_monitors rest)
+    let next : listed g c.behind-base.result rest ≡ listed g c.in_ok-laid.laid.word rest =
+    ap (λ w. listed g w rest) c.behind-base.ensures ∙ behind_same g c.in_ok-laid.laid.word (seen_monitors rest)
     in
     record {
-      told = turn (listed g base) (listed g c.behind.result) c.loop-monitor.tables.items c.push.new.self.items items at c.monitor-item.result table (listed g 0 items)
+      told = turn (listed g base) (listed g c.behind-base.result) c.loop-monitor.tables.items c.push.new.self.items items at c.monitor-item.result table (listed g 0 items)
           (ap (λ t. t ∷ listed g (base + words_of g (monitor_vars (monitor_of c.monitor-item.result))) rest) (sym told) ∙ ap (λ b. table ∷ listed g b rest) (sym c.in_ok-laid.ensures.words) ∙ ap (λ (ts : List Table). table ∷ ts) (sym next))
           c.in_ok-push.ensures.items c.monitor-item.is c.loop-monitor-test.true c.loop-monitor.invariant.told;
-      low = omega (arith, c.behind.ensures);
+      low = omega (arith, c.behind-base.ensures);
     }
 
 pub returns : goal.returns
