@@ -1,5 +1,8 @@
 //! What a command puts.
 
+ghost use Rattle.std.specs.Prelude.{◌≡◌, [], IfOk};
+ghost use Rattle.outside.specs.Memory.{bytes_of};
+
 use command::whole_call;
 use outside::{MemorySink, RealFiles};
 use std::alloc::Global;
@@ -35,10 +38,13 @@ fn joined(alloc: Global, put: &[u8], told: &[u8]) -> io::Result<String> {
 }
 
 /// A sink that has taken nothing.
-fn sink(alloc: Global) -> io::Result<MemorySink> {
-    MemorySink::new(alloc, ROOM, Vec::new(alloc)).map_err(|_| io::Error::from(
-        io::ErrorKind::OutOfMemory,
-    ))
+fn sink(alloc: Global) -> io::Result<MemorySink>
+    ensures { IfOk result (λ sink. bytes_of sink ≡ []) }
+{
+    match MemorySink::new(alloc, ROOM, Vec::new(alloc)) {
+        Ok(sink) => Ok(sink),
+        Err(_) => Err(io::Error::from(io::ErrorKind::OutOfMemory)),
+    }
 }
 
 /// What `rte` puts for these words, and then what it tells.
