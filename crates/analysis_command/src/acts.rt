@@ -16,8 +16,9 @@ use command_answers::{Content, PreparedCall, Status, put};
 use command_refusals::{refuse_bytes, refuse_text};
 use compile::ProgramTextFault;
 use message_program::late_message;
+use out_of_memory::OutOfMemory;
 use static_rule::rule;
-use std::alloc::{AllocError, Global};
+use std::alloc::Global;
 use syntax_tree::{Place, Text};
 
 /// Where a fault of a whole text stands.
@@ -31,7 +32,7 @@ fn put_why<'a>(
     file: &str,
     bounds: JudgedBounds,
     over: u16,
-) -> Result<PreparedCall<'a>, AllocError>
+) -> Result<PreparedCall<'a>, OutOfMemory>
     ensures due { IfOk result (λ act. (text : List ℕ) → AreBoundsOf over text bounds →
         IsWhyDue over text (outcome_of act)) }
     ensures quiet { IfOk result IsQuiet }
@@ -55,7 +56,7 @@ fn why_of_bytes<'a>(
     file: &str,
     text: &[u8],
     over: u16,
-) -> Result<PreparedCall<'a>, AllocError>
+) -> Result<PreparedCall<'a>, OutOfMemory>
     requires { over ≤ 1000 }
     ensures due { IfOk result (λ act. IsWhyDue over text.now (outcome_of act)) }
     ensures quiet { IfOk result IsQuiet }
@@ -67,7 +68,7 @@ fn why_of_bytes<'a>(
         Err(ProgramTextFault::Text { number, place }) => {
             refuse_bytes(alloc, message, file, text, number, place)
         }
-        Err(ProgramTextFault::Memory) => Err(AllocError),
+        Err(ProgramTextFault::Memory(error)) => Err(error),
     }
 }
 
@@ -78,7 +79,7 @@ pub fn why_act<'a>(
     file: &str,
     content: &Content,
     over: u16,
-) -> Result<PreparedCall<'a>, AllocError>
+) -> Result<PreparedCall<'a>, OutOfMemory>
     requires { over ≤ 1000 }
     ensures due { IfOk result (λ act. (text : List ℕ) → IsContent longest_text content.now text →
         IsWhyDue over text (outcome_of act)) }
@@ -99,7 +100,7 @@ fn fit_of_bytes<'a>(
     file: &str,
     text: &[u8],
     over: u16,
-) -> Result<PreparedCall<'a>, AllocError>
+) -> Result<PreparedCall<'a>, OutOfMemory>
     requires { over ≤ 1000 }
     ensures due { IfOk result (λ act. IsFitDue over text.now (outcome_of act)) }
     ensures quiet { IfOk result IsQuiet }
@@ -111,7 +112,7 @@ fn fit_of_bytes<'a>(
         Err(ProgramTextFault::Text { number, place }) => {
             refuse_bytes(alloc, message, file, text, number, place)
         }
-        Err(ProgramTextFault::Memory) => Err(AllocError),
+        Err(ProgramTextFault::Memory(error)) => Err(error),
     }
 }
 
@@ -122,7 +123,7 @@ pub fn fit_act<'a>(
     file: &str,
     content: &Content,
     over: u16,
-) -> Result<PreparedCall<'a>, AllocError>
+) -> Result<PreparedCall<'a>, OutOfMemory>
     requires { over ≤ 1000 }
     ensures due { IfOk result (λ act. (text : List ℕ) → IsContent longest_text content.now text →
         IsFitDue over text (outcome_of act)) }

@@ -34,7 +34,7 @@ pub fn prepare_why<'a, F: Files>(
     let content = read(files, program, LONGEST_PROGRAM)?;
     match why_act(alloc, message, program, &content, over) {
         Ok(act) => Ok(act),
-        Err(_) => Err(PrepareError::Memory),
+        Err(error) => Err(PrepareError::Memory(error)),
     }
 }
 
@@ -59,6 +59,6 @@ pub fn prepare_fit<'a, F: Files>(
     let content = read(files, program, LONGEST_PROGRAM)?;
     match fit_act(alloc, message, program, &content, over) {
         Ok(act) => Ok(act),
-        Err(_) => Err(PrepareError::Memory),
+        Err(error) => Err(PrepareError::Memory(error)),
     }
 }

@@ -5,7 +5,8 @@ ghost use Rattle.image.specs.Raw.{image_of, routine_of};
 ghost use Rattle.analysis_command.specs.Goals.{goal_of, goal_place as defined_place, low_ceiling, AreGoals};
 
 use image::{RawImage, RawRoutine};
-use std::alloc::{AllocError, Global};
+use out_of_memory::OutOfMemory;
+use std::alloc::Global;
 
 /// Whether the monitor is there and its ceiling is at most the rank.
 #[tactic(auto, using(crate::proofs::Places::ceiling_there))]
@@ -54,7 +55,7 @@ pub fn goals(
     places: &[usize],
     rank: u16,
     block: u64,
-) -> Result<Vec<Option<usize>>, AllocError>
+) -> Result<Vec<Option<usize>>, OutOfMemory>
     requires { length places.now ≡ length image.now.routines }
     ensures { IfOk result (λ v. AreGoals (image_of image.now) places.now rank block v.items) }
 {

@@ -13,7 +13,8 @@ use code_names::{Body, Numbering, TextList};
 use image::RawImage;
 use loader::with_rank;
 use loader_code::{addresses_by_piece, calls_by_piece};
-use std::alloc::{AllocError, Global};
+use out_of_memory::OutOfMemory;
+use std::alloc::Global;
 use syntax_tree::List;
 
 /// What the pieces of code of a program call, which are those of its routines and then of its
@@ -43,7 +44,7 @@ fn places_among(
     alloc: Global,
     texts: &TextList<'_>,
     routines: &[Body<'_>],
-) -> Result<Vec<usize>, AllocError>
+) -> Result<Vec<usize>, OutOfMemory>
     ensures { IfOk result (λ v. v.items ≡
         map (λ b. place_among (text_of b) (texts_of texts.now)) routines.now) }
 {
@@ -56,7 +57,7 @@ fn places_among(
 }
 
 /// The place of each routine in the text, by its number.
-fn places(alloc: Global, numbering: &Numbering<'_>) -> Result<Vec<usize>, AllocError>
+fn places(alloc: Global, numbering: &Numbering<'_>) -> Result<Vec<usize>, OutOfMemory>
     ensures { IfOk result (λ v. v.items ≡ map (place_in (plain (placed numbering.now)))
         (numbered (plain (placed numbering.now)))) }
 {
@@ -66,7 +67,7 @@ fn places(alloc: Global, numbering: &Numbering<'_>) -> Result<Vec<usize>, AllocE
 }
 
 /// The numbers of the processes in the order of ranks.
-fn ranked(alloc: Global, image: &RawImage) -> Result<Vec<usize>, AllocError>
+fn ranked(alloc: Global, image: &RawImage) -> Result<Vec<usize>, OutOfMemory>
     ensures { IfOk result (λ v. AreRanked (image_of image.now) v.items) }
 {
     let processes = image.processes.as_slice();
@@ -79,7 +80,7 @@ fn ranked(alloc: Global, image: &RawImage) -> Result<Vec<usize>, AllocError>
 }
 
 /// What each piece calls.
-fn calls(alloc: Global, image: &RawImage) -> Result<Vec<List<usize>>, AllocError>
+fn calls(alloc: Global, image: &RawImage) -> Result<Vec<List<usize>>, OutOfMemory>
     ensures { IfOk result (λ v. AreCalls (image_of image.now) v.items) }
 {
     let addresses = addresses_by_piece(alloc, image)?;
@@ -92,7 +93,7 @@ pub fn call_graph(
     alloc: Global,
     image: &RawImage,
     numbering: &Numbering<'_>,
-) -> Result<CallGraph, AllocError>
+) -> Result<CallGraph, OutOfMemory>
     ensures { IfOk result (IsCallGraph (plain (placed numbering.now)) (image_of image.now)) }
 {
     let calls = calls(alloc, image)?;

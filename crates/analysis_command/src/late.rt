@@ -8,11 +8,12 @@ ghost use Rattle.compile.specs.Build.{IsLateOf};
 
 use built_tasks_law::judged_by_text::built_is_in_time;
 use compile::{BuildFault, LateProgram, build};
+use out_of_memory::OutOfMemory;
 use static_semantics::Checked;
-use std::alloc::{AllocError, Global};
+use std::alloc::Global;
 
 /// What the report shows of a program that is not in time. Only want of memory is an error.
-pub fn late_program(alloc: Global, program: &Checked, over: u16) -> Result<LateProgram, AllocError>
+pub fn late_program(alloc: Global, program: &Checked, over: u16) -> Result<LateProgram, OutOfMemory>
     ghost text: { List ℕ }
     requires over { over ≤ 1000 }
     requires written { IsWritten text (placed program.now) }
@@ -22,7 +23,7 @@ pub fn late_program(alloc: Global, program: &Checked, over: u16) -> Result<LateP
     built_is_in_time();
     match build(alloc, program, over) {
         Err(BuildFault::Untimely(late)) => Ok(late),
-        Err(BuildFault::Memory) => Err(AllocError),
+        Err(BuildFault::Memory(error)) => Err(error),
         Err(BuildFault::TooLarge { .. }) => unreachable!(),
         Ok(_) => unreachable!(),
     }

@@ -14,9 +14,10 @@ use built_tasks_law::tasks_of_text::tasks_are_of_the_text;
 use code_names::Numbering;
 use image::RawImage;
 use loader::{task_at, task_set};
+use out_of_memory::OutOfMemory;
 use sched_response::{TaskSet, bound_of};
 use sched_sections::Level;
-use std::alloc::{AllocError, Global};
+use std::alloc::Global;
 use syntax_tree::{List, Name, Program};
 
 /// The number of the process of a level, of those in the order of ranks; 0 past their end.
@@ -48,7 +49,7 @@ fn level(
     graph: &CallGraph,
     set: &TaskSet,
     level: usize,
-) -> Result<Level, AllocError>
+) -> Result<Level, OutOfMemory>
     requires analysed { IsAnalysed (placed numbering.now) image.now graph.now set.now }
     requires there { level < length set.now }
     requires few { level < 64 }
@@ -75,7 +76,7 @@ fn all_levels(
     numbering: &Numbering<'_>,
     graph: &CallGraph,
     set: &TaskSet,
-) -> Result<List<Level>, AllocError>
+) -> Result<List<Level>, OutOfMemory>
     requires { IsAnalysed (placed numbering.now) image.now graph.now set.now }
     ensures { IfOk result (AreLevels (placed numbering.now) image.now) }
 {
@@ -89,7 +90,11 @@ fn all_levels(
 }
 
 /// The levels of a program in the order of ranks, by its image. Only want of memory is an error.
-pub fn levels(alloc: Global, program: &Program, image: &RawImage) -> Result<List<Level>, AllocError>
+pub fn levels(
+    alloc: Global,
+    program: &Program,
+    image: &RawImage,
+) -> Result<List<Level>, OutOfMemory>
     requires checked { IsChecked (placed program.now) }
     requires image { IsRanked (placed program.now) image.now.overhead image.now }
     ensures { IfOk result (AreLevels (placed program.now) image.now) }

@@ -6,8 +6,9 @@ ghost use Rattle.code_names.specs.Parts.{monitor_of, process_of, seen_monitors, 
 ghost use Rattle.analysis_command.specs.Found.{IsNamedAt, IsSomeBlockerAt};
 
 use code_names::{Directory, RoutineOwner};
+use out_of_memory::OutOfMemory;
 use sched_sections::Blocker;
-use std::alloc::{AllocError, Global};
+use std::alloc::Global;
 use syntax_tree::{Monitor, Name, Process};
 
 /// The monitor of the number.
@@ -33,7 +34,7 @@ pub fn named_blocker(
     directory: &Directory<'_>,
     place: usize,
     process: usize,
-) -> Result<Blocker, AllocError>
+) -> Result<Blocker, OutOfMemory>
     requires { IsSomeBlockerAt (plain (placed directory.now)) place process }
     ensures { IfOk result (IsNamedAt (plain (placed directory.now)) place process) }
 {

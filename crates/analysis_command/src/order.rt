@@ -4,7 +4,8 @@ ghost use Rattle.std.specs.Prelude.{◌≡◌, ◌-◌, map, IfOk};
 ghost use Rattle.image.specs.Raw.{process_of};
 
 use image::RawProcess;
-use std::alloc::{AllocError, Global};
+use out_of_memory::OutOfMemory;
+use std::alloc::Global;
 
 /// The level of a process, which counts from 0.
 fn level_of(process: &RawProcess) -> usize
@@ -14,7 +15,7 @@ fn level_of(process: &RawProcess) -> usize
 }
 
 /// The level of each process, in the order of the text.
-pub fn order(alloc: Global, processes: &[RawProcess]) -> Result<Vec<usize>, AllocError>
+pub fn order(alloc: Global, processes: &[RawProcess]) -> Result<Vec<usize>, OutOfMemory>
     ensures { IfOk result (λ v. v.items ≡ map (λ p. (process_of p).rank - 1) processes.now) }
 {
     let mut all = Vec::new(alloc);

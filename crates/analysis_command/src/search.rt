@@ -15,8 +15,9 @@ use crate::graph::CallGraph;
 use crate::naming::named_blocker;
 use code_names::{Numbering, Reached, first_places, first_reached};
 use image::RawImage;
+use out_of_memory::OutOfMemory;
 use sched_sections::Blocker;
-use std::alloc::{AllocError, Global};
+use std::alloc::Global;
 use syntax_tree::List;
 
 /// The processes of lower rank, of those in the order of ranks.
@@ -42,7 +43,7 @@ fn found(
     graph: &CallGraph,
     rank: u16,
     block: u64,
-) -> Result<Option<Reached>, AllocError>
+) -> Result<Option<Reached>, OutOfMemory>
     requires calls { AreCalls (image_of image.now) graph.now.calls.items }
     requires places { length graph.now.places.items ≡ length image.now.routines }
     requires rank { rank ≤ length graph.now.ranked.items }
@@ -66,7 +67,7 @@ pub fn blocker(
     graph: &CallGraph,
     rank: u16,
     block: u64,
-) -> Result<Option<Blocker>, AllocError>
+) -> Result<Option<Blocker>, OutOfMemory>
     requires text { IsImageOfText (plain (placed numbering.now)) (image_of image.now) }
     requires graph { IsCallGraph (plain (placed numbering.now)) (image_of image.now) graph.now }
     requires rank { rank ≤ length graph.now.ranked.items }

@@ -9,8 +9,9 @@ ghost use Rattle.analysis_command.specs.Told.{AreBoundsOf, IsFitOfText};
 use crate::late::late_program;
 use crate::{fit_text, why_text};
 use compile::{LateProgram, ProgramTextFault, read_written};
+use out_of_memory::OutOfMemory;
 use static_semantics::Checked;
-use std::alloc::{AllocError, Global};
+use std::alloc::Global;
 use syntax_tree::Text;
 
 /// The text that takes the bounds of a program apart, and what its report shows where it is late.
@@ -21,7 +22,7 @@ pub struct JudgedBounds {
 }
 
 /// The bounds of a program, taken apart and judged. Only want of memory is an error.
-fn judged_bounds(alloc: Global, program: &Checked, over: u16) -> Result<JudgedBounds, AllocError>
+fn judged_bounds(alloc: Global, program: &Checked, over: u16) -> Result<JudgedBounds, OutOfMemory>
     ghost text: { List ℕ }
     requires over { over ≤ 1000 }
     requires written { IsWritten text (placed program.now) }
@@ -61,7 +62,7 @@ pub fn bounds_of_text(
     let program = read_written(alloc, text)?;
     match judged_bounds(alloc, &program, over) {
         Ok(bounds) => Ok(bounds),
-        Err(_) => Err(ProgramTextFault::Memory),
+        Err(error) => Err(ProgramTextFault::Memory(error)),
     }
 }
 
@@ -80,6 +81,6 @@ pub fn fit_of_text(alloc: Global, text: &[u8], over: u16) -> Result<Text, Progra
     let program = read_written(alloc, text)?;
     match fit_text(alloc, &program, over) {
         Ok(fits) => Ok(fits),
-        Err(_) => Err(ProgramTextFault::Memory),
+        Err(error) => Err(ProgramTextFault::Memory(error)),
     }
 }

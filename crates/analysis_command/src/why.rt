@@ -15,9 +15,10 @@ use built_image_law::premises_of_laws::checked_programs_are_ready;
 use built_tasks_law::ranks_and_ceilings::ranks_are_of_the_meaning;
 use built_tasks_law::tasks_of_text::{ranks_are_of_the_text, tasks_are_of_the_text};
 use image::RawImage;
+use out_of_memory::OutOfMemory;
 use sched_sections::{Level, bounds_text};
 use static_semantics::Checked;
-use std::alloc::{AllocError, Global};
+use std::alloc::Global;
 use syntax_tree::{Program, Text};
 
 /// The text that takes the bounds of a program apart, and whether each process has one.
@@ -35,7 +36,7 @@ fn all_bounded(levels: &[Level]) -> bool
 }
 
 /// The text on a program, by its image.
-fn why_of_image(alloc: Global, program: &Program, image: &RawImage) -> Result<WhyText, AllocError>
+fn why_of_image(alloc: Global, program: &Program, image: &RawImage) -> Result<WhyText, OutOfMemory>
     requires checked { IsChecked (placed program.now) }
     requires image { IsRanked (placed program.now) image.now.overhead image.now }
     ensures { IfOk result (IsWhyOf (plain (placed program.now)) image.now.overhead) }
@@ -54,7 +55,7 @@ fn why_of_image(alloc: Global, program: &Program, image: &RawImage) -> Result<Wh
 
 /// The text that takes the bounds of a program apart, which is not too large, with an overhead of
 /// at most 1,000 ticks, and whether it is in time. Only want of memory is an error.
-pub fn why_text(alloc: Global, program: &Checked, over: u16) -> Result<WhyText, AllocError>
+pub fn why_text(alloc: Global, program: &Checked, over: u16) -> Result<WhyText, OutOfMemory>
     ghost text: { List ℕ }
     requires over { over ≤ 1000 }
     requires written { IsWritten text (placed program.now) }

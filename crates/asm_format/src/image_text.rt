@@ -12,11 +12,12 @@ use crate::process::put_process;
 use crate::routine::put_routine;
 use image::{ConditionName, DeviceName, EventName, RawImage, RawMonitor, RawProcess, RawRoutine};
 use machine_isa::Instr;
-use std::alloc::{AllocError, Global};
+use out_of_memory::OutOfMemory;
+use std::alloc::Global;
 use syntax_tree::{Name, Text};
 
 /// Puts the lines of the devices.
-fn put_devices(text: &mut Text, devices: &[DeviceName]) -> Result<(), AllocError>
+fn put_devices(text: &mut Text, devices: &[DeviceName]) -> Result<(), OutOfMemory>
     ensures { OnOk result (text.new ≡ text.old ++ flat_map device_line devices.now) }
 {
     for device in devices {
@@ -26,7 +27,7 @@ fn put_devices(text: &mut Text, devices: &[DeviceName]) -> Result<(), AllocError
 }
 
 /// Puts the lines of the events.
-fn put_events(text: &mut Text, events: &[EventName]) -> Result<(), AllocError>
+fn put_events(text: &mut Text, events: &[EventName]) -> Result<(), OutOfMemory>
     ensures { OnOk result (text.new ≡ text.old ++ flat_map (λ e. event_line e.name) events.now) }
 {
     for event in events {
@@ -36,7 +37,7 @@ fn put_events(text: &mut Text, events: &[EventName]) -> Result<(), AllocError>
 }
 
 /// Puts the lines of the monitors, each with its name.
-fn put_monitors(text: &mut Text, names: &[Name], monitors: &[RawMonitor]) -> Result<(), AllocError>
+fn put_monitors(text: &mut Text, names: &[Name], monitors: &[RawMonitor]) -> Result<(), OutOfMemory>
     requires { length names.now ≡ length monitors.now }
     ensures { OnOk result (text.new ≡ text.old ++
         monitors_text names.now (map monitor_of monitors.now)) }
@@ -48,7 +49,7 @@ fn put_monitors(text: &mut Text, names: &[Name], monitors: &[RawMonitor]) -> Res
 }
 
 /// Puts the lines of the conditions.
-fn put_conditions(text: &mut Text, conditions: &[ConditionName]) -> Result<(), AllocError>
+fn put_conditions(text: &mut Text, conditions: &[ConditionName]) -> Result<(), OutOfMemory>
     ensures { OnOk result (text.new ≡ text.old ++ flat_map condition_line conditions.now) }
 {
     for condition in conditions {
@@ -58,7 +59,7 @@ fn put_conditions(text: &mut Text, conditions: &[ConditionName]) -> Result<(), A
 }
 
 /// Puts the lines of the routines and their trees.
-fn put_routines(alloc: Global, text: &mut Text, routines: &[RawRoutine]) -> Result<(), AllocError>
+fn put_routines(alloc: Global, text: &mut Text, routines: &[RawRoutine]) -> Result<(), OutOfMemory>
     ensures { OnOk result (text.new ≡ text.old ++
         flat_map routine_lines (map routine_of routines.now)) }
 {
@@ -74,7 +75,7 @@ fn put_processes(
     text: &mut Text,
     names: &[Name],
     processes: &[RawProcess],
-) -> Result<(), AllocError>
+) -> Result<(), OutOfMemory>
     requires { length names.now ≡ length processes.now }
     ensures { OnOk result (text.new ≡ text.old ++
         processes_text names.now (map process_of processes.now)) }
@@ -86,7 +87,7 @@ fn put_processes(
 }
 
 /// Puts the lines of the instructions.
-fn put_code(text: &mut Text, code: &[Instr]) -> Result<(), AllocError>
+fn put_code(text: &mut Text, code: &[Instr]) -> Result<(), OutOfMemory>
     ensures { OnOk result (text.new ≡ text.old ++ flat_map instr_line code.now) }
 {
     for instr in code {
@@ -96,7 +97,7 @@ fn put_code(text: &mut Text, code: &[Instr]) -> Result<(), AllocError>
 }
 
 /// Puts the lines of the devices, the events, the monitors and the conditions.
-fn put_named(text: &mut Text, image: &RawImage) -> Result<(), AllocError>
+fn put_named(text: &mut Text, image: &RawImage) -> Result<(), OutOfMemory>
     requires { length image.now.names.monitors ≡ length image.now.monitors }
     ensures { OnOk result (text.new ≡ text.old ++
         names_text image.now.names (map monitor_of image.now.monitors)) }
@@ -111,7 +112,7 @@ fn put_named(text: &mut Text, image: &RawImage) -> Result<(), AllocError>
 
 /// The text of an image, line by line. Each process and each monitor has a name. An error says that
 /// memory is short.
-pub fn dis(alloc: Global, image: &RawImage) -> Result<Text, AllocError>
+pub fn dis(alloc: Global, image: &RawImage) -> Result<Text, OutOfMemory>
     requires monitors { length image.now.names.monitors ≡ length image.now.monitors }
     requires processes { length image.now.names.processes ≡ length image.now.processes }
     ensures { IfOk result (λ text. text ≡ text_of (named_of image.now)) }

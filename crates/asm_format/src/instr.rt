@@ -7,7 +7,7 @@ ghost use Rattle.asm_format.specs.Operands.{listed};
 
 use crate::numbers::put_signed;
 use machine_isa::Instr;
-use std::alloc::AllocError;
+use out_of_memory::OutOfMemory;
 use syntax_tree::Text;
 
 /// The operands that an instruction names.
@@ -136,7 +136,7 @@ fn operands_of(instr: &Instr) -> Operands
 }
 
 /// Puts an operand after a space, and ends the line.
-fn put_one(text: &mut Text, last: i32) -> Result<(), AllocError>
+fn put_one(text: &mut Text, last: i32) -> Result<(), OutOfMemory>
     ensures { OnOk result (text.new ≡ text.old ++ operands_text (last ∷ [])) }
 {
     put_signed(text, b" ", last)?;
@@ -145,7 +145,7 @@ fn put_one(text: &mut Text, last: i32) -> Result<(), AllocError>
 }
 
 /// Puts two operands, each after a space, and ends the line.
-fn put_two(text: &mut Text, first: i32, last: i32) -> Result<(), AllocError>
+fn put_two(text: &mut Text, first: i32, last: i32) -> Result<(), OutOfMemory>
     ensures { OnOk result (text.new ≡ text.old ++ operands_text (first ∷ last ∷ [])) }
 {
     put_signed(text, b" ", first)?;
@@ -154,7 +154,7 @@ fn put_two(text: &mut Text, first: i32, last: i32) -> Result<(), AllocError>
 }
 
 /// Puts three operands, each after a space, and ends the line.
-fn put_three(text: &mut Text, first: i32, second: i32, last: i32) -> Result<(), AllocError>
+fn put_three(text: &mut Text, first: i32, second: i32, last: i32) -> Result<(), OutOfMemory>
     ensures { OnOk result (text.new ≡ text.old ++ operands_text (first ∷ second ∷ last ∷ [])) }
 {
     put_signed(text, b" ", first)?;
@@ -163,7 +163,7 @@ fn put_three(text: &mut Text, first: i32, second: i32, last: i32) -> Result<(), 
 }
 
 /// Puts operands, each after a space, and ends the line.
-fn put_operands(text: &mut Text, operands: Operands) -> Result<(), AllocError>
+fn put_operands(text: &mut Text, operands: Operands) -> Result<(), OutOfMemory>
     ensures { OnOk result (text.new ≡ text.old ++ operands_text (listed operands)) }
 {
     match operands {
@@ -175,7 +175,7 @@ fn put_operands(text: &mut Text, operands: Operands) -> Result<(), AllocError>
 }
 
 /// Puts the line of an instruction.
-pub fn put_instr(text: &mut Text, instr: &Instr) -> Result<(), AllocError>
+pub fn put_instr(text: &mut Text, instr: &Instr) -> Result<(), OutOfMemory>
     ensures { OnOk result (text.new ≡ text.old ++ instr_line instr.now) }
 {
     text.extend(mnemonic_of(instr))?;

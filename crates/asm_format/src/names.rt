@@ -6,11 +6,11 @@ ghost use Rattle.asm_format.specs.Text.{ceiling_text, condition_line, device_lin
 
 use crate::numbers::put_field;
 use image::{ConditionName, DeviceName, RawMonitor};
-use std::alloc::AllocError;
+use out_of_memory::OutOfMemory;
 use syntax_tree::{Name, Text};
 
 /// Puts the line of the program's name and the overhead.
-pub fn put_head(text: &mut Text, program: &Name, overhead: u16) -> Result<(), AllocError>
+pub fn put_head(text: &mut Text, program: &Name, overhead: u16) -> Result<(), OutOfMemory>
     ensures { OnOk result (text.new ≡ text.old ++ head_line program.now overhead) }
 {
     text.extend(b"image ")?;
@@ -28,7 +28,7 @@ fn direction_of(out: bool) -> &'static [u8]
 }
 
 /// Puts the line of a device.
-pub fn put_device(text: &mut Text, device: &DeviceName) -> Result<(), AllocError>
+pub fn put_device(text: &mut Text, device: &DeviceName) -> Result<(), OutOfMemory>
     ensures { OnOk result (text.new ≡ text.old ++ device_line device.now) }
 {
     text.extend(b"device ")?;
@@ -38,7 +38,7 @@ pub fn put_device(text: &mut Text, device: &DeviceName) -> Result<(), AllocError
 }
 
 /// Puts the line of an event.
-pub fn put_event(text: &mut Text, name: &Name) -> Result<(), AllocError>
+pub fn put_event(text: &mut Text, name: &Name) -> Result<(), OutOfMemory>
     ensures { OnOk result (text.new ≡ text.old ++ event_line name.now) }
 {
     text.extend(b"event ")?;
@@ -48,7 +48,7 @@ pub fn put_event(text: &mut Text, name: &Name) -> Result<(), AllocError>
 }
 
 /// Puts a ceiling, or that there is none.
-fn put_ceiling(text: &mut Text, ceiling: u16) -> Result<(), AllocError>
+fn put_ceiling(text: &mut Text, ceiling: u16) -> Result<(), OutOfMemory>
     ensures { OnOk result (text.new ≡ text.old ++ ceiling_text ceiling) }
 {
     if ceiling == 65_535 {
@@ -60,7 +60,7 @@ fn put_ceiling(text: &mut Text, ceiling: u16) -> Result<(), AllocError>
 }
 
 /// Puts the line of a monitor.
-pub fn put_monitor(text: &mut Text, name: &Name, monitor: &RawMonitor) -> Result<(), AllocError>
+pub fn put_monitor(text: &mut Text, name: &Name, monitor: &RawMonitor) -> Result<(), OutOfMemory>
     ensures { OnOk result (text.new ≡ text.old ++ monitor_line name.now (monitor_of monitor.now)) }
 {
     text.extend(b"monitor ")?;
@@ -74,7 +74,7 @@ pub fn put_monitor(text: &mut Text, name: &Name, monitor: &RawMonitor) -> Result
 }
 
 /// Puts the line of a condition.
-pub fn put_condition(text: &mut Text, condition: &ConditionName) -> Result<(), AllocError>
+pub fn put_condition(text: &mut Text, condition: &ConditionName) -> Result<(), OutOfMemory>
     ensures { OnOk result (text.new ≡ text.old ++ condition_line condition.now) }
 {
     text.extend(b"condition ")?;

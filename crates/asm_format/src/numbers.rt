@@ -5,11 +5,11 @@ ghost use Rattle.std.specs.Fmt.{signed_decimal};
 ghost use Rattle.asm_format.specs.Text.{field, numbers_text};
 
 use itoa::Buffer;
-use std::alloc::AllocError;
+use out_of_memory::OutOfMemory;
 use syntax_tree::Text;
 
 /// Puts a number behind these bytes.
-pub fn put_field(text: &mut Text, label: &[u8], number: u32) -> Result<(), AllocError>
+pub fn put_field(text: &mut Text, label: &[u8], number: u32) -> Result<(), OutOfMemory>
     ensures { OnOk result (text.new ≡ text.old ++ field label.now number) }
 {
     let mut digits = Buffer::new();
@@ -19,7 +19,7 @@ pub fn put_field(text: &mut Text, label: &[u8], number: u32) -> Result<(), Alloc
 }
 
 /// Puts a number with its sign behind these bytes.
-pub fn put_signed(text: &mut Text, label: &[u8], number: i32) -> Result<(), AllocError>
+pub fn put_signed(text: &mut Text, label: &[u8], number: i32) -> Result<(), OutOfMemory>
     ensures { OnOk result (text.new ≡ text.old ++ (label.now ++ signed_decimal number)) }
 {
     let mut digits = Buffer::new();
@@ -29,7 +29,7 @@ pub fn put_signed(text: &mut Text, label: &[u8], number: i32) -> Result<(), Allo
 }
 
 /// Puts numbers, each after a space, and ends the line.
-pub fn put_numbers(text: &mut Text, numbers: &[u16]) -> Result<(), AllocError>
+pub fn put_numbers(text: &mut Text, numbers: &[u16]) -> Result<(), OutOfMemory>
     ensures { OnOk result (text.new ≡ text.old ++ numbers_text numbers.now) }
 {
     for number in numbers {

@@ -8,11 +8,12 @@ use crate::numbers::{put_field, put_numbers};
 use crate::trees::put_tree;
 use image::RawProcess;
 use image_format::SegTree;
-use std::alloc::{AllocError, Global};
+use out_of_memory::OutOfMemory;
+use std::alloc::Global;
 use syntax_tree::{Name, Text};
 
 /// Puts what releases a periodic process, and within what it ends.
-fn put_periodic(text: &mut Text, process: &RawProcess) -> Result<(), AllocError>
+fn put_periodic(text: &mut Text, process: &RawProcess) -> Result<(), OutOfMemory>
     ensures { OnOk result (text.new ≡ text.old ++ release_text (process_of process.now) 0) }
 {
     put_field(text, b" periodic frame ", process.frame)?;
@@ -22,7 +23,7 @@ fn put_periodic(text: &mut Text, process: &RawProcess) -> Result<(), AllocError>
 }
 
 /// Puts the event that releases a process, and within what it ends.
-fn put_evented(text: &mut Text, process: &RawProcess) -> Result<(), AllocError>
+fn put_evented(text: &mut Text, process: &RawProcess) -> Result<(), OutOfMemory>
     ensures { OnOk result (text.new ≡ text.old ++ release_text (process_of process.now) 1) }
 {
     put_field(text, b" event ", u32::from(process.event))?;
@@ -32,7 +33,7 @@ fn put_evented(text: &mut Text, process: &RawProcess) -> Result<(), AllocError>
 }
 
 /// Puts what releases a process, and within what it ends.
-fn put_release(text: &mut Text, process: &RawProcess) -> Result<(), AllocError>
+fn put_release(text: &mut Text, process: &RawProcess) -> Result<(), OutOfMemory>
     ensures { OnOk result (text.new ≡ text.old ++
         release_text (process_of process.now) process.now.kind) }
 {
@@ -43,7 +44,7 @@ fn put_release(text: &mut Text, process: &RawProcess) -> Result<(), AllocError>
 }
 
 /// Puts the rank of a process, and what it takes of time.
-fn put_time(text: &mut Text, process: &RawProcess) -> Result<(), AllocError>
+fn put_time(text: &mut Text, process: &RawProcess) -> Result<(), OutOfMemory>
     ensures { OnOk result (text.new ≡ text.old ++ time_text (process_of process.now)) }
 {
     put_field(text, b" rank ", u32::from(process.rank))?;
@@ -56,7 +57,7 @@ fn put_time(text: &mut Text, process: &RawProcess) -> Result<(), AllocError>
 }
 
 /// Puts what a process takes of memory, and where it begins.
-fn put_room(text: &mut Text, process: &RawProcess) -> Result<(), AllocError>
+fn put_room(text: &mut Text, process: &RawProcess) -> Result<(), OutOfMemory>
     ensures { OnOk result (text.new ≡ text.old ++ room_text (process_of process.now)) }
 {
     put_field(text, b" data ", process.words)?;
@@ -68,7 +69,7 @@ fn put_room(text: &mut Text, process: &RawProcess) -> Result<(), AllocError>
 
 /// Puts the address of a handler and the numbers that it takes, where there are any, and ends the
 /// line.
-fn put_handler(text: &mut Text, handler: u32, numbers: &[u16]) -> Result<(), AllocError>
+fn put_handler(text: &mut Text, handler: u32, numbers: &[u16]) -> Result<(), OutOfMemory>
     ensures { OnOk result (text.new ≡ text.old ++ handler_text handler numbers.now) }
 {
     match numbers {
@@ -87,7 +88,7 @@ fn put_handler_tree(
     text: &mut Text,
     numbers: &[u16],
     tree: &Option<SegTree>,
-) -> Result<(), AllocError>
+) -> Result<(), OutOfMemory>
     ensures { OnOk result (text.new ≡ text.old ++
         handler_line numbers.now tree.now) }
 {
@@ -105,7 +106,7 @@ pub fn put_process(
     text: &mut Text,
     name: &Name,
     process: &RawProcess,
-) -> Result<(), AllocError>
+) -> Result<(), OutOfMemory>
     ensures { OnOk result (text.new ≡ text.old ++ process_lines name.now (process_of process.now)) }
 {
     text.extend(b"process ")?;

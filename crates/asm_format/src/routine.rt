@@ -7,11 +7,12 @@ ghost use Rattle.asm_format.specs.Text.{bit, cost_text, owner_text, place_text, 
 use crate::numbers::put_field;
 use crate::trees::put_tree;
 use image::RawRoutine;
-use std::alloc::{AllocError, Global};
+use out_of_memory::OutOfMemory;
+use std::alloc::Global;
 use syntax_tree::Text;
 
 /// Puts whose a routine is.
-fn put_owner(text: &mut Text, kind: u8, owner: u16) -> Result<(), AllocError>
+fn put_owner(text: &mut Text, kind: u8, owner: u16) -> Result<(), OutOfMemory>
     ensures { OnOk result (text.new ≡ text.old ++ owner_text kind owner) }
 {
     match kind {
@@ -30,7 +31,7 @@ fn bit_of(holds: bool) -> u32
 }
 
 /// Puts what a routine has of memory, whether it has a result, and where it begins.
-fn put_place(text: &mut Text, routine: &RawRoutine) -> Result<(), AllocError>
+fn put_place(text: &mut Text, routine: &RawRoutine) -> Result<(), OutOfMemory>
     ensures { OnOk result (text.new ≡ text.old ++ place_text (routine_of routine.now)) }
 {
     put_field(text, b" params ", u32::from(routine.params))?;
@@ -41,7 +42,7 @@ fn put_place(text: &mut Text, routine: &RawRoutine) -> Result<(), AllocError>
 }
 
 /// Puts the stay of a monitor's routine.
-fn put_stay(text: &mut Text, kind: u8, stay: u32) -> Result<(), AllocError>
+fn put_stay(text: &mut Text, kind: u8, stay: u32) -> Result<(), OutOfMemory>
     ensures { OnOk result (text.new ≡ text.old ++ stay_text kind stay) }
 {
     match kind {
@@ -52,7 +53,7 @@ fn put_stay(text: &mut Text, kind: u8, stay: u32) -> Result<(), AllocError>
 }
 
 /// Puts what a routine takes of time.
-fn put_cost(text: &mut Text, routine: &RawRoutine) -> Result<(), AllocError>
+fn put_cost(text: &mut Text, routine: &RawRoutine) -> Result<(), OutOfMemory>
     ensures { OnOk result (text.new ≡ text.old ++ cost_text (routine_of routine.now)) }
 {
     put_field(text, b" run ", routine.run)?;
@@ -63,7 +64,7 @@ fn put_cost(text: &mut Text, routine: &RawRoutine) -> Result<(), AllocError>
 }
 
 /// Puts a routine, and the line of its tree.
-pub fn put_routine(alloc: Global, text: &mut Text, routine: &RawRoutine) -> Result<(), AllocError>
+pub fn put_routine(alloc: Global, text: &mut Text, routine: &RawRoutine) -> Result<(), OutOfMemory>
     ensures { OnOk result (text.new ≡ text.old ++ routine_lines (routine_of routine.now)) }
 {
     text.extend(b"routine ")?;

@@ -6,12 +6,13 @@ ghost use Rattle.asm_format.specs.TreeText.{seg_text, segs_text, tree_line};
 
 use crate::numbers::put_field;
 use image_format::{Seg, SegTree};
-use std::alloc::{AllocError, Global};
+use out_of_memory::OutOfMemory;
+use std::alloc::Global;
 use syntax_tree::Text;
 
 /// Puts a segment: its name, its number and its trees between parentheses.
 #[cycle(trees)]
-fn put_seg(text: &mut Text, seg: &Seg) -> Result<(), AllocError>
+fn put_seg(text: &mut Text, seg: &Seg) -> Result<(), OutOfMemory>
     ensures { OnOk result (text.new ≡ text.old ++ seg_text (view seg.now)) }
 {
     match seg {
@@ -44,7 +45,7 @@ fn put_seg(text: &mut Text, seg: &Seg) -> Result<(), AllocError>
 
 /// Puts segments one after the other.
 #[cycle(trees)]
-fn put_segs(text: &mut Text, segs: &[Seg]) -> Result<(), AllocError>
+fn put_segs(text: &mut Text, segs: &[Seg]) -> Result<(), OutOfMemory>
     ensures { OnOk result (text.new ≡ text.old ++ segs_text (views segs.now)) }
 {
     for seg in segs {
@@ -54,7 +55,7 @@ fn put_segs(text: &mut Text, segs: &[Seg]) -> Result<(), AllocError>
 }
 
 /// Puts the line of a tree. Its segments are taken apart first, and go with the line.
-pub fn put_tree(alloc: Global, text: &mut Text, tree: &SegTree) -> Result<(), AllocError>
+pub fn put_tree(alloc: Global, text: &mut Text, tree: &SegTree) -> Result<(), OutOfMemory>
     ensures { OnOk result (text.new ≡ text.old ++ tree_line tree.now) }
 {
     let segs = tree.segs(alloc)?;

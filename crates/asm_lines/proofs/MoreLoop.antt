@@ -24,7 +24,7 @@ goes_on front most i last s n after total lt more h so_far =
 pub fails : (e : FieldError) (front : List ℕ) (most i last : ℕ) (s : Front) (total : Read (List ℕ)) → i < most → is_next (codes "\n") s.rest ≡ false → Fails e (taken_read last s)
     → with_front front (more_read (most - i) last s) ≡ total → Fails e total
 unfolding more_read
-fails errors.Memory front most i last s total lt more h so_far = tt
+fails (errors.Memory _) front most i last s total lt more h so_far = tt
 fails (errors.Fault x) front most i last s total lt more h so_far =
     let k : most - i ≡ suc (most - (i + 1)) = omega arith in
     let step : with_front front (more_read (most - i) last s) ≡ Err x = rw (k, more, h) refl in

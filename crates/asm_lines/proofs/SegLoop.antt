@@ -27,7 +27,7 @@ goes_on one front most i s t after total lt more h so_far =
 pub fails : (one : Front → Read tree.Seg) (e : FieldError) (front : Segs) (most i : ℕ) (s : Front) (total : Read Segs) → i < most → tree_ends s.rest ≡ false → Fails e (one s)
     → with_front front (segs_read one (most - i) s) ≡ total → Fails e total
 unfolding segs_read
-fails one errors.Memory front most i s total lt more h so_far = tt
+fails one (errors.Memory _) front most i s total lt more h so_far = tt
 fails one (errors.Fault x) front most i s total lt more h so_far =
     let k : most - i ≡ suc (most - (i + 1)) = omega arith in
     let step : with_front front (segs_read one (most - i) s) ≡ Err x = rw (k, more, h) refl in

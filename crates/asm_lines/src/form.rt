@@ -6,7 +6,8 @@ ghost use Rattle.text_fields.specs.LineFields.{is_digit as digit_test};
 ghost use Rattle.asm_lines.specs.Shapes.{shape_of};
 ghost use Rattle.asm_lines.specs.TreeForm.{closed, is as same, is_number as number_test, is_segment as segment_test, is_tree_line, is_whole as whole_test, last, line_len as line_front, segment, step, tree_form, when};
 
-use std::alloc::{AllocError, Global};
+use out_of_memory::OutOfMemory;
+use std::alloc::Global;
 use text_fields::{cut_at, is_digit, is_numeral};
 
 /// What must come next in the line of a tree.
@@ -94,7 +95,7 @@ impl Form {
     }
 
     /// A closing parenthesis.
-    fn close(&mut self) -> Result<(), AllocError>
+    fn close(&mut self) -> Result<(), OutOfMemory>
         ensures { OnOk result (shape_of self.new ≡ closed (last self.old.arms.items)) }
     {
         match take_last(&mut self.arms) {
@@ -109,7 +110,7 @@ impl Form {
     }
 
     /// A word where a segment may stand.
-    fn segment(&mut self, word: &[u8]) -> Result<(), AllocError>
+    fn segment(&mut self, word: &[u8]) -> Result<(), OutOfMemory>
         ensures { OnOk result (shape_of self.new ≡ segment word.now self.old.arms.items) }
     {
         if is(word, b"line") {
@@ -148,7 +149,7 @@ impl Form {
     }
 
     /// One more word.
-    fn step(&mut self, word: &[u8]) -> Result<(), AllocError>
+    fn step(&mut self, word: &[u8]) -> Result<(), OutOfMemory>
         ensures { OnOk result (shape_of self.new ≡ step (shape_of self.old) word.now) }
     {
         match self.awaits {
@@ -177,7 +178,7 @@ impl Form {
 
 /// Whether the line, without its LF, has the form of a tree, however deep it nests.
 #[tactic(auto, unfolding(crate::specs::TreeForm::tree_form))]
-fn is_tree(alloc: Global, line: &[u8]) -> Result<bool, AllocError>
+fn is_tree(alloc: Global, line: &[u8]) -> Result<bool, OutOfMemory>
     ensures { IfOk result (λ holds. holds ≡ tree_form line.now) }
 {
     let mut form = Form::new(alloc);
@@ -205,7 +206,7 @@ fn line_len(bytes: &[u8]) -> usize
 }
 
 /// Whether the bytes begin with a line that has the form of a tree.
-pub fn is_tree_first(alloc: Global, bytes: &[u8]) -> Result<bool, AllocError>
+pub fn is_tree_first(alloc: Global, bytes: &[u8]) -> Result<bool, OutOfMemory>
     ensures { IfOk result (λ holds. holds ≡ is_tree_line bytes.now) }
 {
     let len = line_len(bytes);

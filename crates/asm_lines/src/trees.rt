@@ -1,6 +1,7 @@
 //! The lines of segment trees.
 
-ghost use Rattle.std.specs.Prelude.{◌≡◌};
+ghost use Rattle.std.specs.Prelude.{◌≡◌, ◌<◌, ◌^◌, IfOk};
+ghost use Rattle.image_format.specs.TreeBytes.{InnerRowsFit, RowsFit};
 ghost use Rattle.image_format.specs.View.{view, views};
 ghost use Rattle.text_fields.specs.Front.{Gives, front};
 ghost use Rattle.asm_lines.specs.Trees.{arm_read, call_read, fork_read, line_read, rep_read, seg_read, segs_read, stay_read, tree_ends as ends_test, tree_line_read, tree_read};
@@ -25,7 +26,8 @@ fn tree_ends(bytes: &[u8]) -> bool
 
 /// A line of so many instructions.
 fn line_at(at: LineCursor<'_>) -> Result<(Seg, LineCursor<'_>), FieldError>
-    ensures { Gives (λ x. (view x.0, front x.1)) result (line_read (front at.entry)) }
+    ensures read { Gives (λ x. (view x.0, front x.1)) result (line_read (front at.entry)) }
+    ensures fits { IfOk result (λ x. InnerRowsFit (view x.0)) }
 {
     let (count, at) = field(at, b" line ", 1, 65_535)?;
     Ok((Seg::Line(count), at))
@@ -33,7 +35,8 @@ fn line_at(at: LineCursor<'_>) -> Result<(Seg, LineCursor<'_>), FieldError>
 
 /// A call.
 fn call_at(at: LineCursor<'_>) -> Result<(Seg, LineCursor<'_>), FieldError>
-    ensures { Gives (λ x. (view x.0, front x.1)) result (call_read (front at.entry)) }
+    ensures read { Gives (λ x. (view x.0, front x.1)) result (call_read (front at.entry)) }
+    ensures fits { IfOk result (λ x. InnerRowsFit (view x.0)) }
 {
     let (routine, at) = short_field(at, b" call ", 0, 65_535)?;
     Ok((Seg::Call(routine), at))
@@ -47,8 +50,9 @@ fn arm_at(
     depth: u32,
     at: LineCursor<'_>,
 ) -> Result<(Segs, LineCursor<'_>), FieldError>
-    ensures { Gives (λ x. (views x.0, front x.1)) result
+    ensures read { Gives (λ x. (views x.0, front x.1)) result
         (arm_read (tree_read monitors depth) (front at.entry)) }
+    ensures fits { IfOk result (λ x. RowsFit (views x.0)) }
 {
     let at = skip(at, b" (")?;
     let (tree, at) = tree_at(alloc, monitors, depth, at)?;
@@ -64,8 +68,9 @@ fn fork_at(
     depth: u32,
     at: LineCursor<'_>,
 ) -> Result<(Seg, LineCursor<'_>), FieldError>
-    ensures { Gives (λ x. (view x.0, front x.1)) result
+    ensures read { Gives (λ x. (view x.0, front x.1)) result
         (fork_read (tree_read monitors depth) (front at.entry)) }
+    ensures fits { IfOk result (λ x. InnerRowsFit (view x.0)) }
 {
     let at = skip(at, b" fork")?;
     let (first, at) = arm_at(alloc, monitors, depth, at)?;
@@ -81,8 +86,9 @@ fn rep_at(
     depth: u32,
     at: LineCursor<'_>,
 ) -> Result<(Seg, LineCursor<'_>), FieldError>
-    ensures { Gives (λ x. (view x.0, front x.1)) result
+    ensures read { Gives (λ x. (view x.0, front x.1)) result
         (rep_read (tree_read monitors depth) (front at.entry)) }
+    ensures fits { IfOk result (λ x. InnerRowsFit (view x.0)) }
 {
     let (turns, at) = field(at, b" rep ", 1, 1_000_000)?;
     let (body, at) = arm_at(alloc, monitors, depth, at)?;
@@ -97,8 +103,9 @@ fn stay_at(
     depth: u32,
     at: LineCursor<'_>,
 ) -> Result<(Seg, LineCursor<'_>), FieldError>
-    ensures { Gives (λ x. (view x.0, front x.1)) result
+    ensures read { Gives (λ x. (view x.0, front x.1)) result
         (stay_read monitors (tree_read monitors depth) (front at.entry)) }
+    ensures fits { IfOk result (λ x. InnerRowsFit (view x.0)) }
 {
     let (monitor, at) = short_field(at, b" stay ", 0, 65_535)?;
     let at = note(at, usize::from(monitor) < monitors);
@@ -115,8 +122,9 @@ fn seg_at(
     depth: u32,
     at: LineCursor<'_>,
 ) -> Result<(Seg, LineCursor<'_>), FieldError>
-    ensures { Gives (λ x. (view x.0, front x.1)) result
+    ensures read { Gives (λ x. (view x.0, front x.1)) result
         (seg_read monitors (tree_read monitors depth) (front at.entry)) }
+    ensures fits { IfOk result (λ x. InnerRowsFit (view x.0)) }
 {
     if begins_with(at.rest, b" line ") {
         return line_at(at);
@@ -150,8 +158,10 @@ fn segs_at(
     most: usize,
     at: LineCursor<'_>,
 ) -> Result<(Segs, LineCursor<'_>), FieldError>
-    ensures { Gives (λ x. (views x.0, front x.1)) result
+    requires { most < 2 ^ 32 }
+    ensures read { Gives (λ x. (views x.0, front x.1)) result
         (segs_read (seg_read monitors (tree_read monitors depth)) most (front at.entry)) }
+    ensures fits { IfOk result (λ x. RowsFit (views x.0)) }
 {
     let mut segs = Segs::new(alloc);
     let mut place = at;
@@ -178,8 +188,9 @@ fn tree_at(
     depth: u32,
     at: LineCursor<'_>,
 ) -> Result<(Segs, LineCursor<'_>), FieldError>
-    ensures { Gives (λ x. (views x.0, front x.1)) result
+    ensures read { Gives (λ x. (views x.0, front x.1)) result
         (tree_read monitors depth (front at.entry)) }
+    ensures fits { IfOk result (λ x. RowsFit (views x.0)) }
 {
     if depth == 0 {
         return Err(FieldError::Fault(FieldFault {

@@ -15,5 +15,5 @@ one_here is_next line s x one is_read = rw (one, is_read) refl
 
 -- one that is none of its kind
 pub fault_here : {A : Type 0} (is_next : List ℕ → Bool) (line : Front → Read A) (s : Front) (e : FieldError) → is_next s.rest ≡ true → Fails e (line s) → Fails e (no_more is_next line s)
-fault_here is_next line s errors.Memory one fails = tt
+fault_here is_next line s (errors.Memory _) one fails = tt
 fault_here is_next line s (errors.Fault f) one fails = rw (one, fails) refl

@@ -26,7 +26,7 @@ goes_on is_next one line front most i s x after total lt next h so_far =
 pub fails : {A B : Type 0} (is_next : List ℕ → Bool) (one : List A → Front → Read A) (line : List A → Front → Read B) (e : FieldError) (front : List A) (most i : ℕ) (s : Front) (total : Read (List A))
     → i < most → is_next s.rest ≡ true → Fails e (one front s) → in_front front (rows_read is_next one line front (most - i) s) ≡ total → Fails e total
 unfolding rows_read
-fails is_next one line errors.Memory front most i s total lt next h so_far = tt
+fails is_next one line (errors.Memory _) front most i s total lt next h so_far = tt
 fails is_next one line (errors.Fault x) front most i s total lt next h so_far =
     let k : most - i ≡ suc (most - (i + 1)) = omega arith in
     let step : in_front front (rows_read is_next one line front (most - i) s) ≡ Err x = rw (k, next, h) refl in
@@ -52,7 +52,7 @@ full {A = A} is_next one line front most i s t total le none so_far =
 pub overfull : {A B : Type 0} (is_next : List ℕ → Bool) (one : List A → Front → Read A) (line : List A → Front → Read B) (e : FieldError) (front : List A) (most i : ℕ) (s : Front) (total : Read (List A))
     → most ≤ i → Fails e (no_more is_next (line front) s) → in_front front (rows_read is_next one line front (most - i) s) ≡ total → Fails e total
 unfolding rows_read
-overfull is_next one line errors.Memory front most i s total le h so_far = tt
+overfull is_next one line (errors.Memory _) front most i s total le h so_far = tt
 overfull is_next one line (errors.Fault x) front most i s total le h so_far =
     let k : most - i ≡ 0 = omega arith in
     let step : in_front front (rows_read is_next one line front (most - i) s) ≡ Err x = rw (k, h) refl in

@@ -18,4 +18,4 @@ pub record Reads (text : List ℕ) (raw : RawImage) : Type 0 where
 abbrev pub Tells : List ℕ → Result RawImage AssemblyFault → Type 0
 Tells text (Ok raw) = Reads text raw
 Tells text (Err (faults.Bad number line)) = IsFaultOf text number line
-Tells text (Err faults.Memory) = length text ≤ longest_text
+Tells text (Err (faults.Memory _)) = length text ≤ longest_text

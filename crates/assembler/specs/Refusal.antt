@@ -6,5 +6,5 @@ use Rattle.text_fields.specs.Front.{Front}
 use Rattle.assembler.specs.Sections.{none_read}
 
 abbrev pub Refuses : FieldError → Front → Type 0
-Refuses errors.Memory s = Unit {0}
+Refuses (errors.Memory _) s = Unit {0}
 Refuses (errors.Fault f) s = f ≡ none_read s

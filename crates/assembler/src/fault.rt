@@ -1,5 +1,6 @@
 //! Why a text tells no image.
 
+use out_of_memory::OutOfMemory;
 use thiserror::Error;
 
 /// The number of the fault of a text that is too long.
@@ -15,5 +16,5 @@ pub enum AssemblyFault {
     Bad { number: u8, line: u32 },
     /// There was not enough memory for the image.
     #[error("out of memory")]
-    Memory,
+    Memory(OutOfMemory),
 }

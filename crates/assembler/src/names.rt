@@ -11,7 +11,8 @@ ghost use Rattle.assembler.specs.Sections.{conditions_read, devices_read, events
 use asm_lines::{condition_line, device_line, event_line, monitor_line};
 use image::{ConditionName, DeviceName};
 use image_reader::NamedMonitors;
-use std::alloc::{AllocError, Global};
+use out_of_memory::OutOfMemory;
+use std::alloc::Global;
 use syntax_tree::{List, Name};
 use text_fields::{FieldError, FieldFault, LineCursor, begins_with, refusal};
 
@@ -25,7 +26,7 @@ const MOST_MONITORS: usize = 64;
 const MOST_CONDITIONS: usize = 256;
 
 /// Takes a name, so that no later part may have it.
-pub fn take(alloc: Global, taken: &mut List<Name>, name: &Name) -> Result<(), AllocError>
+pub fn take(alloc: Global, taken: &mut List<Name>, name: &Name) -> Result<(), OutOfMemory>
     ensures { OnOk result (taken.new ≡ taken.old ++ name.now ∷ []) }
 {
     let copy = Name::new(alloc, name.as_bytes())?;

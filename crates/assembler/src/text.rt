@@ -1,6 +1,6 @@
 //! Whole texts.
 
-ghost use Rattle.std.specs.Prelude.{◌≡◌, ◌≤◌, ◌&&◌, length, map, nat_lt, IfOk};
+ghost use Rattle.std.specs.Prelude.{◌≡◌, ◌≤◌, ◌<◌, ◌^◌, ◌&&◌, length, map, nat_lt, IfOk};
 ghost use Rattle.std.specs.List.{zip};
 ghost use Rattle.image.specs.Raw.{monitor_of, named_of, process_of};
 ghost use Rattle.image_reader.specs.Answer.{parts_of};
@@ -143,6 +143,7 @@ fn owners_of(text: &[u8]) -> usize
 /// The image that the text tells.
 #[tactic(auto, unfolding(crate::specs::Sections::text_read))]
 fn image_at(alloc: Global, text: &[u8]) -> Result<RawImage, FieldError>
+    requires { length text.now < 2 ^ 32 }
     ensures read { Gives parts_of result (text_read text.now) }
     ensures image { IfOk result (λ raw. named_of raw ≡ image_with (parts_of raw)) }
 {
@@ -184,7 +185,7 @@ pub fn asm(alloc: Global, text: &[u8]) -> Result<RawImage, AssemblyFault>
     }
     match image_at(alloc, text) {
         Ok(image) => Ok(image),
-        Err(FieldError::Memory) => Err(AssemblyFault::Memory),
+        Err(FieldError::Memory(error)) => Err(AssemblyFault::Memory(error)),
         Err(FieldError::Fault(fault)) => Err(AssemblyFault::Bad {
             number: fault.number,
             line: line_of(text, fault.left),

@@ -14,7 +14,8 @@ use crate::names::take;
 use asm_lines::{process_at, process_line, routine_at, routine_line};
 use image::{RawProcess, RawRoutine};
 use image_reader::NamedProcesses;
-use std::alloc::{AllocError, Global};
+use out_of_memory::OutOfMemory;
+use std::alloc::Global;
 use syntax_tree::{List, Name};
 use text_fields::{FieldError, FieldFault, LineCursor, begins_with, refusal};
 
@@ -67,7 +68,7 @@ pub fn routines_at(
 }
 
 /// Notes the event that releases the process, where there is one.
-fn use_event(used: &mut List<u16>, process: &RawProcess) -> Result<(), AllocError>
+fn use_event(used: &mut List<u16>, process: &RawProcess) -> Result<(), OutOfMemory>
     ensures { OnOk result (used.new ≡ used.old ++ event_of (process_of process.now)) }
 {
     if process.kind != 0 {

@@ -10,12 +10,13 @@ ghost use Rattle.code_cost.specs.Sums.{held};
 
 use crate::expressions::{check, expr};
 use crate::loops::count_from;
-use crate::measure::{Measure, RoutineMeasure, cap, hold};
+use crate::measure::{MOST, Measure, RoutineMeasure, cap, hold};
 use crate::statements::stmts;
 use base::Cost;
 use codegen_spec::{Lookup, Lookups, Owner, ValueRange};
 use machine_isa::Instr;
-use std::alloc::{AllocError, Global};
+use out_of_memory::OutOfMemory;
+use std::alloc::Global;
 use syntax_tree::{Handler, List, Process, Routine, Scalar};
 
 /// What a process takes at most: the cost of an activation, dispatches left aside, the words of
@@ -67,7 +68,7 @@ fn inner<L: Lookup>(
     names: &L,
     rows: &[RoutineMeasure],
     routine: &Routine,
-) -> Result<Measure, AllocError>
+) -> Result<Measure, OutOfMemory>
     ensures { IfOk result (λ m. m ≡ inner_size (L.program names.now) (L.scope names.now) rows.now
         (plain_routine (placed_routine routine.now))) }
 {
@@ -76,15 +77,22 @@ fn inner<L: Lookup>(
     Ok(body.then(answer(names, rows, routine)))
 }
 
+/// Words, up to `MOST`.
+fn held_words(words: u128) -> u64
+    ensures { result ≡ held words }
+{
+    words.min(u128::from(MOST)) as u64
+}
+
 /// What is known of a routine, from those before it; its parameters and variables take so many
 /// words.
 fn row<L: Lookup>(
     alloc: Global,
     names: &L,
-    words: usize,
+    words: u128,
     rows: &[RoutineMeasure],
     routine: &Routine,
-) -> Result<RoutineMeasure, AllocError>
+) -> Result<RoutineMeasure, OutOfMemory>
     ensures { IfOk result (λ k. k ≡ known_of (L.program names.now)
         (L.scope names.now) words rows.now (plain_routine (placed_routine routine.now))) }
 {
@@ -98,13 +106,13 @@ fn row<L: Lookup>(
         cost: size.cost,
         stay,
         height: size.height,
-        words: count_from(words as u64, routine.body.as_slice()),
+        words: count_from(held_words(words), routine.body.as_slice()),
         length: size.length,
     })
 }
 
 /// All routines by number.
-fn rows<P: Lookups>(alloc: Global, program: &P) -> Result<List<RoutineMeasure>, AllocError>
+fn rows<P: Lookups>(alloc: Global, program: &P) -> Result<List<RoutineMeasure>, OutOfMemory>
     ensures { IfOk result (λ rows. rows ≡ rows_of (P.program program.now)) }
 {
     let mut rows = List::new(alloc);
@@ -129,7 +137,7 @@ fn handler<L: Lookup>(
     names: &L,
     rows: &[RoutineMeasure],
     handler: &Option<Handler>,
-) -> Result<Measure, AllocError>
+) -> Result<Measure, OutOfMemory>
     ensures { IfOk result (λ m. m ≡ handler_size (L.program names.now) (L.scope names.now) rows.now
         (optional plain_handler (optional placed_handler handler.now))) }
 {
@@ -160,7 +168,7 @@ fn process<L: Lookup>(
     names: &L,
     rows: &[RoutineMeasure],
     process: &Process,
-) -> Result<ProcessMeasure, AllocError>
+) -> Result<ProcessMeasure, OutOfMemory>
     ensures { IfOk result (λ m. m ≡ process_size (L.program names.now) (L.scope names.now) rows.now
         (plain_process (placed_process process.now))) }
 {
@@ -177,7 +185,7 @@ fn process<L: Lookup>(
 
 /// The measures of a program: those of its routines, each from those that it calls, which have
 /// lower numbers, and those of its processes. It fails only where memory is wanting.
-pub fn measure_program<P: Lookups>(alloc: Global, program: &P) -> Result<Measures, AllocError>
+pub fn measure_program<P: Lookups>(alloc: Global, program: &P) -> Result<Measures, OutOfMemory>
     ensures { IfOk result (λ m. m ≡ measures_of (P.program program.now)) }
 {
     let routines = rows(alloc, program)?;

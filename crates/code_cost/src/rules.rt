@@ -12,8 +12,9 @@ use crate::Measures;
 use crate::lengths::code_length;
 use crate::stacks::first_large;
 use code_names::Numbering;
+use out_of_memory::OutOfMemory;
 use static_rule::{Violation, rule, sooner};
-use std::alloc::{AllocError, Global};
+use std::alloc::Global;
 use syntax_tree::{Place, Program};
 
 /// A program has at most so many instructions.
@@ -42,7 +43,7 @@ pub fn too_large(
     alloc: Global,
     program: &Program,
     measures: &Measures,
-) -> Result<Option<Violation>, AllocError>
+) -> Result<Option<Violation>, OutOfMemory>
     requires numbers { HaveNumbers (plain (placed program.now)) }
     requires defined { AreDefined (plain (placed program.now)) measures.now }
     ensures { IfOk result (λ first. IsFirstOf (SizeFails (placed program.now)) first) }

@@ -15,7 +15,8 @@ use crate::measure::{Measure, RoutineMeasure};
 use base::{Cost, OVER};
 use codegen_spec::{Lookup, Loop, VarLocation};
 use machine_isa::Instr;
-use std::alloc::{AllocError, Global};
+use out_of_memory::OutOfMemory;
+use std::alloc::Global;
 use syntax_tree::{Constant, Expr, Name, Ref, Stmt};
 
 /// The ticks of a store.
@@ -111,7 +112,7 @@ fn body<L: Lookup>(
     loops: &mut Vec<Loop>,
     name: &Name,
     body: &[Stmt],
-) -> Result<Measure, AllocError>
+) -> Result<Measure, OutOfMemory>
     ensures size { IfOk result (λ m. m ≡ stmts_size (L.program names.now)
         (within (inside loops.old.items (L.scope names.now)) name.now 0) rows.now nothing
         (plain_stmts (placed_stmts body.now))) }
@@ -134,7 +135,7 @@ pub fn stmt<L: Lookup>(
     rows: &[RoutineMeasure],
     loops: &mut Vec<Loop>,
     stmt: &Stmt,
-) -> Result<Measure, AllocError>
+) -> Result<Measure, OutOfMemory>
     ensures size { IfOk result (λ m. m ≡ stmt_size (L.program names.now)
         (inside loops.old.items (L.scope names.now)) rows.now (plain_stmt (placed_stmt stmt.now))) }
     ensures loops { OnOk result (loops.new.items ≡ loops.old.items) }
@@ -248,7 +249,7 @@ pub fn stmts<L: Lookup>(
     rows: &[RoutineMeasure],
     loops: &mut Vec<Loop>,
     stmts: &[Stmt],
-) -> Result<Measure, AllocError>
+) -> Result<Measure, OutOfMemory>
     ensures size { IfOk result (λ m. m ≡ stmts_size (L.program names.now)
         (inside loops.old.items (L.scope names.now)) rows.now nothing
         (plain_stmts (placed_stmts stmts.now))) }

@@ -9,7 +9,8 @@ use crate::tables::Tables;
 use crate::{ConstantValues, range_of};
 use code_names::Body;
 use codegen_spec::{Callee, ValueRange};
-use std::alloc::{AllocError, Global};
+use out_of_memory::OutOfMemory;
+use std::alloc::Global;
 use syntax_tree::{List, Param};
 
 /// The range of each parameter, if it has one.
@@ -17,7 +18,7 @@ fn ranges(
     alloc: Global,
     values: &ConstantValues<'_>,
     params: &[Param],
-) -> Result<List<Option<ValueRange>>, AllocError>
+) -> Result<List<Option<ValueRange>>, OutOfMemory>
     ensures { IfOk result (λ ranges. ranges ≡
         map (λ p. range_told (plain (placed values.now)) p.kind)
         (map plain_param (map placed_param params.now))) }
@@ -30,7 +31,7 @@ fn ranges(
 }
 
 /// A routine that is called: its number, and the range of each of its parameters.
-pub fn callee(alloc: Global, tables: &Tables<'_>, text: Body<'_>) -> Result<Callee, AllocError>
+pub fn callee(alloc: Global, tables: &Tables<'_>, text: Body<'_>) -> Result<Callee, OutOfMemory>
     ensures { IfOk result (λ callee. callee ≡
         callee_of (plain (placed tables.now)) (text_of text.entry)) }
 {

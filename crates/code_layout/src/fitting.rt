@@ -1,6 +1,6 @@
 //! Numbers as they fit into an operand.
 
-ghost use Rattle.std.specs.Prelude.{◌≡◌, pos, ◌≤ℤ◌, ◌-ℤ◌, negsuc};
+ghost use Rattle.std.specs.Prelude.{◌≡◌, ◌<◌, ◌^◌, pos, ◌≤ℤ◌, ◌-ℤ◌, negsuc};
 ghost use Rattle.codegen_spec.specs.Told.{fit};
 ghost use Rattle.source_semantics.specs.Store.{up_to};
 
@@ -18,7 +18,7 @@ pub fn fit_value(value: i64) -> i32
 }
 
 /// The same of a word or a count of words.
-pub fn fit_word(word: u64) -> i32
+pub fn fit_word(word: u128) -> i32
     ensures { result ≡ fit (pos word) }
 {
     if word > 2_147_483_647 {
@@ -32,7 +32,8 @@ pub fn fit_word(word: u64) -> i32
 pub fn count_between(low: i64, high: i64) -> u64
     requires low { (negsuc 4294967294 ≤ℤ low) × (low ≤ℤ pos 4294967295) }
     requires high { (negsuc 4294967294 ≤ℤ high) × (high ≤ℤ pos 4294967295) }
-    ensures { result ≡ up_to (high -ℤ low) }
+    ensures exact { result ≡ up_to (high -ℤ low) }
+    ensures small { result < 2 ^ 33 }
 {
     if high < low {
         0

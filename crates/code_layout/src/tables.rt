@@ -10,7 +10,8 @@ ghost use Rattle.codegen_spec.specs.Told.{fit, value_told};
 
 use crate::{ConstantValues, fit_value, fit_word};
 use code_names::{NameList, Numbering};
-use std::alloc::{AllocError, Global};
+use out_of_memory::OutOfMemory;
+use std::alloc::Global;
 use std::marker::Model;
 use syntax_tree::{Constant, Declaration, Name, Program};
 
@@ -51,7 +52,7 @@ impl Drop for Tables<'_> {
 }
 
 /// Lists the device that a declaration declares, if it does.
-fn list_device<'a>(names: &mut Vec<&'a [u8]>, decl: &'a Declaration) -> Result<(), AllocError>
+fn list_device<'a>(names: &mut Vec<&'a [u8]>, decl: &'a Declaration) -> Result<(), OutOfMemory>
     ensures { OnOk result ((rest : List SpecDecl) → names_of names.new.items ++
         filter_map device_in rest ≡ names_of names.old.items ++
         filter_map device_in (plain_decl (placed_decl decl.now) ∷ rest)) }
@@ -63,7 +64,7 @@ fn list_device<'a>(names: &mut Vec<&'a [u8]>, decl: &'a Declaration) -> Result<(
 }
 
 /// The names of the devices.
-fn device_names<'a>(alloc: Global, decls: &'a [Declaration]) -> Result<NameList<'a>, AllocError>
+fn device_names<'a>(alloc: Global, decls: &'a [Declaration]) -> Result<NameList<'a>, OutOfMemory>
     ensures { IfOk result (λ names. names ≡ filter_map device_in
         (map plain_decl (map placed_decl decls.now))) }
 {
@@ -87,7 +88,7 @@ pub fn number(list: &NameList<'_>, name: &Name) -> usize
 
 impl<'a> Tables<'a> {
     /// Goes once through the text of the program.
-    pub fn new(alloc: Global, program: &'a Program) -> Result<Tables<'a>, AllocError>
+    pub fn new(alloc: Global, program: &'a Program) -> Result<Tables<'a>, OutOfMemory>
         ensures { IfOk result (λ t. t ≡ program.now) }
     {
         let devices = device_names(alloc, program.decls.as_slice())?;
@@ -133,6 +134,6 @@ impl<'a> Tables<'a> {
     pub fn device(&self, name: &Name) -> i32
         ensures { result ≡ fit (pos (device_number (plain (placed self.now)) name.now)) }
     {
-        fit_word(number(&self.devices, name) as u64)
+        fit_word(number(&self.devices, name) as u128)
     }
 }

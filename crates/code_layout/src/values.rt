@@ -4,8 +4,9 @@ ghost use Rattle.std.specs.Prelude.{◌≡◌, IfOk, ◌≤ℤ◌, pos, negsuc};
 ghost use Rattle.syntax_tree.specs.Placed.{placed, plain, placed_constant, plain_constant};
 ghost use Rattle.source_semantics.specs.Names.{constants, constant_value, value_among};
 
+use out_of_memory::OutOfMemory;
 use static_declarations::values;
-use std::alloc::{AllocError, Global};
+use std::alloc::Global;
 use std::marker::Model;
 use syntax_tree::{Constant, Name, Program};
 
@@ -33,7 +34,7 @@ impl<'a> Model for ConstantValues<'a> {
 
 impl<'a> ConstantValues<'a> {
     /// Goes once through the declarations of the program.
-    pub fn new(alloc: Global, program: &'a Program) -> Result<ConstantValues<'a>, AllocError>
+    pub fn new(alloc: Global, program: &'a Program) -> Result<ConstantValues<'a>, OutOfMemory>
         ensures { IfOk result (λ v. v ≡ program.now) }
     {
         let kept = values::values(alloc, program.decls.as_slice())?;

@@ -1,6 +1,6 @@
 //! Variables one after the other.
 
-ghost use Rattle.std.specs.Prelude.{◌≡◌, ◌+◌, OnOk, List, [], ◌∷◌, ◌++◌, map, option_map, filter_map, length};
+ghost use Rattle.std.specs.Prelude.{◌≡◌, ◌≤◌, ◌<◌, ◌+◌, ◌^◌, OnOk, List, [], ◌∷◌, ◌++◌, map, option_map, filter_map, length};
 ghost use Rattle.syntax_tree.specs.Placed.{placed, plain, placed_kind, placed_member, placed_param, placed_scalar, placed_var, plain_kind, plain_member, plain_param, plain_scalar, plain_var};
 ghost use Rattle.source_semantics.specs.Names.{variable_in};
 ghost use Rattle.source_semantics.specs.Store.{range_of as range_of_kind, kind_range as range_of_type};
@@ -14,16 +14,18 @@ ghost use Rattle.codegen_spec.specs.declared.var_location.Area.TheVariants as in
 use crate::fitting::{count_between, fit_value, fit_word};
 use crate::values::ConstantValues;
 use codegen_spec::{Area, ValueRange, VarLocation, VarShape};
-use std::alloc::{AllocError, Global};
+use out_of_memory::OutOfMemory;
+use std::alloc::Global;
 use syntax_tree::{Member, Name, Param, Scalar, Type, Var};
 
 /// Variables that are laid one after the other: their names, where they lie, and the word behind
-/// them.
+/// them. 128 bits tell it exactly: there are fewer than 2^64 variables, each with fewer than 2^33
+/// words.
 #[derive(Drop)]
 pub struct VarLayout<'a> {
     pub names: Vec<&'a [u8]>,
     pub spots: Vec<VarLocation>,
-    pub word: u64,
+    pub word: u128,
 }
 
 /// The range that values of a type keep to, if any.
@@ -42,8 +44,9 @@ pub fn range_of(values: &ConstantValues<'_>, kind: &Scalar) -> Option<ValueRange
 
 /// How many words a variable of a type takes.
 fn size(values: &ConstantValues<'_>, kind: &Type) -> u64
-    ensures { result ≡ size_of (shape_of (plain (placed values.now))
+    ensures exact { result ≡ size_of (shape_of (plain (placed values.now))
         (plain_kind (placed_kind kind.now))) }
+    ensures small { result < 2 ^ 33 }
 {
     match kind {
         Type::Scalar(_) => 1,
@@ -59,7 +62,7 @@ fn shape(values: &ConstantValues<'_>, kind: &Type) -> VarShape
         Type::Scalar(_) => VarShape::Single,
         Type::Array { low, .. } => VarShape::Array {
             low: fit_value(values.value(low)),
-            len: fit_word(size(values, kind)),
+            len: fit_word(u128::from(size(values, kind))),
         },
     }
 }
@@ -77,7 +80,7 @@ fn kind_range(values: &ConstantValues<'_>, kind: &Type) -> Option<ValueRange>
 
 impl<'a> VarLayout<'a> {
     /// No variables; the first is to lie at this word.
-    pub fn new(alloc: Global, word: u64) -> VarLayout<'a>
+    pub fn new(alloc: Global, word: u128) -> VarLayout<'a>
         ensures names { result.names.items ≡ [] }
         ensures spots { result.spots.items ≡ [] }
         ensures word { result.word ≡ word }
@@ -96,18 +99,16 @@ fn lay<'a>(
     name: &'a Name,
     spot: VarLocation,
     size: u64,
-) -> Result<(), AllocError>
+) -> Result<(), OutOfMemory>
+    requires room { laying.old.word < 2 ^ 127 }
     ensures names { OnOk result (names_of laying.new.names.items ≡
         names_of laying.old.names.items ++ name.now ∷ []) }
     ensures spots { OnOk result (laying.new.spots.items ≡ laying.old.spots.items ++ spot ∷ []) }
     ensures word { OnOk result (laying.new.word ≡ laying.old.word + size) }
 {
-    let Some(word) = laying.word.checked_add(size) else {
-        return Err(AllocError);
-    };
     laying.names.push(name.as_bytes())?;
     laying.spots.push(spot)?;
-    laying.word = word;
+    laying.word += u128::from(size);
     Ok(())
 }
 
@@ -117,7 +118,8 @@ fn lay_var<'a>(
     area: Area,
     laying: &mut VarLayout<'a>,
     var: &'a Var,
-) -> Result<(), AllocError>
+) -> Result<(), OutOfMemory>
+    requires { laying.old.word < 2 ^ 127 }
     ensures names { OnOk result ((rest : List SpecVar) → names_of laying.new.names.items ++
         place_names (places_from (plain (placed values.now)) laying.new.word rest) ≡
         names_of laying.old.names.items ++ place_names
@@ -131,6 +133,7 @@ fn lay_var<'a>(
     ensures word { OnOk result ((rest : List SpecVar) → laying.new.word +
         words_of (plain (placed values.now)) rest ≡ laying.old.word +
         words_of (plain (placed values.now)) (plain_var (placed_var var.now) ∷ rest)) }
+    ensures small { OnOk result (laying.new.word ≤ laying.old.word + 2 ^ 33) }
 {
     let spot = VarLocation {
         area,
@@ -148,7 +151,8 @@ pub fn lay_vars<'a>(
     area: Area,
     laying: &mut VarLayout<'a>,
     vars: &'a [Var],
-) -> Result<(), AllocError>
+) -> Result<(), OutOfMemory>
+    requires { laying.old.word ≤ 2 ^ 98 }
     ensures names { OnOk result (names_of laying.new.names.items ≡
         names_of laying.old.names.items ++ place_names
         (places_from (plain (placed values.now)) laying.old.word
@@ -158,6 +162,7 @@ pub fn lay_vars<'a>(
         (map plain_var (map placed_var vars.now)))) }
     ensures word { OnOk result (laying.new.word ≡ laying.old.word +
         words_of (plain (placed values.now)) (map plain_var (map placed_var vars.now))) }
+    ensures small { OnOk result (laying.new.word ≤ laying.old.word + 2 ^ 97) }
 {
     for var in vars {
         lay_var(values, area, laying, var)?;
@@ -170,7 +175,8 @@ fn lay_member<'a>(
     values: &ConstantValues<'_>,
     laying: &mut VarLayout<'a>,
     member: &'a Member,
-) -> Result<(), AllocError>
+) -> Result<(), OutOfMemory>
+    requires { laying.old.word < 2 ^ 127 }
     ensures names { OnOk result ((rest : List SpecMember) → names_of laying.new.names.items ++
         place_names (places_from (plain (placed values.now)) laying.new.word
         (filter_map variable_in rest)) ≡ names_of laying.old.names.items ++
@@ -185,6 +191,7 @@ fn lay_member<'a>(
         words_of (plain (placed values.now)) (filter_map variable_in rest) ≡ laying.old.word +
         words_of (plain (placed values.now)) (filter_map variable_in
         (plain_member (placed_member member.now) ∷ rest))) }
+    ensures small { OnOk result (laying.new.word ≤ laying.old.word + 2 ^ 33) }
 {
     match member {
         Member::Var(var) => {
@@ -200,7 +207,8 @@ pub fn lay_members<'a>(
     values: &ConstantValues<'_>,
     laying: &mut VarLayout<'a>,
     members: &'a [Member],
-) -> Result<(), AllocError>
+) -> Result<(), OutOfMemory>
+    requires { laying.old.word ≤ 2 ^ 98 }
     ensures names { OnOk result (names_of laying.new.names.items ≡
         names_of laying.old.names.items ++ place_names
         (places_from (plain (placed values.now)) laying.old.word
@@ -223,7 +231,8 @@ fn lay_param<'a>(
     values: &ConstantValues<'_>,
     laying: &mut VarLayout<'a>,
     param: &'a Param,
-) -> Result<(), AllocError>
+) -> Result<(), OutOfMemory>
+    requires { laying.old.word < 2 ^ 127 }
     ensures names { OnOk result ((rest : List SpecParam) → names_of laying.new.names.items ++
         place_names (param_places (plain (placed values.now)) laying.new.word rest) ≡
         names_of laying.old.names.items ++ place_names
@@ -251,7 +260,8 @@ pub fn lay_params<'a>(
     values: &ConstantValues<'_>,
     laying: &mut VarLayout<'a>,
     params: &'a [Param],
-) -> Result<(), AllocError>
+) -> Result<(), OutOfMemory>
+    requires { laying.old.word ≤ 2 ^ 98 }
     ensures names { OnOk result (names_of laying.new.names.items ≡
         names_of laying.old.names.items ++ place_names
         (param_places (plain (placed values.now)) laying.old.word
@@ -260,6 +270,7 @@ pub fn lay_params<'a>(
         told_all in_area.Frame (param_places (plain (placed values.now)) laying.old.word
         (map plain_param (map placed_param params.now)))) }
     ensures word { OnOk result (laying.new.word ≡ laying.old.word + length params.now) }
+    ensures small { OnOk result (laying.new.word ≤ laying.old.word + 2 ^ 64) }
 {
     for param in params {
         lay_param(values, laying, param)?;

@@ -7,7 +7,8 @@ ghost use Rattle.code_layout.specs.LayoutTables.{spot_in};
 use crate::var_layout::VarLayout;
 use code_names::NameList;
 use codegen_spec::VarLocation;
-use std::alloc::{AllocError, Global};
+use out_of_memory::OutOfMemory;
+use std::alloc::Global;
 use std::marker::Model;
 use syntax_tree::Name;
 
@@ -36,7 +37,7 @@ impl Drop for VarLocations<'_> {
 
 impl<'a> VarLocations<'a> {
     /// The table of variables that are laid.
-    pub fn new(alloc: Global, laid: VarLayout<'a>) -> Result<VarLocations<'a>, AllocError>
+    pub fn new(alloc: Global, laid: VarLayout<'a>) -> Result<VarLocations<'a>, OutOfMemory>
         ensures names { IfOk result (λ t. t.names ≡ names_of laid.entry.names.items) }
         ensures spots { IfOk result (λ t. t.spots ≡ laid.entry.spots.items) }
     {

@@ -16,7 +16,7 @@ fn in_one(spot: Option<VarLocation>, around: &Loop, name: &Name) -> Option<VarLo
     if around.name == *name {
         Some(VarLocation {
             area: Area::Frame,
-            word: fit_word(around.word as u64),
+            word: fit_word(around.word),
             shape: VarShape::Single,
             range: None,
         })

@@ -4,3 +4,4 @@ pub mod Listing
 pub mod Meaning
 pub mod Visiting
 pub mod Found
+pub mod Tasks

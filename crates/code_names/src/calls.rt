@@ -5,7 +5,8 @@ ghost use Rattle.syntax_tree.specs.Placed.{optional, placed_expr, placed_exprs, 
 ghost use Rattle.code_spec.specs.Numbering.{Called as SpecCalled, routine_calls as calls_of};
 ghost use Rattle.code_names.specs.Calls.{called_of, calls_told, expr_called, exprs_called, ref_called, row_called, stmt_called, stmts_called, answers_called};
 
-use std::alloc::{AllocError, Global};
+use out_of_memory::OutOfMemory;
+use std::alloc::Global;
 use syntax_tree::{Expr, Name, Op, Ref, Routine, Scalar, Stmt};
 
 /// What a call names: a routine, or an entry of a monitor.
@@ -15,7 +16,7 @@ pub enum Called<'a> {
     Entry { monitor: &'a Name, name: &'a Name },
 }
 
-fn call<'a>(calls: &mut Vec<Called<'a>>, called: Called<'a>) -> Result<(), AllocError>
+fn call<'a>(calls: &mut Vec<Called<'a>>, called: Called<'a>) -> Result<(), OutOfMemory>
     ensures { OnOk result ((more : List SpecCalled) → calls_told calls.new.items ++ more ≡
         calls_told calls.old.items ++ called_of called.entry ∷ more) }
 {
@@ -24,7 +25,7 @@ fn call<'a>(calls: &mut Vec<Called<'a>>, called: Called<'a>) -> Result<(), Alloc
 }
 
 #[cycle(expr)]
-fn exprs<'a>(calls: &mut Vec<Called<'a>>, list: &'a [Expr]) -> Result<(), AllocError>
+fn exprs<'a>(calls: &mut Vec<Called<'a>>, list: &'a [Expr]) -> Result<(), OutOfMemory>
     ensures { OnOk result ((more : List SpecCalled) → calls_told calls.new.items ++ more ≡
         calls_told calls.old.items ++ exprs_called (plain_exprs (placed_exprs list.now)) more) }
 {
@@ -36,7 +37,7 @@ fn exprs<'a>(calls: &mut Vec<Called<'a>>, list: &'a [Expr]) -> Result<(), AllocE
 
 /// The right operands of a row of operators.
 #[cycle(expr)]
-fn operands<'a>(calls: &mut Vec<Called<'a>>, list: &'a [(Op, Expr)]) -> Result<(), AllocError>
+fn operands<'a>(calls: &mut Vec<Called<'a>>, list: &'a [(Op, Expr)]) -> Result<(), OutOfMemory>
     ensures { OnOk result ((more : List SpecCalled) → calls_told calls.new.items ++ more ≡
         calls_told calls.old.items ++ row_called (plain_operands (placed_operands list.now)) more) }
 {
@@ -47,7 +48,7 @@ fn operands<'a>(calls: &mut Vec<Called<'a>>, list: &'a [(Op, Expr)]) -> Result<(
 }
 
 #[cycle(expr)]
-fn expr<'a>(calls: &mut Vec<Called<'a>>, e: &'a Expr) -> Result<(), AllocError>
+fn expr<'a>(calls: &mut Vec<Called<'a>>, e: &'a Expr) -> Result<(), OutOfMemory>
     ensures { OnOk result ((more : List SpecCalled) → calls_told calls.new.items ++ more ≡
         calls_told calls.old.items ++ expr_called (plain_expr (placed_expr e.now)) more) }
 {
@@ -74,7 +75,7 @@ fn call_with<'a>(
     calls: &mut Vec<Called<'a>>,
     called: Called<'a>,
     args: &'a [Expr],
-) -> Result<(), AllocError>
+) -> Result<(), OutOfMemory>
     ensures { OnOk result ((more : List SpecCalled) → calls_told calls.new.items ++ more ≡
         calls_told calls.old.items ++ called_of called.entry ∷
         exprs_called (plain_exprs (placed_exprs args.now)) more) }
@@ -85,7 +86,7 @@ fn call_with<'a>(
 }
 
 /// What is assigned to.
-fn target<'a>(calls: &mut Vec<Called<'a>>, target: &'a Ref) -> Result<(), AllocError>
+fn target<'a>(calls: &mut Vec<Called<'a>>, target: &'a Ref) -> Result<(), OutOfMemory>
     ensures { OnOk result ((more : List SpecCalled) → calls_told calls.new.items ++ more ≡
         calls_told calls.old.items ++ ref_called (plain_ref (placed_ref target.now)) more) }
 {
@@ -96,7 +97,7 @@ fn target<'a>(calls: &mut Vec<Called<'a>>, target: &'a Ref) -> Result<(), AllocE
 }
 
 #[cycle(stmt)]
-fn stmts<'a>(calls: &mut Vec<Called<'a>>, list: &'a [Stmt]) -> Result<(), AllocError>
+fn stmts<'a>(calls: &mut Vec<Called<'a>>, list: &'a [Stmt]) -> Result<(), OutOfMemory>
     ensures { OnOk result ((more : List SpecCalled) → calls_told calls.new.items ++ more ≡
         calls_told calls.old.items ++ stmts_called (plain_stmts (placed_stmts list.now)) more) }
 {
@@ -107,7 +108,7 @@ fn stmts<'a>(calls: &mut Vec<Called<'a>>, list: &'a [Stmt]) -> Result<(), AllocE
 }
 
 #[cycle(stmt)]
-fn stmt<'a>(calls: &mut Vec<Called<'a>>, s: &'a Stmt) -> Result<(), AllocError>
+fn stmt<'a>(calls: &mut Vec<Called<'a>>, s: &'a Stmt) -> Result<(), OutOfMemory>
     ensures { OnOk result ((more : List SpecCalled) → calls_told calls.new.items ++ more ≡
         calls_told calls.old.items ++ stmt_called (plain_stmt (placed_stmt s.now)) more) }
 {
@@ -178,7 +179,7 @@ fn answer<'a>(
     calls: &mut Vec<Called<'a>>,
     kind: &'a Option<Scalar>,
     value: &'a Option<Expr>,
-) -> Result<(), AllocError>
+) -> Result<(), OutOfMemory>
     ensures { OnOk result ((more : List SpecCalled) → calls_told calls.new.items ++ more ≡
         calls_told calls.old.items ++ answers_called
         (plain_answers (optional placed_scalar kind.now) (optional placed_expr value.now)) more) }
@@ -190,7 +191,10 @@ fn answer<'a>(
 }
 
 /// What a routine calls, in the order of the calls.
-pub fn routine_calls<'a>(alloc: Global, routine: &'a Routine) -> Result<Vec<Called<'a>>, AllocError>
+pub fn routine_calls<'a>(
+    alloc: Global,
+    routine: &'a Routine,
+) -> Result<Vec<Called<'a>>, OutOfMemory>
     ensures { IfOk result (λ calls. calls_told calls.items ≡
         calls_of (plain_routine (placed_routine routine.now))) }
 {

@@ -15,7 +15,8 @@ use crate::calls::{Called, routine_calls};
 use crate::parts::{ProgramParts, parts_of};
 use crate::text::{Body, RoutineOwner};
 use crate::text_list::TextList;
-use std::alloc::{AllocError, Global};
+use out_of_memory::OutOfMemory;
+use std::alloc::Global;
 use std::marker::Model;
 use syntax_tree::{Monitor, Name, Process, Program};
 
@@ -45,7 +46,7 @@ impl<'a> Model for Directory<'a> {
 }
 
 /// The names of monitors.
-fn monitor_names<'a>(alloc: Global, monitors: &[&'a Monitor]) -> Result<NameList<'a>, AllocError>
+fn monitor_names<'a>(alloc: Global, monitors: &[&'a Monitor]) -> Result<NameList<'a>, OutOfMemory>
     ensures { IfOk result (λ names. names ≡ map (λ m. (monitor_of m).name) monitors.now) }
 {
     let mut names = Vec::new(alloc);
@@ -57,7 +58,7 @@ fn monitor_names<'a>(alloc: Global, monitors: &[&'a Monitor]) -> Result<NameList
 }
 
 impl<'a> Directory<'a> {
-    pub fn new(alloc: Global, program: &'a Program) -> Result<Directory<'a>, AllocError>
+    pub fn new(alloc: Global, program: &'a Program) -> Result<Directory<'a>, OutOfMemory>
         ensures { IfOk result (λ d. d ≡ program.now) }
     {
         let parts = parts_of(alloc, program)?;
@@ -158,7 +159,7 @@ impl<'a> Directory<'a> {
     }
 
     /// What a routine calls, in the order of the calls.
-    pub fn callees(&self, alloc: Global, text: Body<'a>) -> Result<Vec<Body<'a>>, AllocError>
+    pub fn callees(&self, alloc: Global, text: Body<'a>) -> Result<Vec<Body<'a>>, OutOfMemory>
         ensures { IfOk result (λ list. texts_of list.items ≡
             callees_of (plain (placed self.now)) (text_of text.entry)) }
     {
@@ -172,7 +173,7 @@ impl<'a> Directory<'a> {
 }
 
 /// Lists what is called, if something is.
-fn list_callee<'a>(list: &mut Vec<Body<'a>>, callee: Option<Body<'a>>) -> Result<(), AllocError>
+fn list_callee<'a>(list: &mut Vec<Body<'a>>, callee: Option<Body<'a>>) -> Result<(), OutOfMemory>
     ensures { OnOk result ((rest : List SpecText) → texts_of list.new.items ++ rest ≡
         texts_of list.old.items ++ cons_option (option_map text_of callee.entry) rest) }
 {

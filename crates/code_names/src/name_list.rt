@@ -9,7 +9,8 @@ ghost use Rattle.std.specs.Prelude.{◌≡◌, ℕ, map, length, IfOk, OnOk};
 ghost use Rattle.code_names.specs.First.{index_of, first_index, names_of, with_first};
 
 use indexmap::IndexMap;
-use std::alloc::{AllocError, Global};
+use out_of_memory::OutOfMemory;
+use std::alloc::Global;
 use std::marker::Model;
 use syntax_tree::Name;
 
@@ -50,7 +51,7 @@ fn first_of(names: &[&[u8]], name: &[u8]) -> Option<usize>
 }
 
 /// Keeps the index of a name, unless one is kept.
-fn keep<'a>(first: &mut Indexes<'a>, name: &'a [u8], index: usize) -> Result<(), AllocError>
+fn keep<'a>(first: &mut Indexes<'a>, name: &'a [u8], index: usize) -> Result<(), OutOfMemory>
     ensures { OnOk result (first_index first.new.entries ≡
         with_first (first_index first.old.entries) name.now index) }
 {
@@ -63,7 +64,7 @@ fn keep<'a>(first: &mut Indexes<'a>, name: &'a [u8], index: usize) -> Result<(),
 
 impl<'a> NameList<'a> {
     /// The list of these names.
-    pub fn new(alloc: Global, names: Vec<&'a [u8]>) -> Result<NameList<'a>, AllocError>
+    pub fn new(alloc: Global, names: Vec<&'a [u8]>) -> Result<NameList<'a>, OutOfMemory>
         ensures { IfOk result (λ l. l ≡ map (λ n. n.now) names.entry.items) }
     {
         let mut first = Indexes::new(alloc);

@@ -9,7 +9,8 @@ use crate::directory::Directory;
 use crate::order::ordered;
 use crate::text::Body;
 use crate::text_list::TextList;
-use std::alloc::{AllocError, Global};
+use out_of_memory::OutOfMemory;
+use std::alloc::Global;
 use std::marker::Model;
 use syntax_tree::Program;
 
@@ -39,7 +40,7 @@ impl<'a> Model for Numbering<'a> {
 
 impl<'a> Numbering<'a> {
     /// Numbers the routines of a program, in time in proportion to its text.
-    pub fn new(alloc: Global, program: &'a Program) -> Result<Numbering<'a>, AllocError>
+    pub fn new(alloc: Global, program: &'a Program) -> Result<Numbering<'a>, OutOfMemory>
         ensures { IfOk result (λ n. n ≡ program.now) }
     {
         let directory = Directory::new(alloc, program)?;

@@ -10,7 +10,8 @@ ghost use Rattle.code_names.specs.Parts.{seen_monitors, seen_processes, monitors
 
 use crate::text::{Body, RoutineOwner};
 use crate::text_list::TextList;
-use std::alloc::{AllocError, Global};
+use out_of_memory::OutOfMemory;
+use std::alloc::Global;
 use syntax_tree::{Declaration, Monitor, Process, Program, Routine};
 
 /// The routines and entries of a program, its monitors and its processes.
@@ -26,7 +27,7 @@ fn list_all<'a>(
     texts: &mut TextList<'a>,
     owner: RoutineOwner,
     routines: &'a [Routine],
-) -> Result<(), AllocError>
+) -> Result<(), OutOfMemory>
     ensures { OnOk result (texts_of texts.new ≡ texts_of texts.old ++
         owned (owner_of owner) (map plain_routine (map placed_routine routines.now))) }
 {
@@ -37,7 +38,7 @@ fn list_all<'a>(
 }
 
 /// Lists the parts of a declaration.
-fn list_decl<'a>(parts: &mut ProgramParts<'a>, decl: &'a Declaration) -> Result<(), AllocError>
+fn list_decl<'a>(parts: &mut ProgramParts<'a>, decl: &'a Declaration) -> Result<(), OutOfMemory>
     ensures texts { OnOk result ((rest : List SpecDecl) → texts_of parts.new.texts ++
         texts_from (length parts.new.processes.items) (length parts.new.monitors.items) rest ≡
         texts_of parts.old.texts ++ texts_from (length parts.old.processes.items)
@@ -78,7 +79,7 @@ fn list_decl<'a>(parts: &mut ProgramParts<'a>, decl: &'a Declaration) -> Result<
 }
 
 /// All parts of a program.
-pub fn parts_of<'a>(alloc: Global, program: &'a Program) -> Result<ProgramParts<'a>, AllocError>
+pub fn parts_of<'a>(alloc: Global, program: &'a Program) -> Result<ProgramParts<'a>, OutOfMemory>
     ensures texts { IfOk result (λ parts. texts_of parts.texts ≡
         texts_from 0 0 (plain (placed program.now)).decls) }
     ensures monitors { IfOk result (λ parts. seen_monitors parts.monitors.items ≡

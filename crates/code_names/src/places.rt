@@ -3,7 +3,8 @@
 ghost use Rattle.std.specs.Prelude.{◌≡◌, ◌<◌, ◌+◌, [], drop, length, slice_index_or, IfOk};
 ghost use Rattle.code_names.specs.Goals.{calls_at, earlier as defined_earlier, earliest_of, place_at, AreFirstPlaces};
 
-use std::alloc::{AllocError, Global};
+use out_of_memory::OutOfMemory;
+use std::alloc::Global;
 use syntax_tree::List;
 
 /// The earlier of two places, where there are any.
@@ -83,7 +84,7 @@ pub fn first_places(
     alloc: Global,
     goals: &[Option<usize>],
     calls: &[List<usize>],
-) -> Result<Vec<Option<usize>>, AllocError>
+) -> Result<Vec<Option<usize>>, OutOfMemory>
     ensures { IfOk result (λ v. AreFirstPlaces goals.now calls.now (length goals.now) v.items) }
 {
     let mut all = Vec::new(alloc);

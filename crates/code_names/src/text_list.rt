@@ -5,7 +5,8 @@ ghost use Rattle.code_names.specs.Texts.{owner_of, text_of, texts_of, text_index
 
 use crate::text::{Body, RoutineOwner};
 use indexmap::IndexMap;
-use std::alloc::{AllocError, Global};
+use out_of_memory::OutOfMemory;
+use std::alloc::Global;
 use std::marker::Model;
 use syntax_tree::Name;
 
@@ -41,7 +42,7 @@ fn keep<'a>(
     owner: RoutineOwner,
     name: &'a [u8],
     index: usize,
-) -> Result<(), AllocError>
+) -> Result<(), OutOfMemory>
     ensures ok { OnOk result (first_text first.new.entries ≡
         with_first (first_text first.old.entries) owner name.now index) }
     ensures err { OnErr result (first_text first.new.entries ≡ first_text first.old.entries) }
@@ -98,7 +99,7 @@ impl<'a> TextList<'a> {
     }
 
     /// Puts a routine at the end.
-    pub fn push(&mut self, text: Body<'a>) -> Result<(), AllocError>
+    pub fn push(&mut self, text: Body<'a>) -> Result<(), OutOfMemory>
         ensures { OnOk result (self.new ≡ self.old ++ text.entry ∷ []) }
     {
         let index = self.texts.as_slice().len();

@@ -1,6 +1,6 @@
 //! What the generator has made so far.
 
-ghost use Rattle.std.specs.Prelude.{◌≡◌, [], pos, length, OnOk, IfOk};
+ghost use Rattle.std.specs.Prelude.{◌≡◌, ◌<◌, ◌+◌, ◌^◌, [], pos, length, OnOk, IfOk};
 ghost use Rattle.machine_isa.specs.declared.instr.Instr.TheVariants as i;
 ghost use Rattle.codegen_spec.specs.Parts.{opened, part_of};
 ghost use Rattle.codegen_spec.specs.Made.{aim as aim_of, aim_one as aim_one_of, aimed, aims, begun, closed, counted, joined, line_of, patched, push as pushed};
@@ -9,18 +9,20 @@ use crate::errors::tri;
 use codegen_spec::Part;
 use image_format::{Seg, Segs};
 use machine_isa::Instr;
-use std::alloc::{AllocError, Global};
+use out_of_memory::OutOfMemory;
+use std::alloc::Global;
 use std::marker::Model;
 
 /// The code so far, the segments that are closed, where the line began that is still open, and the
-/// word of the frame for the next loop.
+/// word of the frame for the next loop. 128 bits tell the word: each loop has instructions of its
+/// own, and a part begins at a word far below 2^127.
 #[derive(Drop)]
 pub struct CodeBuilder {
     pub alloc: Global,
     pub code: Vec<Instr>,
     pub segs: Segs,
     pub from: usize,
-    pub word: usize,
+    pub word: u128,
 }
 
 impl Model for CodeBuilder {
@@ -33,10 +35,15 @@ impl Model for CodeBuilder {
     ghost coded = { Prim.hlevel (codes, seg.the_row.coded) };
 
     ghost view = { λ o. record { code = o.code.items; segs = o.segs; from = o.from; word = o.word } };
+
+    ghost use Rattle.std.specs.Prelude.{◌≤◌, ◌+◌, ◌^◌, length};
+
+    ghost invariant = { λ o. o.word ≤ 2 ^ 127 + length o.code.items };
 }
 
 impl CodeBuilder {
-    pub fn new(alloc: Global, word: usize) -> CodeBuilder
+    pub fn new(alloc: Global, word: u128) -> CodeBuilder
+        requires { word < 2 ^ 127 }
         ensures { result ≡ record { code = []; segs = []; from = 0; word = word } }
     {
         CodeBuilder {
@@ -49,7 +56,7 @@ impl CodeBuilder {
     }
 
     /// One more instruction of the open line.
-    pub fn push(&mut self, instr: Instr) -> Result<(), AllocError>
+    pub fn push(&mut self, instr: Instr) -> Result<(), OutOfMemory>
         ensures { OnOk result (self.new ≡ pushed self.old instr) }
     {
         self.code.push(instr)?;
@@ -62,21 +69,16 @@ impl CodeBuilder {
         codegen_branches::patch(&mut self.code, at, instr);
     }
 
-    /// The word for a loop's variable is taken.
-    pub fn count(&mut self) -> Result<(), AllocError>
-        ensures { OnOk result (self.new ≡ counted self.old) }
+    /// The word for a loop's variable is taken, which has an instruction of its own.
+    pub fn count(&mut self)
+        requires { self.old.word < 2 ^ 127 + length self.old.code }
+        ensures { self.new ≡ counted self.old }
     {
-        match self.word.checked_add(1) {
-            Some(word) => {
-                self.word = word;
-                Ok(())
-            }
-            None => Err(AllocError),
-        }
+        self.word += 1;
     }
 
     /// Takes the segments, with the open line; a part of the code with segments of its own begins.
-    pub fn take(&mut self) -> Result<Segs, AllocError>
+    pub fn take(&mut self) -> Result<Segs, OutOfMemory>
         ensures out { OnOk result (self.new ≡ begun self.old) }
         ensures segs { IfOk result (λ segs. segs ≡ closed self.old) }
     {
@@ -98,7 +100,7 @@ impl CodeBuilder {
     }
 
     /// A segment behind those that were taken, where the code stands now.
-    pub fn join(&mut self, before: Segs, seg: Seg) -> Result<(), AllocError>
+    pub fn join(&mut self, before: Segs, seg: Seg) -> Result<(), OutOfMemory>
         ensures { OnOk result (self.new ≡ joined self.old before seg) }
     {
         self.segs = before;
@@ -121,7 +123,8 @@ impl CodeBuilder {
     }
 
     /// A part of the program begins; its first loop has its variable at this word of the frame.
-    pub fn begin_part(&mut self, word: usize)
+    pub fn begin_part(&mut self, word: u128)
+        requires { word < 2 ^ 127 }
         ensures { self.new ≡ opened word self.old.code }
     {
         self.begin();
@@ -130,7 +133,7 @@ impl CodeBuilder {
 
     /// A part of the program ends, which began at an address; its last instruction stands outside
     /// its tree.
-    pub fn end_part(&mut self, start: usize, last: Instr) -> Result<Part, AllocError>
+    pub fn end_part(&mut self, start: usize, last: Instr) -> Result<Part, OutOfMemory>
         ensures out { OnOk result (self.new ≡ pushed (begun self.old) last) }
         ensures part { IfOk result (λ part. part ≡ part_of start self.old (pushed self.old last)) }
     {

@@ -1,6 +1,6 @@
 //! The code of a whole program.
 
-ghost use Rattle.std.specs.Prelude.{◌≡◌, OnOk, IfOk};
+ghost use Rattle.std.specs.Prelude.{◌≡◌, ◌<◌, ◌^◌, OnOk, IfOk};
 ghost use Rattle.syntax_tree.specs.Placed.{placed_process, placed_routine, plain_process, plain_routine};
 ghost use Rattle.source_semantics.specs.Names.{processes as processes_of};
 ghost use Rattle.code_spec.specs.Numbering.{numbered};
@@ -11,7 +11,8 @@ use crate::errors::tri;
 use crate::part::{handler, return_from, text};
 use codegen_spec::{Code, Lookup, Lookups, Part, ProcessParts};
 use machine_isa::Instr;
-use std::alloc::{AllocError, Global};
+use out_of_memory::OutOfMemory;
+use std::alloc::Global;
 use std::marker::Model;
 use syntax_tree::{List, Process, Routine};
 
@@ -36,7 +37,7 @@ impl Model for Maker {
 }
 
 /// The instructions as a list.
-fn listed(alloc: Global, code: &[Instr]) -> Result<List<Instr>, AllocError>
+fn listed(alloc: Global, code: &[Instr]) -> Result<List<Instr>, OutOfMemory>
     ensures { IfOk result (λ list. list ≡ code.now) }
 {
     let mut list = List::new(alloc);
@@ -61,9 +62,10 @@ impl Maker {
     fn routine<L: Lookup>(
         &mut self,
         names: &L,
-        words: usize,
+        words: u128,
         routine: &Routine,
-    ) -> Result<(), AllocError>
+    ) -> Result<(), OutOfMemory>
+        requires { words < 2 ^ 127 }
         ensures { OnOk result (self.new ≡ routine_made (L.program names.now)
             (L.scope names.now) words (plain_routine (placed_routine routine.now)) self.old) }
     {
@@ -75,7 +77,7 @@ impl Maker {
     }
 
     /// One process more.
-    fn process<L: Lookup>(&mut self, names: &L, process: &Process) -> Result<(), AllocError>
+    fn process<L: Lookup>(&mut self, names: &L, process: &Process) -> Result<(), OutOfMemory>
         ensures { OnOk result (self.new ≡ process_made (L.program names.now) (L.scope names.now)
             (plain_process (placed_process process.now)) self.old) }
     {
@@ -88,7 +90,7 @@ impl Maker {
     }
 
     /// All routines, by number.
-    fn routines<P: Lookups>(&mut self, program: &P) -> Result<(), AllocError>
+    fn routines<P: Lookups>(&mut self, program: &P) -> Result<(), OutOfMemory>
         ensures { OnOk result (self.new ≡ texts_made (P.program program.now)
             (numbered (P.program program.now)) self.old) }
     {
@@ -103,7 +105,7 @@ impl Maker {
     }
 
     /// All processes, in the order of the text.
-    fn processes<P: Lookups>(&mut self, program: &P) -> Result<(), AllocError>
+    fn processes<P: Lookups>(&mut self, program: &P) -> Result<(), OutOfMemory>
         ensures { OnOk result (self.new ≡ processes_made (P.program program.now) 0
             (processes_of (P.program program.now)) self.old) }
     {
@@ -114,7 +116,7 @@ impl Maker {
     }
 
     /// All texts: the routines, and then the processes.
-    fn texts<P: Lookups>(&mut self, program: &P) -> Result<(), AllocError>
+    fn texts<P: Lookups>(&mut self, program: &P) -> Result<(), OutOfMemory>
         ensures { let g = P.program program.now in
             OnOk result (self.new ≡ processes_made g 0 (processes_of g) (texts_made g (numbered g)
             self.old)) }
@@ -123,7 +125,7 @@ impl Maker {
         self.processes(program)
     }
 
-    fn finish(self, alloc: Global) -> Result<Code, AllocError>
+    fn finish(self, alloc: Global) -> Result<Code, OutOfMemory>
         ensures { IfOk result (λ code. code ≡ self) }
     {
         let instrs = tri!(listed(alloc, self.out.as_slice()));
@@ -137,7 +139,7 @@ impl Maker {
 
 /// The code of a program: all routines and entries by number, then all processes in the order of
 /// the text, each with its addresses and trees. It fails only where memory is wanting.
-pub fn generate<P: Lookups>(alloc: Global, program: &P) -> Result<Code, AllocError>
+pub fn generate<P: Lookups>(alloc: Global, program: &P) -> Result<Code, OutOfMemory>
     ensures { IfOk result (λ code. code ≡ program_made (P.program program.now)) }
 {
     let mut maker = Maker::new(alloc);

@@ -16,7 +16,7 @@ use codegen_branches::fit;
 use codegen_spec::{Area, Callee, Lookup, Loop, ValueRange, VarLocation, VarShape};
 use image_format::Seg;
 use machine_isa::Instr;
-use std::alloc::AllocError;
+use out_of_memory::OutOfMemory;
 use syntax_tree::{Expr, Op, Scalar};
 
 fn load(spot: &VarLocation) -> Instr
@@ -104,7 +104,7 @@ pub fn range_of<L: Lookup>(names: &L, kind: &Scalar) -> Option<ValueRange>
 
 impl CodeBuilder {
     /// The check of a range, if there is one.
-    pub fn range(&mut self, range: &Option<ValueRange>) -> Result<(), AllocError>
+    pub fn range(&mut self, range: &Option<ValueRange>) -> Result<(), OutOfMemory>
         ensures { OnOk result (self.new ≡ range_out range.now self.old) }
     {
         match range {
@@ -117,7 +117,7 @@ impl CodeBuilder {
     }
 
     /// A call of a routine, whose arguments are on the stack.
-    fn call(&mut self, number: usize) -> Result<(), AllocError>
+    fn call(&mut self, number: usize) -> Result<(), OutOfMemory>
         ensures { OnOk result (self.new ≡ called_of number self.old) }
     {
         let before = tri!(self.take());
@@ -135,7 +135,7 @@ impl CodeBuilder {
         loops: &[Loop],
         args: &[Expr],
         ranges: &[Option<ValueRange>],
-    ) -> Result<(), AllocError>
+    ) -> Result<(), OutOfMemory>
         ensures { let g = L.program names.now in let c = inside loops.now (L.scope names.now) in
             OnOk result (self.new ≡ args_of g c args.now ranges.now self.old) }
     {
@@ -154,7 +154,7 @@ impl CodeBuilder {
         loops: &[Loop],
         callee: Option<&Callee>,
         args: &[Expr],
-    ) -> Result<(), AllocError>
+    ) -> Result<(), OutOfMemory>
         ensures { let g = L.program names.now in let c = inside loops.now (L.scope names.now) in
             OnOk result (self.new ≡ call_out (option_copied callee.entry) (λ rs. args_of g c
             args.now rs self.old) self.old) }
@@ -175,7 +175,7 @@ impl CodeBuilder {
         names: &L,
         loops: &[Loop],
         operands: &[(Op, Expr)],
-    ) -> Result<(), AllocError>
+    ) -> Result<(), OutOfMemory>
         ensures { let g = L.program names.now in let c = inside loops.now (L.scope names.now) in
             OnOk result (self.new ≡ row_of g c operands.now self.old) }
     {
@@ -193,7 +193,7 @@ impl CodeBuilder {
         names: &L,
         loops: &[Loop],
         expr: &Expr,
-    ) -> Result<(), AllocError>
+    ) -> Result<(), OutOfMemory>
         ensures { let g = L.program names.now in let c = inside loops.now (L.scope names.now) in
             OnOk result (self.new ≡ expr_of g c expr.now self.old) }
     {

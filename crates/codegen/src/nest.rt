@@ -10,11 +10,13 @@ ghost use Rattle.codegen_spec.specs.Made.{aim as aim_of, aim_one as aim_one_of, 
 
 use crate::code_builder::CodeBuilder;
 use crate::errors::tri;
+use code_layout::fit_word;
 use codegen_branches::{end_arm, end_first, end_second, fit};
 use codegen_spec::Lookup;
 use image_format::{Seg, Segs};
 use machine_isa::Instr;
-use std::alloc::{AllocError, Global};
+use out_of_memory::OutOfMemory;
+use std::alloc::Global;
 use syntax_tree::Constant;
 
 /// How many turns a loop has.
@@ -38,7 +40,7 @@ fn aimed(instr: Instr, to: i32) -> Instr
 }
 
 /// The choice of an assertion: nothing, or the line that raises.
-fn failed(alloc: Global) -> Result<Seg, AllocError>
+fn failed(alloc: Global) -> Result<Seg, OutOfMemory>
     ensures { IfOk result (λ it. it ≡ fork [] (seg.Line 1 ∷ [])) }
 {
     let mut raise = Segs::new(alloc);
@@ -48,7 +50,7 @@ fn failed(alloc: Global) -> Result<Seg, AllocError>
 
 impl CodeBuilder {
     /// The rest of a turn: its variable goes to the next number.
-    pub fn step(&mut self, word: i32) -> Result<(), AllocError>
+    pub fn step(&mut self, word: i32) -> Result<(), OutOfMemory>
         ensures { OnOk result (self.new ≡ stepped_of word self.old) }
     {
         tri!(self.push(Instr::LoadLocal { word }));
@@ -91,7 +93,7 @@ impl CodeBuilder {
 
     /// A choice begins behind its condition, with the address of its jump and the segments before
     /// it.
-    pub fn begin_choice(&mut self) -> Result<Segs, AllocError>
+    pub fn begin_choice(&mut self) -> Result<Segs, OutOfMemory>
         ensures out { OnOk result (self.new ≡ choice self.old) }
         ensures segs { IfOk result (λ segs. segs ≡ closed self.old) }
     {
@@ -102,7 +104,7 @@ impl CodeBuilder {
     }
 
     /// The only arm of a choice ends; it gives the segment of the choice.
-    fn only_arm(&mut self, at: usize) -> Result<Seg, AllocError>
+    fn only_arm(&mut self, at: usize) -> Result<Seg, OutOfMemory>
         ensures out { let to = fitting (pos (length self.old.code + 1)) in
             OnOk result (self.new ≡ patched (push_of (begun self.old) (i.Jump to)) at
             (i.JumpZero to)) }
@@ -114,7 +116,7 @@ impl CodeBuilder {
     }
 
     /// The end of a choice with one arm.
-    pub fn end_one_arm(&mut self, at: usize, before: Segs) -> Result<(), AllocError>
+    pub fn end_one_arm(&mut self, at: usize, before: Segs) -> Result<(), OutOfMemory>
         ensures { OnOk result (self.new ≡ one_arm at before self.old) }
     {
         let choice = tri!(self.only_arm(at));
@@ -122,7 +124,7 @@ impl CodeBuilder {
     }
 
     /// The second arm begins.
-    pub fn begin_second(&mut self, at: usize) -> Result<Segs, AllocError>
+    pub fn begin_second(&mut self, at: usize) -> Result<Segs, OutOfMemory>
         ensures out { OnOk result (self.new ≡ between at self.old) }
         ensures segs { IfOk result (λ segs. segs ≡ closed self.old) }
     {
@@ -133,7 +135,7 @@ impl CodeBuilder {
     }
 
     /// The second arm of a choice ends; it gives the segment of the choice.
-    fn second_arm(&mut self, mid: usize, first: Segs) -> Result<Seg, AllocError>
+    fn second_arm(&mut self, mid: usize, first: Segs) -> Result<Seg, OutOfMemory>
         ensures out { OnOk result (self.new ≡ patched (begun self.old) mid (i.Jump (fitting (pos
             (length self.old.code))))) }
         ensures seg { IfOk result (λ seg. seg ≡ fork first (closed self.old)) }
@@ -144,7 +146,7 @@ impl CodeBuilder {
     }
 
     /// The end of a choice with two arms; the first one's jump stands at `mid`.
-    pub fn end_two_arms(&mut self, mid: usize, before: Segs, first: Segs) -> Result<(), AllocError>
+    pub fn end_two_arms(&mut self, mid: usize, before: Segs, first: Segs) -> Result<(), OutOfMemory>
         ensures { OnOk result (self.new ≡ joined (patched self.old mid (i.Jump (fitting (pos
             (length self.old.code))))) before (fork first (closed self.old))) }
     {
@@ -153,17 +155,18 @@ impl CodeBuilder {
     }
 
     /// The variable of a loop gets its first number, and its word is taken.
-    fn first_number(&mut self, low: i32) -> Result<(), AllocError>
+    fn first_number(&mut self, low: i32) -> Result<(), OutOfMemory>
         ensures { OnOk result (self.new ≡ counted (counting low self.old)) }
     {
-        let word = fit(self.word);
+        let word = fit_word(self.word);
         tri!(self.push(Instr::Push { value: low }));
         tri!(self.push(Instr::StoreLocal { word }));
-        self.count()
+        self.count();
+        Ok(())
     }
 
     /// A loop begins: its variable gets its first number, and the segments before it are taken.
-    pub fn begin_loop(&mut self, low: i32, turns: i64) -> Result<Segs, AllocError>
+    pub fn begin_loop(&mut self, low: i32, turns: i64) -> Result<Segs, OutOfMemory>
         ensures out { OnOk result ((n : ℕ) → turns ≡ pos n → self.new ≡ turning n (counting low
             self.old)) }
         ensures segs { IfOk result (λ segs. segs ≡ closed (counting low self.old)) }
@@ -182,7 +185,7 @@ impl CodeBuilder {
         names: &L,
         low: &Constant,
         high: &Constant,
-    ) -> Result<(i64, Segs), AllocError>
+    ) -> Result<(i64, Segs), OutOfMemory>
         ensures turns { let g = L.program names.now in
             IfOk result (λ h. h.0 ≡ pos (turns_told g low.now high.now)) }
         ensures out { let g = L.program names.now in
@@ -198,7 +201,7 @@ impl CodeBuilder {
     }
 
     /// The turns of a loop end, whose body began at an address; it gives the segment of the loop.
-    fn repeated(&mut self, turns: i64, start: usize) -> Result<Seg, AllocError>
+    fn repeated(&mut self, turns: i64, start: usize) -> Result<Seg, OutOfMemory>
         ensures out { OnOk result (self.new ≡ aim_of start (push_of (begun self.old) (i.Repeat
             (fitting (pos start))))) }
         ensures seg { IfOk result (λ seg. (n : ℕ) → turns ≡ pos n → seg ≡ rep (min n 4294967295)
@@ -212,7 +215,7 @@ impl CodeBuilder {
     }
 
     /// The end of a loop, whose body is made with the rest of the turn.
-    pub fn end_loop(&mut self, turns: i64, start: usize, before: Segs) -> Result<(), AllocError>
+    pub fn end_loop(&mut self, turns: i64, start: usize, before: Segs) -> Result<(), OutOfMemory>
         ensures { OnOk result ((n : ℕ) → turns ≡ pos n → self.new ≡ looped n start before
             self.old) }
     {
@@ -221,7 +224,7 @@ impl CodeBuilder {
     }
 
     /// An exit from the loop around, behind its condition.
-    pub fn exit(&mut self) -> Result<(), AllocError>
+    pub fn exit(&mut self) -> Result<(), OutOfMemory>
         ensures { OnOk result (self.new ≡ joined (push_of self.old open_exit) (closed self.old)
             seg.Exit) }
     {
@@ -231,7 +234,7 @@ impl CodeBuilder {
     }
 
     /// The instructions of an assertion behind its condition.
-    fn failing(&mut self) -> Result<(), AllocError>
+    fn failing(&mut self) -> Result<(), OutOfMemory>
         ensures { let at = length self.old.code in
             OnOk result (self.new ≡ push_of (push_of (push_of self.old
             (i.JumpZero (fitting (pos (at + 2))))) (i.Jump (fitting (pos (at + 3)))))
@@ -244,7 +247,7 @@ impl CodeBuilder {
     }
 
     /// An assertion behind its condition: where it is false, exception 4 is raised.
-    pub fn assertion(&mut self) -> Result<(), AllocError>
+    pub fn assertion(&mut self) -> Result<(), OutOfMemory>
         ensures { OnOk result (self.new ≡ asserting self.old) }
     {
         let before = tri!(self.take());

@@ -10,7 +10,7 @@ use codegen_branches::fit;
 use codegen_spec::{Lookup, Owner, Part};
 use image_format::{Seg, Segs};
 use machine_isa::Instr;
-use std::alloc::AllocError;
+use out_of_memory::OutOfMemory;
 use syntax_tree::{Handler, Routine};
 
 /// The instruction that ends a routine.
@@ -24,7 +24,7 @@ pub fn return_from(routine: &Routine) -> Instr
 }
 
 /// The result of a function, with the check of its range.
-fn answer<L: Lookup>(out: &mut CodeBuilder, names: &L, routine: &Routine) -> Result<(), AllocError>
+fn answer<L: Lookup>(out: &mut CodeBuilder, names: &L, routine: &Routine) -> Result<(), OutOfMemory>
     ensures { OnOk result (out.new
         ≡ answer_out (L.program names.now) (L.scope names.now)
         (plain_routine (placed_routine routine.now)).answers out.old) }
@@ -39,7 +39,7 @@ fn answer<L: Lookup>(out: &mut CodeBuilder, names: &L, routine: &Routine) -> Res
 }
 
 /// The statements of a routine and its result.
-fn inner<L: Lookup>(out: &mut CodeBuilder, names: &L, routine: &Routine) -> Result<(), AllocError>
+fn inner<L: Lookup>(out: &mut CodeBuilder, names: &L, routine: &Routine) -> Result<(), OutOfMemory>
     ensures { OnOk result (out.new ≡ inner_out (L.program names.now) (L.scope names.now)
         (plain_routine (placed_routine routine.now)) out.old) }
 {
@@ -48,7 +48,7 @@ fn inner<L: Lookup>(out: &mut CodeBuilder, names: &L, routine: &Routine) -> Resu
 }
 
 /// The end of a stay in a monitor.
-fn leave(out: &mut CodeBuilder, number: usize) -> Result<(), AllocError>
+fn leave(out: &mut CodeBuilder, number: usize) -> Result<(), OutOfMemory>
     ensures { OnOk result (out.new ≡ left number out.old) }
 {
     let monitor = u16::try_from(number).unwrap_or(u16::MAX);
@@ -66,7 +66,7 @@ fn stay<L: Lookup>(
     names: &L,
     number: usize,
     routine: &Routine,
-) -> Result<(), AllocError>
+) -> Result<(), OutOfMemory>
     ensures { OnOk result (out.new ≡ left number
         (inner_out (L.program names.now) (L.scope names.now)
         (plain_routine (placed_routine routine.now)) (entered number out.old))) }
@@ -84,7 +84,7 @@ pub fn text<L: Lookup>(
     out: &mut CodeBuilder,
     names: &L,
     routine: &Routine,
-) -> Result<(), AllocError>
+) -> Result<(), OutOfMemory>
     ensures { OnOk result (out.new ≡ routine_out (L.program names.now) (L.scope names.now)
         (L.scope names.now).owner (plain_routine (placed_routine routine.now)) out.old) }
 {
@@ -99,7 +99,7 @@ fn handler_of<L: Lookup>(
     out: &mut CodeBuilder,
     names: &L,
     handler: &Handler,
-) -> Result<Part, AllocError>
+) -> Result<Part, OutOfMemory>
     ensures code { OnOk result (out.new.code ≡
         (process_out (L.program names.now) (L.scope names.now)
         (Some (plain_handler (placed_handler handler.now))) out.old).code) }
@@ -118,7 +118,7 @@ pub fn handler<L: Lookup>(
     out: &mut CodeBuilder,
     names: &L,
     handler: &Option<Handler>,
-) -> Result<Option<Part>, AllocError>
+) -> Result<Option<Part>, OutOfMemory>
     ensures code { OnOk result (out.new.code ≡
         (process_out (L.program names.now) (L.scope names.now)
         (optional plain_handler (optional placed_handler handler.now)) out.old).code) }

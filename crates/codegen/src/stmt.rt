@@ -13,11 +13,12 @@ ghost use Rattle.codegen.specs.Of.{args_of, expr_of, index_of, put_of, stmt_of, 
 
 use crate::code_builder::CodeBuilder;
 use crate::errors::tri;
+use code_layout::fit_word;
 use codegen_branches::fit;
 use codegen_spec::{Lookup, Loop, Owner};
 use image_format::Seg;
 use machine_isa::Instr;
-use std::alloc::AllocError;
+use out_of_memory::OutOfMemory;
 use syntax_tree::{Constant, Expr, List, Name, Ref, Stmt};
 
 /// A constant that is used as a number of ticks or as an exception number.
@@ -60,7 +61,7 @@ impl CodeBuilder {
         loops: &[Loop],
         target: &Ref,
         value: &Expr,
-    ) -> Result<(), AllocError>
+    ) -> Result<(), OutOfMemory>
         ensures { let g = L.program names.now in let c = inside loops.now (L.scope names.now) in
             OnOk result (self.new ≡ put_of g c target.now (expr_of g c value.now (index_of g c
             target.now self.old))) }
@@ -78,7 +79,7 @@ impl CodeBuilder {
         mon: &Name,
         entry: &Name,
         args: &[Expr],
-    ) -> Result<(), AllocError>
+    ) -> Result<(), OutOfMemory>
         ensures { let g = L.program names.now in let c = inside loops.now (L.scope names.now) in
             OnOk result (self.new ≡ put_of g c target.now (call_out (told_callee g (entry_in g
             mon.now entry.now)) (λ rs. args_of g c args.now rs (index_of g c target.now self.old))
@@ -96,7 +97,7 @@ impl CodeBuilder {
         loops: &[Loop],
         target: &Ref,
         cond: &Name,
-    ) -> Result<(), AllocError>
+    ) -> Result<(), OutOfMemory>
         ensures { let g = L.program names.now in let c = inside loops.now (L.scope names.now) in
             OnOk result (self.new ≡ store_of g c target.now (push_of (index_of g c target.now
             self.old) (i.Empty (condition_told g c cond.now)))) }
@@ -114,7 +115,7 @@ impl CodeBuilder {
         loops: &[Loop],
         device: &Name,
         target: &Ref,
-    ) -> Result<(), AllocError>
+    ) -> Result<(), OutOfMemory>
         ensures { let g = L.program names.now in let c = inside loops.now (L.scope names.now) in
             OnOk result (self.new ≡ put_of g c target.now (push_of (index_of g c target.now
             self.old) (i.In (fitting (pos (device_number g device.now)))))) }
@@ -132,7 +133,7 @@ impl CodeBuilder {
         loops: &[Loop],
         device: &Name,
         value: &Expr,
-    ) -> Result<(), AllocError>
+    ) -> Result<(), OutOfMemory>
         ensures { let g = L.program names.now in let c = inside loops.now (L.scope names.now) in
             OnOk result (self.new ≡ push_of (expr_of g c value.now self.old) (i.Out (fitting (pos
             (device_number g device.now))))) }
@@ -150,7 +151,7 @@ impl CodeBuilder {
         limit: i32,
         number: i32,
         monitor: usize,
-    ) -> Result<(), AllocError>
+    ) -> Result<(), OutOfMemory>
         ensures { OnOk result (self.new ≡ waiting condition limit number monitor self.old) }
     {
         let before = tri!(self.take());
@@ -172,7 +173,7 @@ impl CodeBuilder {
         cond: &Name,
         limit: &Constant,
         number: &Constant,
-    ) -> Result<(), AllocError>
+    ) -> Result<(), OutOfMemory>
         ensures { let g = L.program names.now in let c = L.scope names.now in
             OnOk result (self.new ≡ waiting (condition_told g c cond.now) (count_told g
             (plain_constant (placed_constant limit.now))) (count_told g (plain_constant
@@ -184,7 +185,7 @@ impl CodeBuilder {
         self.waiting(condition, limit, number, monitor(names))
     }
 
-    fn signal<L: Lookup>(&mut self, names: &L, cond: &Name) -> Result<(), AllocError>
+    fn signal<L: Lookup>(&mut self, names: &L, cond: &Name) -> Result<(), OutOfMemory>
         ensures { let g = L.program names.now in let c = L.scope names.now in
             OnOk result (self.new ≡ push_of self.old (i.Signal (condition_told g c cond.now))) }
     {
@@ -193,7 +194,7 @@ impl CodeBuilder {
         })
     }
 
-    fn broadcast<L: Lookup>(&mut self, names: &L, cond: &Name) -> Result<(), AllocError>
+    fn broadcast<L: Lookup>(&mut self, names: &L, cond: &Name) -> Result<(), OutOfMemory>
         ensures { let g = L.program names.now in let c = L.scope names.now in
             OnOk result (self.new ≡ push_of self.old (i.Broadcast (condition_told g c cond.now))) }
     {
@@ -210,9 +211,9 @@ impl CodeBuilder {
         names: &L,
         loops: &mut Vec<Loop>,
         name: &Name,
-        word: usize,
+        word: u128,
         body: &[Stmt],
-    ) -> Result<(), AllocError>
+    ) -> Result<(), OutOfMemory>
         ensures out { let g = L.program names.now in
             let c = inside loops.old.items (L.scope names.now) in
             OnOk result (self.new ≡ stmts_of g (within c name.now word) body.now self.old) }
@@ -232,7 +233,7 @@ impl CodeBuilder {
         names: &L,
         loops: &mut Vec<Loop>,
         first: &[Stmt],
-    ) -> Result<(), AllocError>
+    ) -> Result<(), OutOfMemory>
         ensures out { let g = L.program names.now in
             let c = inside loops.old.items (L.scope names.now) in
             OnOk result (self.new ≡ one_arm (length self.old.code) (closed self.old)
@@ -255,7 +256,7 @@ impl CodeBuilder {
         low: &Constant,
         high: &Constant,
         body: &[Stmt],
-    ) -> Result<(), AllocError>
+    ) -> Result<(), OutOfMemory>
         ensures out { let g = L.program names.now in
             let c = inside loops.old.items (L.scope names.now) in
             OnOk result (self.new ≡ stmt_out g c (loop_of name.now (plain_constant (placed_constant
@@ -267,7 +268,7 @@ impl CodeBuilder {
         let (turns, before) = tri!(self.begin_turns(names, low, high));
         let start = self.code.len();
         tri!(self.body(names, loops, name, word, body));
-        tri!(self.step(fit(word)));
+        tri!(self.step(fit_word(word)));
         self.end_loop(turns, start, before)
     }
 
@@ -278,7 +279,7 @@ impl CodeBuilder {
         names: &L,
         loops: &mut Vec<Loop>,
         stmt: &Stmt,
-    ) -> Result<(), AllocError>
+    ) -> Result<(), OutOfMemory>
         ensures out { let g = L.program names.now in
             let c = inside loops.old.items (L.scope names.now) in
             OnOk result (self.new ≡ stmt_of g c stmt.now self.old) }
@@ -364,7 +365,7 @@ impl CodeBuilder {
         names: &L,
         loops: &mut Vec<Loop>,
         stmts: &[Stmt],
-    ) -> Result<(), AllocError>
+    ) -> Result<(), OutOfMemory>
         ensures out { let g = L.program names.now in
             let c = inside loops.old.items (L.scope names.now) in
             OnOk result (self.new ≡ stmts_of g c stmts.now self.old) }
@@ -377,7 +378,7 @@ impl CodeBuilder {
     }
 
     /// The code of statements that no loop is around.
-    pub fn statements<L: Lookup>(&mut self, names: &L, stmts: &[Stmt]) -> Result<(), AllocError>
+    pub fn statements<L: Lookup>(&mut self, names: &L, stmts: &[Stmt]) -> Result<(), OutOfMemory>
         ensures { let g = L.program names.now in let c = L.scope names.now in
             OnOk result (self.new ≡ stmts_of g c stmts.now self.old) }
     {

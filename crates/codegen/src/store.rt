@@ -9,12 +9,12 @@ use crate::code_builder::CodeBuilder;
 use crate::errors::tri;
 use codegen_spec::{Area, Lookup, Loop, VarLocation, VarShape};
 use machine_isa::Instr;
-use std::alloc::AllocError;
+use out_of_memory::OutOfMemory;
 use syntax_tree::Ref;
 
 impl CodeBuilder {
     /// The store in a variable.
-    fn store_whole(&mut self, spot: &VarLocation) -> Result<(), AllocError>
+    fn store_whole(&mut self, spot: &VarLocation) -> Result<(), OutOfMemory>
         ensures { OnOk result (self.new ≡ store_whole (Some spot.now) self.old) }
     {
         let word = spot.word;
@@ -26,7 +26,7 @@ impl CodeBuilder {
     }
 
     /// The store in an element, whose index is below the value.
-    fn store_part(&mut self, spot: &VarLocation) -> Result<(), AllocError>
+    fn store_part(&mut self, spot: &VarLocation) -> Result<(), OutOfMemory>
         ensures { OnOk result (self.new ≡ store_part (Some spot.now) self.old) }
     {
         let word = spot.word;
@@ -41,7 +41,7 @@ impl CodeBuilder {
     }
 
     /// The check of the range, if any, and the store in a variable.
-    fn put_whole(&mut self, spot: &VarLocation) -> Result<(), AllocError>
+    fn put_whole(&mut self, spot: &VarLocation) -> Result<(), OutOfMemory>
         ensures { OnOk result (self.new ≡ put_whole (Some spot.now) self.old) }
     {
         tri!(self.range(&spot.range));
@@ -49,7 +49,7 @@ impl CodeBuilder {
     }
 
     /// The check of the range, if any, and the store in an element.
-    fn put_part(&mut self, spot: &VarLocation) -> Result<(), AllocError>
+    fn put_part(&mut self, spot: &VarLocation) -> Result<(), OutOfMemory>
         ensures { OnOk result (self.new ≡ put_part (Some spot.now) self.old) }
     {
         tri!(self.range(&spot.range));
@@ -62,7 +62,7 @@ impl CodeBuilder {
         names: &L,
         loops: &[Loop],
         target: &Ref,
-    ) -> Result<(), AllocError>
+    ) -> Result<(), OutOfMemory>
         ensures { let g = L.program names.now in let c = inside loops.now (L.scope names.now) in
             OnOk result (self.new ≡ index_of g c target.now self.old) }
     {
@@ -78,7 +78,7 @@ impl CodeBuilder {
         names: &L,
         loops: &[Loop],
         target: &Ref,
-    ) -> Result<(), AllocError>
+    ) -> Result<(), OutOfMemory>
         ensures { let g = L.program names.now in let c = inside loops.now (L.scope names.now) in
             OnOk result (self.new ≡ put_of g c target.now self.old) }
     {
@@ -97,7 +97,7 @@ impl CodeBuilder {
         names: &L,
         loops: &[Loop],
         target: &Ref,
-    ) -> Result<(), AllocError>
+    ) -> Result<(), OutOfMemory>
         ensures { let g = L.program names.now in let c = inside loops.now (L.scope names.now) in
             OnOk result (self.new ≡ store_of g c target.now self.old) }
     {

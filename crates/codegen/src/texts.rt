@@ -16,7 +16,8 @@ ghost use Rattle.code_cost.specs.Parts.{measures_of};
 use code_cost::{Measures, measure_program};
 use codegen_spec::Code;
 use codegen_texts::{Names, ProgramNames, Texts, TextsBuilder};
-use std::alloc::{AllocError, Global};
+use out_of_memory::OutOfMemory;
+use std::alloc::Global;
 use std::marker::Model;
 
 /// All texts of a program, each with the names that it sees. Contracts see them as the program.
@@ -42,7 +43,7 @@ fn routines<'p, 'a>(
     alloc: Global,
     names: &'p ProgramNames<'a>,
     builder: &mut TextsBuilder<'p, 'a, Names<'p, 'a>>,
-) -> Result<(), AllocError>
+) -> Result<(), OutOfMemory>
     requires program { builder.old.program ≡ names.now }
     requires first { builder.old.routines ≡ 0 }
     ensures { OnOk result (builder.new ≡ record builder.old
@@ -60,7 +61,7 @@ fn processes<'p, 'a>(
     alloc: Global,
     names: &'p ProgramNames<'a>,
     builder: &mut TextsBuilder<'p, 'a, Names<'p, 'a>>,
-) -> Result<(), AllocError>
+) -> Result<(), OutOfMemory>
     requires program { builder.old.program ≡ names.now }
     requires first { builder.old.processes ≡ 0 }
     ensures { OnOk result (builder.new ≡ record builder.old
@@ -79,7 +80,7 @@ impl<'p, 'a> ProgramTexts<'p, 'a> {
     pub fn new(
         alloc: Global,
         names: &'p ProgramNames<'a>,
-    ) -> Result<ProgramTexts<'p, 'a>, AllocError>
+    ) -> Result<ProgramTexts<'p, 'a>, OutOfMemory>
         ensures { IfOk result (λ texts. texts ≡ names.now) }
     {
         let mut builder = TextsBuilder::new(alloc, names.tables());
@@ -91,14 +92,14 @@ impl<'p, 'a> ProgramTexts<'p, 'a> {
     }
 
     /// The code of the program: what the generator makes of it. Only want of memory refuses.
-    pub fn generate(&self, alloc: Global) -> Result<Code, AllocError>
+    pub fn generate(&self, alloc: Global) -> Result<Code, OutOfMemory>
         ensures { IfOk result (λ code. code ≡ program_made (plain (placed self.now))) }
     {
         crate::generate(alloc, &self.texts)
     }
 
     /// What the texts of the program cost, and how large they are. Only want of memory refuses.
-    pub fn measure(&self, alloc: Global) -> Result<Measures, AllocError>
+    pub fn measure(&self, alloc: Global) -> Result<Measures, OutOfMemory>
         ensures { IfOk result (λ m. m ≡ measures_of (plain (placed self.now))) }
     {
         measure_program(alloc, &self.texts)

@@ -1,6 +1,6 @@
 //! What the generator asks about names.
 
-ghost use Rattle.std.specs.Prelude.{◌≡◌, ◌<◌, Some, length, map, option_map, pos, slice_get};
+ghost use Rattle.std.specs.Prelude.{◌≡◌, ◌<◌, ◌^◌, Some, length, map, option_map, pos, slice_get};
 ghost use Rattle.std.specs.Option.{option_copied};
 ghost use Rattle.syntax_tree.specs.Plain as plain;
 ghost use Rattle.syntax_tree.specs.Placed.{placed_constant, placed_process, placed_routine, plain_constant, plain_process, plain_routine};
@@ -76,11 +76,12 @@ pub trait Lookups {
         ensures { (t : Text) → slice_get (numbered (program self.now)) number ≡ Some t →
             plain_routine (placed_routine result.now) ≡ t.routine };
 
-    /// How many words of a routine's frame its parameters and variables take.
-    fn words(&self, number: usize) -> usize
+    /// How many words of a routine's frame its parameters and variables take, however many.
+    fn words(&self, number: usize) -> u128
         requires { number < length (numbered (program self.now)) }
-        ensures { (t : Text) → slice_get (numbered (program self.now)) number ≡ Some t → result ≡
-            routine_vars_words (program self.now) t.routine };
+        ensures exact { (t : Text) → slice_get (numbered (program self.now)) number ≡ Some t → result ≡
+            routine_vars_words (program self.now) t.routine }
+        ensures small { result < 2 ^ 100 };
 
     /// The names that a routine sees.
     fn routine_names(&self, number: usize) -> &Self::Names

@@ -37,7 +37,7 @@ pub struct VarLocation {
 #[derive(Drop)]
 pub struct Loop {
     pub name: Name,
-    pub word: usize,
+    pub word: u128,
 }
 
 /// Whose text it is: the program's, or that of a process or monitor of this number.

@@ -4,3 +4,4 @@ pub mod Shared
 pub mod Lists
 pub mod Told
 pub mod Turns
+pub mod Behind

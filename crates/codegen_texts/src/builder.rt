@@ -1,6 +1,6 @@
 //! Texts that are put together.
 
-ghost use Rattle.std.specs.Prelude.{◌≡◌, ◌+◌, IfOk, OnErr, OnOk, Some, length};
+ghost use Rattle.std.specs.Prelude.{◌≡◌, ◌<◌, ◌+◌, ◌^◌, IfOk, OnErr, OnOk, Some, length};
 ghost use Rattle.syntax_tree.specs.Placed.{placed, placed_process, placed_routine, plain, plain_process, plain_routine};
 ghost use Rattle.source_semantics.specs.Names.{processes as processes_of};
 ghost use Rattle.code_spec.specs.Layout.{routine_vars_words};
@@ -14,7 +14,8 @@ use crate::texts::Texts;
 use code_layout::{ConstantValues, Tables, laid_routine};
 use code_names::Body;
 use codegen_spec::Lookup;
-use std::alloc::{AllocError, Global};
+use out_of_memory::OutOfMemory;
+use std::alloc::Global;
 use std::marker::Model;
 use syntax_tree::{Process, Routine};
 
@@ -43,14 +44,14 @@ impl<'t, 'a, N: Lookup> Model for TextsBuilder<'t, 'a, N> {
     ghost invariant = { λ b. AreFirst (plain (placed b.tables.now)) (map (told_routine N.program N.scope) b.routines.items) (map (told_process N.program N.scope) b.processes.items) };
 }
 
-/// The words of a routine's parameters and variables. Where they are more than a number can tell,
-/// there is not memory enough for them.
-fn words(alloc: Global, values: &ConstantValues<'_>, routine: &Routine) -> Result<usize, AllocError>
-    ensures { IfOk result (λ words. words ≡ routine_vars_words (plain (placed values.now))
+/// The words of a routine's parameters and variables.
+fn words(alloc: Global, values: &ConstantValues<'_>, routine: &Routine) -> Result<u128, OutOfMemory>
+    ensures exact { IfOk result (λ words. words ≡ routine_vars_words (plain (placed values.now))
         (plain_routine (placed_routine routine.now))) }
+    ensures small { IfOk result (λ words. words < 2 ^ 100) }
 {
     let laid = laid_routine(alloc, values, routine)?;
-    Ok(laid.word as usize)
+    Ok(laid.word)
 }
 
 impl<'t, 'a, N: Lookup + Drop> TextsBuilder<'t, 'a, N> {
@@ -66,7 +67,7 @@ impl<'t, 'a, N: Lookup + Drop> TextsBuilder<'t, 'a, N> {
     }
 
     /// Takes the next routine or entry by number, with its names.
-    pub fn routine(&mut self, alloc: Global, text: Body<'a>, names: N) -> Result<(), AllocError>
+    pub fn routine(&mut self, alloc: Global, text: Body<'a>, names: N) -> Result<(), OutOfMemory>
         requires next { next_routine self.old ≡ Some (text_of text) }
         requires program { N.program names ≡ program_of self.old }
         requires scope { N.scope names ≡ routine_scope (program_of self.old) (text_of text) }
@@ -83,7 +84,7 @@ impl<'t, 'a, N: Lookup + Drop> TextsBuilder<'t, 'a, N> {
     }
 
     /// Takes the next process in the order of the text, with its names.
-    pub fn process(&mut self, process: &'a Process, names: N) -> Result<(), AllocError>
+    pub fn process(&mut self, process: &'a Process, names: N) -> Result<(), OutOfMemory>
         requires next { next_process self.old ≡ Some (plain_process (placed_process process.now)) }
         requires program { N.program names ≡ program_of self.old }
         requires scope { N.scope names ≡ process_scope (program_of self.old) self.old.processes

@@ -6,10 +6,11 @@ ghost use Rattle.codegen_texts.specs.Shared.{callees_told};
 
 use code_layout::{Tables, callee};
 use codegen_spec::Callee;
-use std::alloc::{AllocError, Global};
+use out_of_memory::OutOfMemory;
+use std::alloc::Global;
 
 /// All routines and entries as calls are told of them, in the order of the text.
-pub fn callees(alloc: Global, tables: &Tables<'_>) -> Result<Vec<Callee>, AllocError>
+pub fn callees(alloc: Global, tables: &Tables<'_>) -> Result<Vec<Callee>, OutOfMemory>
     ensures { IfOk result (λ callees. callees.items ≡ callees_told (plain (placed tables.now))) }
 {
     let mut callees = Vec::new(alloc);

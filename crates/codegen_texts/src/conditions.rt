@@ -9,9 +9,10 @@ ghost use Rattle.codegen_spec.specs.Told.{fit};
 ghost use Rattle.code_names.specs.Parts.{seen_monitors};
 ghost use Rattle.codegen_texts.specs.Shared.{conditions_from, count_from, number_among};
 
-use code_layout::{Tables, number};
+use code_layout::{Tables, fit_word, number};
 use code_names::NameList;
-use std::alloc::{AllocError, Global};
+use out_of_memory::OutOfMemory;
+use std::alloc::Global;
 use syntax_tree::{Member, Monitor, Name};
 
 /// The conditions of a monitor, and the number of the first.
@@ -30,7 +31,7 @@ pub struct Conditions<'a> {
 }
 
 /// Lists the condition that a member declares, if it does.
-fn list_condition<'a>(names: &mut Vec<&'a [u8]>, member: &'a Member) -> Result<(), AllocError>
+fn list_condition<'a>(names: &mut Vec<&'a [u8]>, member: &'a Member) -> Result<(), OutOfMemory>
     ensures { OnOk result ((rest : List SpecMember) → names_of names.new.items ++
         filter_map condition_in rest ≡ names_of names.old.items ++
         filter_map condition_in (plain_member (placed_member member.now) ∷ rest)) }
@@ -42,7 +43,7 @@ fn list_condition<'a>(names: &mut Vec<&'a [u8]>, member: &'a Member) -> Result<(
 }
 
 /// The conditions of a monitor.
-fn own_conditions<'a>(alloc: Global, monitor: &'a Monitor) -> Result<NameList<'a>, AllocError>
+fn own_conditions<'a>(alloc: Global, monitor: &'a Monitor) -> Result<NameList<'a>, OutOfMemory>
     ensures { IfOk result (λ names. names ≡ conditions_of
         (plain_monitor (placed_monitor monitor.now))) }
 {
@@ -59,7 +60,7 @@ fn list_monitor<'a>(
     alloc: Global,
     all: &mut Conditions<'a>,
     monitor: &'a Monitor,
-) -> Result<(), AllocError>
+) -> Result<(), OutOfMemory>
     requires { all.old.count ≤ 2 ^ 127 }
     ensures lists { OnOk result ((rest : List SpecMonitor) → all.new.lists.items ++
         conditions_from all.new.count rest ≡ all.old.lists.items ++
@@ -82,7 +83,7 @@ fn list_monitor<'a>(
 fn numbered_conditions<'a>(
     alloc: Global,
     monitors: &[&'a Monitor],
-) -> Result<Conditions<'a>, AllocError>
+) -> Result<Conditions<'a>, OutOfMemory>
     ensures lists { IfOk result (λ all. all.lists.items ≡
         conditions_from 0 (seen_monitors monitors.now)) }
     ensures count { IfOk result (λ all. all.count ≡ condition_count (seen_monitors monitors.now)) }
@@ -101,7 +102,7 @@ fn numbered_conditions<'a>(
 pub fn program_conditions<'a>(
     alloc: Global,
     tables: &Tables<'a>,
-) -> Result<Conditions<'a>, AllocError>
+) -> Result<Conditions<'a>, OutOfMemory>
     ensures lists { IfOk result (λ all. all.lists.items ≡
         conditions_from 0 (monitors_in (plain (placed tables.now)))) }
     ensures count { IfOk result (λ all. all.count ≡
@@ -110,23 +111,12 @@ pub fn program_conditions<'a>(
     numbered_conditions(alloc, tables.numbering().directory().monitors())
 }
 
-/// The number of a condition as it fits into an operand.
-fn fit_number(number: u128) -> i32
-    ensures { result ≡ fit (pos number) }
-{
-    if number > 2_147_483_647 {
-        i32::MAX
-    } else {
-        number as i32
-    }
-}
-
 /// The number of a condition among those of a monitor, which begin at their first.
 fn own_number(own: &MonitorConditions<'_>, name: &Name) -> i32
     ensures { result ≡ fit (pos (own.now.first + place_of name.now own.now.names)) }
 {
     let place = number(&own.names, name) as u128;
-    fit_number(own.first.saturating_add(place))
+    fit_word(own.first.saturating_add(place))
 }
 
 /// The number of a condition of a monitor; how many there are where there is no such monitor.
@@ -136,6 +126,6 @@ pub fn condition_number(conditions: &Conditions<'_>, monitor: usize, name: &Name
 {
     match conditions.lists.get(monitor) {
         Some(own) => own_number(own, name),
-        None => fit_number(conditions.count),
+        None => fit_word(conditions.count),
     }
 }

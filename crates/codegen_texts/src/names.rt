@@ -11,7 +11,8 @@ use crate::site::{Site, told};
 use code_layout::{VarLayout, VarLocations, laid_routine, variable};
 use code_names::{Body, RoutineOwner};
 use codegen_spec::{Callee, Lookup, Loop, Owner as ToldOwner, VarLocation};
-use std::alloc::{AllocError, Global};
+use out_of_memory::OutOfMemory;
+use std::alloc::Global;
 use syntax_tree::{Constant, Name, Process};
 
 /// The names that one text sees: those of the program, and its own parameters and variables.
@@ -34,7 +35,7 @@ impl<'p, 'a> Names<'p, 'a> {
         alloc: Global,
         program: &'p ProgramNames<'a>,
         text: Body<'a>,
-    ) -> Result<Names<'p, 'a>, AllocError>
+    ) -> Result<Names<'p, 'a>, OutOfMemory>
         ensures program { IfOk result (λ names. program_of names ≡ plain (placed program.now)) }
         ensures scope { IfOk result (λ names. scope_of names ≡
             routine_scope (plain (placed program.now)) (text_of text.entry)) }
@@ -54,7 +55,7 @@ impl<'p, 'a> Names<'p, 'a> {
         program: &'p ProgramNames<'a>,
         number: usize,
         process: &'a Process,
-    ) -> Result<Names<'p, 'a>, AllocError>
+    ) -> Result<Names<'p, 'a>, OutOfMemory>
         ensures program { IfOk result (λ names. program_of names ≡ plain (placed program.now)) }
         ensures scope { IfOk result (λ names. scope_of names ≡
             process_scope (plain (placed program.now)) number

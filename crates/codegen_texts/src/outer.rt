@@ -1,13 +1,14 @@
 //! The variables of processes and monitors.
 
-ghost use Rattle.std.specs.Prelude.{◌≡◌, ◌+◌, IfOk};
+ghost use Rattle.std.specs.Prelude.{◌≡◌, ◌+◌, IfOk, min};
 ghost use Rattle.syntax_tree.specs.Placed.{placed, placed_process, plain, plain_process};
 ghost use Rattle.source_semantics.specs.Names.{monitors as monitors_in, processes as processes_in};
 ghost use Rattle.code_names.specs.Parts.{seen_monitors, seen_processes};
 ghost use Rattle.codegen_texts.specs.Shared.{monitor_tables, process_table, process_tables};
 
 use code_layout::{ConstantValues, Tables, VarLocations, laid_monitor, laid_process};
-use std::alloc::{AllocError, Global};
+use out_of_memory::OutOfMemory;
+use std::alloc::Global;
 use syntax_tree::{Monitor, Process};
 
 /// The variables of each process and of each monitor.
@@ -22,7 +23,7 @@ fn process_spots<'a>(
     alloc: Global,
     values: &ConstantValues<'_>,
     process: &'a Process,
-) -> Result<VarLocations<'a>, AllocError>
+) -> Result<VarLocations<'a>, OutOfMemory>
     ensures { IfOk result (λ spots. spots ≡ process_table (plain (placed values.now))
         (plain_process (placed_process process.now))) }
 {
@@ -36,7 +37,7 @@ fn processes_spots<'a>(
     alloc: Global,
     values: &ConstantValues<'_>,
     processes: &[&'a Process],
-) -> Result<Vec<VarLocations<'a>>, AllocError>
+) -> Result<Vec<VarLocations<'a>>, OutOfMemory>
     ensures { IfOk result (λ tables. tables.items ≡
         process_tables (plain (placed values.now)) (seen_processes processes.now)) }
 {
@@ -48,20 +49,29 @@ fn processes_spots<'a>(
     Ok(tables)
 }
 
+/// A word behind those of a monitor, or the first that is told as this one is: 2^32 is greater than
+/// any operand.
+fn behind(word: u128) -> u128
+    ensures { result ≡ min word 4294967296 }
+{
+    word.min(4_294_967_296)
+}
+
 /// The variables of each monitor, in one area: the words of each behind those of the one before.
 fn monitors_spots<'a>(
     alloc: Global,
     values: &ConstantValues<'_>,
     monitors: &[&'a Monitor],
-) -> Result<Vec<VarLocations<'a>>, AllocError>
+) -> Result<Vec<VarLocations<'a>>, OutOfMemory>
     ensures { IfOk result (λ tables. tables.items ≡
         monitor_tables (plain (placed values.now)) 0 (seen_monitors monitors.now)) }
 {
     let mut tables = Vec::new(alloc);
-    let mut base: u64 = 0;
+    let mut base = 0;
     for monitor in monitors {
         let laid = laid_monitor(alloc, values, base, monitor)?;
-        base = laid.word;
+        let end = laid.word;
+        base = behind(end);
         let spots = VarLocations::new(alloc, laid)?;
         tables.push(spots)?;
     }
@@ -69,7 +79,10 @@ fn monitors_spots<'a>(
 }
 
 /// The variables of the processes and of the monitors of a program.
-pub fn outer_spots<'a>(alloc: Global, tables: &Tables<'a>) -> Result<OuterLocations<'a>, AllocError>
+pub fn outer_spots<'a>(
+    alloc: Global,
+    tables: &Tables<'a>,
+) -> Result<OuterLocations<'a>, OutOfMemory>
     ensures processes { IfOk result (λ outer. outer.processes.items ≡
         process_tables (plain (placed tables.now)) (processes_in (plain (placed tables.now)))) }
     ensures monitors { IfOk result (λ outer. outer.monitors.items ≡

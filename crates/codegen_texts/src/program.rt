@@ -20,7 +20,8 @@ use crate::outer::{OuterLocations, outer_spots};
 use code_layout::{Tables, VarLocations};
 use code_names::{Body, Numbering, RoutineOwner};
 use codegen_spec::Callee;
-use std::alloc::{AllocError, Global};
+use out_of_memory::OutOfMemory;
+use std::alloc::Global;
 use std::marker::Model;
 use syntax_tree::{Name, Program};
 
@@ -64,7 +65,7 @@ struct SharedNames<'a> {
 }
 
 /// What the texts share beside these tables.
-fn shared_names<'a>(alloc: Global, tables: &Tables<'a>) -> Result<SharedNames<'a>, AllocError>
+fn shared_names<'a>(alloc: Global, tables: &Tables<'a>) -> Result<SharedNames<'a>, OutOfMemory>
     ensures { IfOk result (λ s. AreNames tables.now s.callees.items s.outer.processes.items
         s.outer.monitors.items s.conditions.lists.items s.conditions.count) }
 {
@@ -80,7 +81,7 @@ fn shared_names<'a>(alloc: Global, tables: &Tables<'a>) -> Result<SharedNames<'a
 
 impl<'a> ProgramNames<'a> {
     /// Goes once through the text of the program.
-    pub fn new(alloc: Global, program: &'a Program) -> Result<ProgramNames<'a>, AllocError>
+    pub fn new(alloc: Global, program: &'a Program) -> Result<ProgramNames<'a>, OutOfMemory>
         ensures { IfOk result (λ n. n ≡ program.now) }
     {
         let tables = Tables::new(alloc, program)?;

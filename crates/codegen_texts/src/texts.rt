@@ -81,7 +81,7 @@ impl<'a, N: Lookup> Lookups for Texts<'a, N> {
         self.routine_text(number).routine
     }
 
-    fn words(&self, number: usize) -> usize {
+    fn words(&self, number: usize) -> u128 {
         self.routine_text(number).words
     }
 

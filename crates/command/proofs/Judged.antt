@@ -1,6 +1,7 @@
 -- The texts of a load have no fault.
 use Rattle.std.proofs.Common.{◌≡◌, ◌⊎◌, ℕ, List, [], Ok, Err, inl, inr, sym, subst}
 use Rattle.std.specs.Prelude.{Result}
+use Rattle.out_of_memory.specs.Refused.{refused}
 use Rattle.syntax_tree.specs.declared.place.Place.{Place}
 use Rattle.image.specs.Raw.{named_of}
 use Rattle.script.specs.declared.fault.ScriptFault.{ScriptFault}
@@ -34,7 +35,7 @@ never_late never text p answer l is compiles =
     never p.key p.count p.some p.few silent [] (subst (λ t. IsLateText silent 0 t []) p.is ((subst (Compiles 0 text) is compiles).late silent))
 
 pub no_bad_script : NoScriptIsFaulty → HasScript → (b : Built) (text : List ℕ) → IsScriptText b text → (why : ScriptFault) (number line a c : ℕ)
-    → why ≡ script_fault.Bad number line a c → (why ≡ script_fault.Memory) ⊎ IsFault b.image.names text why → ⊥
+    → why ≡ script_fault.Bad number line a c → (why ≡ script_fault.Memory refused) ⊎ IsFault b.image.names text why → ⊥
 no_bad_script none has b text p why number line a c is (inl memory) = cc
 no_bad_script none has b text p why number line a c is (inr faulty) =
     none b.image.names text (load_lines 0 p.key p.count) (load_end p.count) why

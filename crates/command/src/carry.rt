@@ -68,7 +68,7 @@ fn carry<'a, F: Files, O: Sink>(
     match prepare(alloc, message, command, files) {
         Ok(act) => perform(alloc, &act, files, out),
         Err(PrepareError::Unread(name)) => Status::Unread(name),
-        Err(PrepareError::Memory) => Status::Memory,
+        Err(PrepareError::Memory(_)) => Status::Memory,
     }
 }
 

@@ -5,8 +5,9 @@ ghost use Rattle.command_answers.specs.Acts.{CanRun, log_due};
 
 use command_answers::PreparedRun;
 use command_perform::Ready;
+use out_of_memory::OutOfMemory;
 use outside::{Sink, SinkFailed};
-use std::alloc::{AllocError, Global};
+use std::alloc::Global;
 
 /// A sink in memory, which grows with what it takes. A put fails only where memory is refused, and
 /// that error is kept.
@@ -14,7 +15,7 @@ use std::alloc::{AllocError, Global};
 struct Log {
     bytes: Vec<u8>,
     faults: u64,
-    refused: Option<AllocError>,
+    refused: Option<OutOfMemory>,
     ghost kept: { 1 ≤ faults → IsSome refused },
 }
 
@@ -27,7 +28,7 @@ impl Sink for Log {
         match self.bytes.extend_from_slice(piece) {
             Ok(()) => Ok(()),
             Err(refused) => {
-                self.refused = Some(refused);
+                self.refused = Some(OutOfMemory::from(refused));
                 self.faults = self.faults.saturating_add(1);
                 Err(SinkFailed { taken: 0 })
             }
@@ -36,7 +37,7 @@ impl Sink for Log {
 }
 
 /// The log of a run that the machine can make.
-pub fn log_of(alloc: Global, run: &PreparedRun) -> Result<Vec<u8>, AllocError>
+pub fn log_of(alloc: Global, run: &PreparedRun) -> Result<Vec<u8>, OutOfMemory>
     requires { CanRun run.now }
     ensures { IfOk result (λ bytes. bytes.items ≡ log_due (Some run.now)) }
 {

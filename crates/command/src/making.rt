@@ -41,7 +41,7 @@ fn store_script<'a, F: Files, O: Sink>(
             Err(_) => Status::Unput,
         },
         Err(WriteFault::Failed) => Status::Unwritten(load.script),
-        Err(WriteFault::Memory) => Status::Memory,
+        Err(WriteFault::Memory(_)) => Status::Memory,
     }
 }
 
@@ -78,6 +78,6 @@ pub fn make<'a, F: Files, O: Sink>(
     match files.write(load.program, texts.program.as_bytes()) {
         Ok(()) => store_script(load, &texts, files, out),
         Err(WriteFault::Failed) => Status::Unwritten(load.program),
-        Err(WriteFault::Memory) => Status::Memory,
+        Err(WriteFault::Memory(_)) => Status::Memory,
     }
 }

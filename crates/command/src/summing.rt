@@ -13,8 +13,9 @@ use compile::Built;
 use image_loaded::Image;
 use load::{make_program, make_script, mark_after, summary_line};
 use load_law::load_texts;
+use out_of_memory::OutOfMemory;
 use script::Script;
-use std::alloc::{AllocError, Global};
+use std::alloc::Global;
 use syntax_tree::Text;
 
 /// The texts of a load, and the line that tells of its run.
@@ -45,7 +46,7 @@ fn summary_of(
     count: u32,
     built: Built,
     script: Script,
-) -> Result<Text, AllocError>
+) -> Result<Text, OutOfMemory>
     requires some { 1 ≤ count }
     requires few { count ≤ 64 }
     requires built { IsMadeOf (program_text key count) built }
@@ -73,7 +74,7 @@ fn summary_of(
 
 /// The texts of the load of a key with so many processes, from 1 to 64, and the line that tells of
 /// its run.
-pub fn texts_of(alloc: Global, key: u64, count: u32) -> Result<LoadTexts, AllocError>
+pub fn texts_of(alloc: Global, key: u64, count: u32) -> Result<LoadTexts, OutOfMemory>
     requires some { 1 ≤ count }
     requires few { count ≤ 64 }
     ensures { IfOk result (AreTextsOf key count) }

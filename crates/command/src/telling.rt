@@ -6,8 +6,9 @@ ghost use Rattle.command.specs.Told.{HasMessage, HasPut, HasTold, IsOwnMessage, 
 
 use command_answers::Status;
 use message_words::{cannot_put, cannot_read, cannot_write, out_of_memory, usage};
+use out_of_memory::OutOfMemory;
 use outside::Sink;
-use std::alloc::{AllocError, Global};
+use std::alloc::Global;
 use syntax_tree::Text;
 
 /// The message of the status of a call of these words, which is this one where what a file holds was
@@ -17,7 +18,7 @@ fn message(
     words: &[String],
     refusal: Text,
     status: Status<'_>,
-) -> Result<Text, AllocError>
+) -> Result<Text, OutOfMemory>
     ensures text { IfOk result (λ text. text ≡ message_of words.now refusal status.entry) }
     ensures some { IfErr result (λ why. IsOwnMessage status.entry) }
 {

@@ -33,7 +33,7 @@ module _ (tells : Bool) (call : Call) (name : List ℕ) where
   -- the first file could not be read
   pub first_unread : (before now : FilesState) (why : PrepareError) → name ≡ source_of call → IsReadError name before now why → Prepares tells call before now (Err why)
   first_unread before now (unready.Unread failed) is (at, rose) = (subst (Failed before now) (sym at) rose, inl (subst (λ n. n ≡ source_of call) (sym at) is))
-  first_unread before now unready.Memory is error = tt
+  first_unread before now (unready.Memory _) is error = tt
 
   module _ (before mid now : FilesState) (fell : NoneFell before.read_faults mid.read_faults) where
     since : Failed mid now name → Failed before now name
@@ -44,4 +44,4 @@ module _ (tells : Bool) (call : Call) (name : List ℕ) where
         → Prepares tells call before now (Err why)
     script_unread (unready.Unread failed) is reached (at, rose) =
         (subst (Failed before now) (sym at) (since rose), inr (inl (subst (λ n. script_of call ≡ Some n) (sym at) is, reached)))
-    script_unread unready.Memory is reached error = tt
+    script_unread (unready.Memory _) is reached error = tt

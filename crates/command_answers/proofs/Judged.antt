@@ -1,6 +1,7 @@
 -- What is due of scripts, by what was answered of them; runs that can be made.
 use Rattle.std.proofs.Common.{◌≡◌, ◌≢◌, ℕ, List, Option, Ok, Err, ◌⊎◌, inl, inr, sym, subst}
 use Rattle.std.specs.Prelude.{Result, IfOk}
+use Rattle.out_of_memory.specs.Refused.{refused}
 use Rattle.script.specs.declared.fault.ScriptFault.{ScriptFault}
 use Rattle.script.specs.declared.fault.ScriptFault.TheVariants as script_fault
 use Rattle.script.specs.declared.script.Script.{Script}
@@ -30,8 +31,8 @@ ran_over front image n script P (Ok act) is_script is = λ text p. is_run script
 ran_over front image n script P (Err e) is_script is = tt
 
 pub bad_over : {E : Type 0} (front : List ℕ) (image : Option (List ℕ)) (n : NamedImage) (why : ScriptFault) (P : List ℕ → Type 0) (made : Result PreparedCall E)
-    → ((text : List ℕ) → P text → (why ≡ script_fault.Memory) ⊎ IsFault n.names text why)
-    → IfOk made (λ act. act ≡ puts status.Script (script_fault_line why)) → IfOk made (λ act. why ≢ script_fault.Memory)
+    → ((text : List ℕ) → P text → (why ≡ script_fault.Memory refused) ⊎ IsFault n.names text why)
+    → IfOk made (λ act. act ≡ puts status.Script (script_fault_line why)) → IfOk made (λ act. why ≢ script_fault.Memory refused)
     → IfOk made (λ act. (text : List ℕ) → P text → IsRunOver front image n text (outcome_of act))
 bad_over front image n why P (Ok act) answer is other = λ text p. elim (answer text p) [
   | inl memory ↦ absurd (other memory)

@@ -38,7 +38,7 @@ tried_perhaps a names before mid now status added (inr more) = tried_on a names 
 
 not_done : (why : PrepareError) → error_status why ≢ 0
 not_done (unready.Unread name) = λ e. absurd cc
-not_done unready.Memory = λ e. absurd cc
+not_done (unready.Memory _) = λ e. absurd cc
 
 none_more : (a : List ℕ) (n : ℕ) (names : List (List ℕ)) → a ∷ take n [] ≡ a ∷ take 0 names
 none_more a zero names = refl

@@ -27,7 +27,7 @@ Failed before now name = Rose (before.read_faults name) (now.read_faults name)
 -- why the file of this name could not be read
 abbrev pub IsReadError : List ℕ → (before now : FilesState) → PrepareError → Type 0
 IsReadError name before now (unready.Unread failed) = (failed.now ≡ name) × Failed before now name
-IsReadError name before now unready.Memory = Unit {0}
+IsReadError name before now (unready.Memory _) = Unit {0}
 
 -- the file of this name is read: it is the first, or that of the script or of the log where this
 -- was reached
@@ -41,4 +41,4 @@ IsReached tells call held name =
 abbrev pub Prepares : Bool → Call → (before now : FilesState) → Result PreparedCall PrepareError → Type 0
 Prepares tells call before now (Ok act) = IsPrepared tells call before act
 Prepares tells call before now (Err (unready.Unread name)) = Failed before now name.now × IsReached tells call before.held name.now
-Prepares tells call before now (Err unready.Memory) = Unit {0}
+Prepares tells call before now (Err (unready.Memory _)) = Unit {0}

@@ -27,7 +27,7 @@ HasTriedTarget target before now status =
 -- the status of a call that cannot be prepared
 abbrev pub error_status : PrepareError → ℕ
 error_status (unready.Unread name) = 6
-error_status unready.Memory = 8
+error_status (unready.Memory _) = 8
 
 -- the status of a call when all is read and judged, if nothing fails from here on
 abbrev pub status_of : Result PreparedCall PrepareError → ℕ

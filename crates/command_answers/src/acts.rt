@@ -6,7 +6,8 @@ ghost use Rattle.command_answers.specs.Acting.{puts};
 ghost use Rattle.command_answers.specs.Acts.{number_of};
 
 use crate::{PreparedCall, Status, fault_line};
-use std::alloc::{AllocError, Global};
+use out_of_memory::OutOfMemory;
+use std::alloc::Global;
 use syntax_tree::{Place, Text};
 
 /// The act that puts a text, and stores and runs nothing.
@@ -27,7 +28,7 @@ pub fn put_fault<'a>(
     alloc: Global,
     number: u8,
     place: Place,
-) -> Result<PreparedCall<'a>, AllocError>
+) -> Result<PreparedCall<'a>, OutOfMemory>
     ensures act { IfOk result (λ act. act ≡ puts Status.Text (fault_line number place)) }
     ensures refused { IfOk result (λ act. number_of act.status ≢ 0) }
 {

@@ -1,6 +1,6 @@
 //! Why nothing was prepared.
 
-use std::alloc::AllocError;
+use out_of_memory::OutOfMemory;
 
 /// Why nothing was prepared.
 #[derive(Clone, Copy)]
@@ -8,16 +8,17 @@ pub enum PrepareError<'a> {
     /// The read of the file of this name failed.
     Unread(&'a str),
     /// There was not enough memory.
-    Memory,
+    Memory(OutOfMemory),
 }
 
-impl<'a> From<AllocError> for PrepareError<'a> {
+impl<'a> From<OutOfMemory> for PrepareError<'a> {
     ghost use Rattle.std.specs.Prelude.{◌≡◌};
+    ghost use Rattle.out_of_memory.specs.Refused.{refused};
     ghost use Rattle.command_answers.specs.declared.prepare_error.PrepareError.TheVariants as unready;
 
-    ghost from_gives = { λ _ made. made ≡ unready.Memory };
+    ghost from_gives = { λ _ made. made ≡ unready.Memory refused };
 
-    fn from(_: AllocError) -> PrepareError<'a> {
-        PrepareError::Memory
+    fn from(error: OutOfMemory) -> PrepareError<'a> {
+        PrepareError::Memory(error)
     }
 }

@@ -60,6 +60,6 @@ pub fn read<'a, F: Files>(
         Ok(bytes) => Ok(Content::Bytes(bytes)),
         Err(ReadFault::Long) => Ok(Content::TooLong),
         Err(ReadFault::Failed) => Err(PrepareError::Unread(name)),
-        Err(ReadFault::Memory) => Err(PrepareError::Memory),
+        Err(ReadFault::Memory(error)) => Err(PrepareError::Memory(error)),
     }
 }

@@ -1,5 +1,6 @@
 -- What is due of each command, by what the files that it reads hold.
 use Rattle.std.specs.Prelude.{◌≡◌, ◌++◌, ℕ, List, [], Option, Some, None, codes, decimal}
+use Rattle.out_of_memory.specs.Refused.{refused}
 use Rattle.syntax_tree.specs.declared.place.Place.{Place}
 use Rattle.syntax_tree.specs.Placed.{Prog}
 use Rattle.syntax_tree.specs.Bare.{bare}
@@ -67,7 +68,7 @@ log n lines end = log_of n.names (events n.image (run_of lines end))
 -- the text is no script for the names, with this fault
 pub record IsScriptFault (n : NamedImage) (text : List ℕ) (fault : ScriptFault) : Type 0 where
   pub is : IsFault n.names text fault
-  pub is_fault : ¬ (fault ≡ script_fault.Memory)
+  pub is_fault : ¬ (fault ≡ script_fault.Memory refused)
 
 abbrev pub bad_script : ScriptFault → Outcome
 bad_script fault = told 5 (script_fault_line fault)

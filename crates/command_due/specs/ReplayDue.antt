@@ -1,5 +1,6 @@
 -- What is due of `replay`.
 use Rattle.std.specs.Prelude.{◌≡◌, ◌≢◌, ◌++◌, ℕ, List, [], length, Option, Some, codes, decimal}
+use Rattle.out_of_memory.specs.Refused.{refused}
 use Rattle.syntax_tree.specs.declared.place.Place.{Place}
 use Rattle.syntax_tree.specs.Placed.{Prog, plain}
 use Rattle.base.specs.declared.event.Event.{Event}
@@ -25,7 +26,7 @@ use Rattle.source_semantics.specs.Verdicts.{IsRefusedAt}
 abbrev pub log_fault_line : LogFault → List ℕ
 log_fault_line (log_fault.Line line) = codes "L1 " ++ (decimal line ++ codes "\n")
 log_fault_line log_fault.Long = codes "L2 0\n"
-log_fault_line log_fault.Memory = []
+log_fault_line (log_fault.Memory _) = []
 
 -- a log whose event on this line is refused, the first line being 1
 abbrev pub refused_line : ℕ → List ℕ
@@ -65,7 +66,7 @@ pub data IsReplayDue (program script log : Option (List ℕ)) (outcome : Outcome
   replay_faulty : (text : List ℕ) (number : ℕ) (place : Place) → program ≡ Some text → IsTextFault text number place
       → outcome ≡ told 2 (fault_line number place) → IsReplayDue program script log outcome
   replay_bad_script : (text other : List ℕ) (g : Prog Place) (fault : ScriptFault) → program ≡ Some text → IsWritten text g
-      → script ≡ Some other → scripts.IsFault (names_of (plain g)) other fault → fault ≢ script_fault.Memory
+      → script ≡ Some other → scripts.IsFault (names_of (plain g)) other fault → fault ≢ script_fault.Memory refused
       → outcome ≡ bad_script fault → IsReplayDue program script log outcome
   replay_judged : (g : Prog Place) (lines : List ScriptLine) (end : ℕ) (text : List ℕ) → IsRecorded program script g lines end
       → log ≡ Some text → IsJudged g lines end text outcome → IsReplayDue program script log outcome

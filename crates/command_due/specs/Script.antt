@@ -18,4 +18,4 @@ ticks_line number a b = if nat_eq number 4 then codes " " ++ (decimal a ++ (code
 -- the line of a fault; want of memory has none
 abbrev pub script_fault_line : ScriptFault → List ℕ
 script_fault_line (Bad number line a b) = codes "S" ++ (decimal number ++ (codes " " ++ (decimal line ++ (ticks_line number a b ++ codes "\n"))))
-script_fault_line Memory = []
+script_fault_line (Memory _) = []

@@ -2,6 +2,7 @@
 use Rattle.std.proofs.Common.{◌≡◌, ◌≢◌, ℕ, List, Option, Some, None, Bool, true, false, ◌⊎◌, Ok, Err, inl, inr, refl, subst}
 use Rattle.std.specs.Prelude.{Result, IfErr, IfOk, IsSomeAnd}
 use Rattle.std.specs.Bool.{OnTrue}
+use Rattle.out_of_memory.specs.Refused.{refused}
 use Rattle.image.specs.declared.raw.RawImage.{RawImage}
 use Rattle.image.specs.Named.{NamedImage}
 use Rattle.image.specs.Raw.{named_of}
@@ -36,8 +37,8 @@ drawn_over a b n script P (Ok act) is_script is = λ text p. drawn script.lines 
 drawn_over a b n script P (Err e) is_script is = tt
 
 pub bad_drawn : {E : Type 0} (a b : ℕ) (n : NamedImage) (why : ScriptFault) (P : List ℕ → Type 0) (made : Result PreparedCall E)
-    → ((text : List ℕ) → P text → (why ≡ script_fault.Memory) ⊎ IsFault n.names text why)
-    → IfOk made (λ act. act ≡ puts status.Script (script_fault_line why)) → IfOk made (λ act. why ≢ script_fault.Memory)
+    → ((text : List ℕ) → P text → (why ≡ script_fault.Memory refused) ⊎ IsFault n.names text why)
+    → IfOk made (λ act. act ≡ puts status.Script (script_fault_line why)) → IfOk made (λ act. why ≢ script_fault.Memory refused)
     → IfOk made (λ act. (text : List ℕ) → P text → IsDrawnDue a b n text (outcome_of act))
 bad_drawn a b n why P (Ok act) answer is other = λ text p. elim (answer text p) [
   | inl memory ↦ absurd (other memory)

@@ -18,11 +18,11 @@ use Rattle.command_images.specs.Telling.{IsInvalidText, IsValidText, LoadsText, 
 pub tells : (text : List ℕ) → TextsReadAreOfImages → (answer : Result RawImage AssemblyFault) → Tells text answer → TellsImage text answer
 tells text read (Ok raw) t = read text raw t.short t.is_read t.image
 tells text read (Err (asm.Bad number line)) t = t
-tells text read (Err asm.Memory) t = tt
+tells text read (Err (asm.Memory _)) t = tt
 
 pub untold : (text : List ℕ) (why : AssemblyFault) → TellsImage text (Err why) → LoadsText text (Err (of_lines why))
 untold text (asm.Bad number line) h = h
-untold text asm.Memory h = tt
+untold text (asm.Memory _) h = tt
 
 pub loads_text : (text : List ℕ) (raw : RawImage) (n : NamedImage) → IsTextOf text raw → Verifies raw (Ok n) → LoadsText text (Ok n)
 loads_text text raw n is h = record { raw = raw; told = is; image = h.0; valid = subst (λ (x : NamedImage). IsValid x.image) (sym h.0) h.1 }
@@ -30,4 +30,4 @@ loads_text text raw n is h = record { raw = raw; told = is; image = h.0; valid =
 pub loads_no_text : (text : List ℕ) (raw : RawImage) (why : ValidFault) → IsTextOf text raw → Verifies raw (Err why) → LoadsText text (Err (of_numbers why))
 loads_no_text text raw (valid.Invalid same found) is h =
     subst (λ (x : RawImage). IsInvalidText text x found) (sym h.0) (let told : IsInvalidText text raw found = record { told = is; first = h.1 } in told)
-loads_no_text text raw valid.Memory is h = tt
+loads_no_text text raw (valid.Memory _) is h = tt

@@ -1,6 +1,7 @@
 -- Scripts for the names of an image.
 use Rattle.std.proofs.Common.{◌≡◌, ◌⊎◌, ℕ, List, Ok, Err, subst}
 use Rattle.std.specs.Prelude.{IfErr, IfOk, Result}
+use Rattle.out_of_memory.specs.Refused.{refused}
 use Rattle.image.specs.Named.{NamedImage}
 use Rattle.image.specs.declared.names.ImageNames.{ImageNames}
 use Rattle.script.specs.Faults.{IsFault}
@@ -26,6 +27,6 @@ module _ (content : Content) (names own : ImageNames) where
   all_scripts made same is = subst (λ (ns : ImageNames). IfOk made (λ script. (text : List ℕ) → IsContent longest_text content text → IsScript ns text script.lines script.end)) same is
 
   pub all_faults : (made : Result Script ScriptFault) → names ≡ own
-      → IfErr made (λ why. (text : List ℕ) → IsContent longest_text content text → (why ≡ script_fault.Memory) ⊎ IsFault names text why)
-      → IfErr made (λ why. (text : List ℕ) → IsContent longest_text content text → (why ≡ script_fault.Memory) ⊎ IsFault own text why)
-  all_faults made same is = subst (λ (ns : ImageNames). IfErr made (λ why. (text : List ℕ) → IsContent longest_text content text → (why ≡ script_fault.Memory) ⊎ IsFault ns text why)) same is
+      → IfErr made (λ why. (text : List ℕ) → IsContent longest_text content text → (why ≡ script_fault.Memory refused) ⊎ IsFault names text why)
+      → IfErr made (λ why. (text : List ℕ) → IsContent longest_text content text → (why ≡ script_fault.Memory refused) ⊎ IsFault own text why)
+  all_faults made same is = subst (λ (ns : ImageNames). IfErr made (λ why. (text : List ℕ) → IsContent longest_text content text → (why ≡ script_fault.Memory refused) ⊎ IsFault ns text why)) same is

@@ -32,21 +32,21 @@ abbrev pub LoadsText : List ℕ → Result NamedImage ImageTextFault → Type 0
 LoadsText text (Ok image) = IsValidText text image
 LoadsText text (Err (fault.Text number line)) = IsFaultOf text number line
 LoadsText text (Err (fault.Invalid raw found)) = IsInvalidText text raw found
-LoadsText text (Err fault.Memory) = Unit {0}
+LoadsText text (Err (fault.Memory _)) = Unit {0}
 
 -- ---- the faults of texts, by those of lines and of numbers
 
 abbrev pub of_lines : AssemblyFault → ImageTextFault
 of_lines (asm.Bad number line) = fault.Text number line
-of_lines asm.Memory = fault.Memory
+of_lines (asm.Memory e) = fault.Memory e
 
 abbrev pub of_numbers : ValidFault → ImageTextFault
 of_numbers (valid.Invalid raw found) = fault.Invalid raw found
-of_numbers valid.Memory = fault.Memory
+of_numbers (valid.Memory e) = fault.Memory e
 
 -- ---- on the way
 
 abbrev pub TellsImage : List ℕ → Result RawImage AssemblyFault → Type 0
 TellsImage text (Ok raw) = IsTextOf text raw
 TellsImage text (Err (asm.Bad number line)) = IsFaultOf text number line
-TellsImage text (Err asm.Memory) = Unit {0}
+TellsImage text (Err (asm.Memory _)) = Unit {0}

@@ -22,9 +22,10 @@ use command_answers::{
 };
 use command_refusals::refuse_script;
 use image_loaded::Image;
+use out_of_memory::OutOfMemory;
 use outside::Files;
 use script::Script;
-use std::alloc::{AllocError, Global};
+use std::alloc::Global;
 use syntax_tree::Text;
 use vm_chart::chart;
 use vm_plan::plan_of;
@@ -36,7 +37,7 @@ fn put_drawn<'a>(
     script: &Script,
     first: u64,
     end: u64,
-) -> Result<PreparedCall<'a>, AllocError>
+) -> Result<PreparedCall<'a>, OutOfMemory>
     requires { CanRunByRanks image.now script.now }
     ensures told { IfOk result (λ act. IsDrawnOver first end image.now script.now (outcome_of act)) }
     ensures quiet { IfOk result IsQuiet }
@@ -56,7 +57,7 @@ fn chart_act<'a>(
     content: &Content,
     first: u64,
     end: u64,
-) -> Result<PreparedCall<'a>, AllocError>
+) -> Result<PreparedCall<'a>, OutOfMemory>
     ensures due { IfOk result (λ act. (text : List ℕ) → IsContent longest_text content.now text →
         IsDrawnDue first end image.now text (outcome_of act)) }
     ensures quiet { IfOk result IsQuiet }
@@ -96,7 +97,7 @@ fn chart_on<'a, F: Files>(
     let content = read(files, script, LONGEST_SCRIPT)?;
     match chart_act(alloc, message, script, image, &content, first, end) {
         Ok(act) => Ok(act),
-        Err(_) => Err(PrepareError::Memory),
+        Err(error) => Err(PrepareError::Memory(error)),
     }
 }
 
@@ -124,7 +125,7 @@ pub fn prepare_chart<'a, F: Files>(
         Ok(loaded) => chart_on(alloc, message, &loaded, script, first, end, files),
         Err(fault) => match refuse_image(alloc, message, image, fault) {
             Ok(act) => Ok(act),
-            Err(_) => Err(PrepareError::Memory),
+            Err(error) => Err(PrepareError::Memory(error)),
         },
     }
 }

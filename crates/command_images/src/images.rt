@@ -22,8 +22,9 @@ use command_answers::{
 use image_format::refusal;
 use image_loaded::{FileFault, Image};
 use message_log::{image_message, test_number, valid_message};
+use out_of_memory::OutOfMemory;
 use outside::Files;
-use std::alloc::{AllocError, Global};
+use std::alloc::Global;
 use syntax_tree::Text;
 
 /// The valid image that a file holds.
@@ -50,7 +51,7 @@ fn line_of(
     message: &mut Text,
     file: &str,
     fault: FileFault,
-) -> Result<Text, AllocError>
+) -> Result<Text, OutOfMemory>
     ensures due { IfOk result (λ line. (bytes : List ℕ) → Loads bytes (Err fault) →
         IsImageRefused bytes (told 4 line)) }
     ensures told { IfOk result (λ line. (bytes : List ℕ) → Loads bytes (Err fault) →
@@ -65,7 +66,7 @@ fn line_of(
             *message = valid_message(alloc, file, &raw, found)?;
             valid_fault_line(alloc, test_number(found.subject), found.a, found.b)
         }
-        FileFault::Memory => Err(AllocError),
+        FileFault::Memory(error) => Err(error),
     }
 }
 
@@ -76,7 +77,7 @@ pub fn refuse_image<'a>(
     message: &mut Text,
     file: &str,
     fault: FileFault,
-) -> Result<PreparedCall<'a>, AllocError>
+) -> Result<PreparedCall<'a>, OutOfMemory>
     ensures due { IfOk result (λ act. (bytes : List ℕ) → Loads bytes (Err fault) →
         IsImageRefused bytes (outcome_of act)) }
     ensures quiet { IfOk result IsQuiet }
@@ -93,7 +94,7 @@ pub fn store_image<'a>(
     alloc: Global,
     image: &Image,
     target: &'a str,
-) -> Result<PreparedCall<'a>, AllocError>
+) -> Result<PreparedCall<'a>, OutOfMemory>
     ensures outcome { IfOk result (λ act. outcome_of act ≡ keeps (stored image.now)) }
     ensures done { IfOk result (CanBeDone (Some target.now)) }
 {
@@ -116,7 +117,7 @@ fn migrate_act<'a>(
     file: &str,
     content: Content,
     target: &'a str,
-) -> Result<PreparedCall<'a>, AllocError>
+) -> Result<PreparedCall<'a>, OutOfMemory>
     ensures due { IfOk result (λ act. (bytes : List ℕ) → IsContent longest content bytes →
         IsMigrateDue bytes (outcome_of act)) }
     ensures done { IfOk result (CanBeDone (Some target.now)) }
@@ -149,6 +150,6 @@ pub fn prepare_migrate<'a, F: Files>(
     let content = read(files, image, LONGEST_IMAGE)?;
     match migrate_act(alloc, message, image, content, target) {
         Ok(act) => Ok(act),
-        Err(_) => Err(PrepareError::Memory),
+        Err(error) => Err(PrepareError::Memory(error)),
     }
 }

@@ -23,9 +23,10 @@ use command_answers::{
 };
 use command_refusals::refuse_script;
 use image_loaded::Image;
+use out_of_memory::OutOfMemory;
 use outside::Files;
 use script::Script;
-use std::alloc::{AllocError, Global};
+use std::alloc::Global;
 use syntax_tree::Text;
 
 /// The act that runs an image over a script.
@@ -52,7 +53,7 @@ fn run_act<'a>(
     file: &str,
     image: Image,
     content: &Content,
-) -> Result<PreparedCall<'a>, AllocError>
+) -> Result<PreparedCall<'a>, OutOfMemory>
     ensures due { IfOk result (λ act. (text : List ℕ) → IsContent longest_text content.now text →
         IsImageRunDue image text (outcome_of act)) }
     ensures done { IfOk result (CanBeDone None) }
@@ -90,7 +91,7 @@ fn run_on<'a, F: Files>(
     let content = read(files, script, LONGEST_SCRIPT)?;
     match run_act(alloc, message, script, image, &content) {
         Ok(act) => Ok(act),
-        Err(_) => Err(PrepareError::Memory),
+        Err(error) => Err(PrepareError::Memory(error)),
     }
 }
 
@@ -116,7 +117,7 @@ pub fn prepare_run<'a, F: Files>(
         Ok(loaded) => run_on(alloc, message, loaded, script, files),
         Err(fault) => match refuse_image(alloc, message, image, fault) {
             Ok(act) => Ok(act),
-            Err(_) => Err(PrepareError::Memory),
+            Err(error) => Err(PrepareError::Memory(error)),
         },
     }
 }

@@ -1,6 +1,7 @@
 //! Scripts for images.
 
 ghost use Rattle.std.specs.Prelude.{◌≡◌, ◌⊎◌, ℕ, List, IfErr, IfOk};
+ghost use Rattle.out_of_memory.specs.Refused.{refused};
 ghost use Rattle.command_answers.specs.Acts.{CanRunByRanks};
 ghost use Rattle.command_answers.specs.Contents.{IsContent};
 ghost use Rattle.script.specs.Faults.{IsFault};
@@ -28,7 +29,7 @@ pub(crate) fn script_for(
         IsContent longest_text content.now text →
         IsScript image.now.names text script.lines script.end) }
     ensures fault { IfErr result (λ why. (text : List ℕ) → IsContent longest_text content.now text →
-        (why ≡ fault.Memory) ⊎ IsFault image.now.names text why) }
+        (why ≡ fault.Memory refused) ⊎ IsFault image.now.names text why) }
 {
     valid_images_can_be_run(image);
     judge_script(alloc, content, image.names())

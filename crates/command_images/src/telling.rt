@@ -7,6 +7,7 @@ use assembler::{AssemblyFault, asm};
 use faulty_part::PartFault;
 use image::RawImage;
 use image_loaded::{Image, ValidFault};
+use out_of_memory::OutOfMemory;
 use std::alloc::Global;
 
 /// Why a text gave no valid image.
@@ -19,7 +20,7 @@ pub enum ImageTextFault {
     /// it is of.
     Invalid { raw: RawImage, fault: PartFault },
     /// There was not enough memory.
-    Memory,
+    Memory(OutOfMemory),
 }
 
 impl From<AssemblyFault> for ImageTextFault {
@@ -31,7 +32,7 @@ impl From<AssemblyFault> for ImageTextFault {
     fn from(fault: AssemblyFault) -> ImageTextFault {
         match fault {
             AssemblyFault::Bad { number, line } => ImageTextFault::Text { number, line },
-            AssemblyFault::Memory => ImageTextFault::Memory,
+            AssemblyFault::Memory(error) => ImageTextFault::Memory(error),
         }
     }
 }
@@ -45,7 +46,7 @@ impl From<ValidFault> for ImageTextFault {
     fn from(fault: ValidFault) -> ImageTextFault {
         match fault {
             ValidFault::Invalid { raw, fault } => ImageTextFault::Invalid { raw, fault },
-            ValidFault::Memory => ImageTextFault::Memory,
+            ValidFault::Memory(error) => ImageTextFault::Memory(error),
         }
     }
 }

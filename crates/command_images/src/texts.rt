@@ -36,8 +36,9 @@ use image_reader::{ImageFault, read_image};
 use message_log::{
     image_message, image_text_message, long_text_message, test_number, valid_message,
 };
+use out_of_memory::OutOfMemory;
 use outside::Files;
-use std::alloc::{AllocError, Global};
+use std::alloc::Global;
 use syntax_tree::Text;
 
 // ---- `asm`
@@ -67,7 +68,7 @@ fn message_of_lines(
     content: &Content,
     number: u8,
     line: u32,
-) -> Result<Text, AllocError>
+) -> Result<Text, OutOfMemory>
     ensures { IfOk result (λ message. (text : List ℕ) → IsContent longest_text content.now text →
         message ≡ message_of.image_text_message file.now text number line) }
 {
@@ -84,7 +85,7 @@ fn line_of_text(
     file: &str,
     content: &Content,
     fault: ImageTextFault,
-) -> Result<Text, AllocError>
+) -> Result<Text, OutOfMemory>
     ensures due { IfOk result (λ line. (text : List ℕ) → LoadsText text (Err fault) →
         IsAsmDue text (told 4 line)) }
     ensures told { IfOk result (λ line. (text : List ℕ) → IsContent longest_text content.now text →
@@ -99,7 +100,7 @@ fn line_of_text(
             *message = valid_message(alloc, file, &raw, found)?;
             valid_fault_line(alloc, test_number(found.subject), found.a, found.b)
         }
-        ImageTextFault::Memory => Err(AllocError),
+        ImageTextFault::Memory(error) => Err(error),
     }
 }
 
@@ -111,7 +112,7 @@ fn refuse_text<'a>(
     file: &str,
     content: &Content,
     fault: ImageTextFault,
-) -> Result<PreparedCall<'a>, AllocError>
+) -> Result<PreparedCall<'a>, OutOfMemory>
     ensures due { IfOk result (λ act. (text : List ℕ) → LoadsText text (Err fault) →
         IsAsmDue text (outcome_of act)) }
     ensures quiet { IfOk result IsQuiet }
@@ -129,7 +130,7 @@ fn asm_act<'a>(
     text: &str,
     content: &Content,
     target: &'a str,
-) -> Result<PreparedCall<'a>, AllocError>
+) -> Result<PreparedCall<'a>, OutOfMemory>
     ensures due { IfOk result (λ act. (lines : List ℕ) →
         IsContent longest_text content.now lines → IsAsmDue lines (outcome_of act)) }
     ensures done { IfOk result (CanBeDone (Some target.now)) }
@@ -163,7 +164,7 @@ pub fn prepare_asm<'a, F: Files>(
     let content = read(files, text, LONGEST_IMAGE_TEXT)?;
     match asm_act(alloc, message, text, &content, image) {
         Ok(act) => Ok(act),
-        Err(_) => Err(PrepareError::Memory),
+        Err(error) => Err(PrepareError::Memory(error)),
     }
 }
 
@@ -201,7 +202,7 @@ fn store_text<'a>(
     alloc: Global,
     raw: &RawImage,
     target: &'a str,
-) -> Result<PreparedCall<'a>, AllocError>
+) -> Result<PreparedCall<'a>, OutOfMemory>
     requires { HasNames raw.now }
     ensures outcome { IfOk result (λ act. outcome_of act ≡ keeps (text_of (named_of raw.now))) }
     ensures done { IfOk result (CanBeDone (Some target.now)) }
@@ -225,7 +226,7 @@ fn line_of_bytes(
     message: &mut Text,
     file: &str,
     fault: ImageFault,
-) -> Result<Text, AllocError>
+) -> Result<Text, OutOfMemory>
     ensures due { IfOk result (λ line. (bytes : List ℕ) → Tells bytes (Err fault) →
         IsDisDue bytes (told 4 line)) }
     ensures told { IfOk result (λ line. IsBytesTold file.now (told 4 line) message.new) }
@@ -235,7 +236,7 @@ fn line_of_bytes(
             *message = image_message(alloc, file, number, offset)?;
             image_fault_line(alloc, number, offset)
         }
-        ImageFault::Memory => Err(AllocError),
+        ImageFault::Memory(error) => Err(error),
     }
 }
 
@@ -246,7 +247,7 @@ fn refuse_bytes<'a>(
     message: &mut Text,
     file: &str,
     fault: ImageFault,
-) -> Result<PreparedCall<'a>, AllocError>
+) -> Result<PreparedCall<'a>, OutOfMemory>
     ensures due { IfOk result (λ act. (bytes : List ℕ) → Tells bytes (Err fault) →
         IsDisDue bytes (outcome_of act)) }
     ensures quiet { IfOk result IsQuiet }
@@ -263,7 +264,7 @@ fn dis_act<'a>(
     image: &str,
     content: &Content,
     text: &'a str,
-) -> Result<PreparedCall<'a>, AllocError>
+) -> Result<PreparedCall<'a>, OutOfMemory>
     ensures due { IfOk result (λ act. (bytes : List ℕ) → IsContent longest content.now bytes →
         IsDisDue bytes (outcome_of act)) }
     ensures done { IfOk result (CanBeDone (Some text.now)) }
@@ -296,6 +297,6 @@ pub fn prepare_dis<'a, F: Files>(
     let content = read(files, image, LONGEST_IMAGE)?;
     match dis_act(alloc, message, image, &content, text) {
         Ok(act) => Ok(act),
-        Err(_) => Err(PrepareError::Memory),
+        Err(error) => Err(PrepareError::Memory(error)),
     }
 }

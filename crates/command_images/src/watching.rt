@@ -23,9 +23,10 @@ use command_answers::{
 use command_refusals::refuse_script;
 use command_words::Breakpoint;
 use image_loaded::Image;
+use out_of_memory::OutOfMemory;
 use outside::Files;
 use script::Script;
-use std::alloc::{AllocError, Global};
+use std::alloc::Global;
 use syntax_tree::Text;
 use vm_watch::watch;
 
@@ -35,7 +36,7 @@ fn put_seen<'a>(
     image: &Image,
     script: &Script,
     stop: Breakpoint,
-) -> Result<PreparedCall<'a>, AllocError>
+) -> Result<PreparedCall<'a>, OutOfMemory>
     requires { CanRunByRanks image.now script.now }
     ensures told { IfOk result (λ act. IsTold stop image.now script.now (outcome_of act)) }
     ensures quiet { IfOk result IsQuiet }
@@ -52,7 +53,7 @@ fn watch_act<'a>(
     image: &Image,
     content: &Content,
     stop: Breakpoint,
-) -> Result<PreparedCall<'a>, AllocError>
+) -> Result<PreparedCall<'a>, OutOfMemory>
     ensures due { IfOk result (λ act. (text : List ℕ) → IsContent longest_text content.now text →
         IsSeenDue stop image.now text (outcome_of act)) }
     ensures quiet { IfOk result IsQuiet }
@@ -91,7 +92,7 @@ fn watch_on<'a, F: Files>(
     let content = read(files, script, LONGEST_SCRIPT)?;
     match watch_act(alloc, message, script, image, &content, stop) {
         Ok(act) => Ok(act),
-        Err(_) => Err(PrepareError::Memory),
+        Err(error) => Err(PrepareError::Memory(error)),
     }
 }
 
@@ -118,7 +119,7 @@ pub fn prepare_watch<'a, F: Files>(
         Ok(loaded) => watch_on(alloc, message, &loaded, script, stop, files),
         Err(fault) => match refuse_image(alloc, message, image, fault) {
             Ok(act) => Ok(act),
-            Err(_) => Err(PrepareError::Memory),
+            Err(error) => Err(PrepareError::Memory(error)),
         },
     }
 }

@@ -10,8 +10,9 @@ ghost use Rattle.command_perform.specs.Ready.{IsByDeadlines, IsByRanks, IsCourse
 use command_answers::{PreparedRun, RunnableImage};
 use edf_machine::{Deadlines, machine_by_deadlines};
 use image_bytes::ImageBytes;
+use out_of_memory::OutOfMemory;
 use outside::Sink;
-use std::alloc::{AllocError, Global};
+use std::alloc::Global;
 use vm_run::OutputCut;
 use vm_runner::{Machine, Ranking};
 use vm_state::DecodedImage;
@@ -30,7 +31,7 @@ fn by_ranks(
     alloc: Global,
     plan: &DecodedImage,
     run: &PreparedRun,
-) -> Result<Machine<Ranking>, AllocError>
+) -> Result<Machine<Ranking>, OutOfMemory>
     ghost image: { Image }
     requires image { image ≡ (image_in run.now.image).image }
     requires plan { IsOf image plan.now }
@@ -42,7 +43,7 @@ fn by_ranks(
 }
 
 /// The deadline of each process in ticks; an error says that memory is short.
-fn deadlines_of(alloc: Global, image: &ImageBytes) -> Result<Vec<u32>, AllocError>
+fn deadlines_of(alloc: Global, image: &ImageBytes) -> Result<Vec<u32>, OutOfMemory>
     ensures { IfOk result (λ deadlines.
         deadlines.items ≡ map (λ p. p.deadline) image.now.image.processes) }
 {
@@ -59,7 +60,7 @@ fn by_deadlines(
     alloc: Global,
     plan: &DecodedImage,
     run: &PreparedRun,
-) -> Result<Machine<Deadlines>, AllocError>
+) -> Result<Machine<Deadlines>, OutOfMemory>
     ghost image: { Image }
     requires image { image ≡ (image_in run.now.image).image }
     requires plan { IsOf image plan.now }
@@ -123,7 +124,7 @@ impl AnyMachine {
         alloc: Global,
         plan: &DecodedImage,
         run: &PreparedRun,
-    ) -> Result<AnyMachine, AllocError>
+    ) -> Result<AnyMachine, OutOfMemory>
         ghost image: { Image }
         requires image { image ≡ (image_in run.now.image).image }
         requires plan { IsOf image plan.now }

@@ -1,6 +1,7 @@
 //! Performing.
 
 ghost use Rattle.std.specs.Prelude.{◌≡◌, ◌≢◌, ◌++◌, [], IfOk, IfSome, IsSome, IsSomeAnd, OnOk, OnErr};
+ghost use Rattle.out_of_memory.specs.Refused.{refused};
 ghost use Rattle.outside.specs.Outside.{outside, AllStay, Appends, AppendsFront, Rose};
 ghost use Rattle.command_answers.specs.Acts.{CanRun, log_due, number_of};
 ghost use Rattle.command_answers.specs.Causes.{HasCause};
@@ -10,12 +11,13 @@ ghost use Rattle.command_perform.specs.Ready.{IsReady, run_of};
 
 use crate::ready::Ready;
 use command_answers::{PreparedCall, PreparedRun, Status, Store};
+use out_of_memory::OutOfMemory;
 use outside::{Files, Sink, WriteFault};
-use std::alloc::{AllocError, Global};
+use std::alloc::Global;
 use vm_run::OutputCut;
 
 /// Makes the run ready, if there is one.
-fn make_ready(alloc: Global, run: &Option<PreparedRun>) -> Result<Option<Ready<'_>>, AllocError>
+fn make_ready(alloc: Global, run: &Option<PreparedRun>) -> Result<Option<Ready<'_>>, OutOfMemory>
     requires { IfSome run.now CanRun }
     ensures run { IfOk result (λ ready. run_of ready ≡ run.now) }
     ensures ready { IfOk result (λ ready. IfSome ready IsReady) }
@@ -33,7 +35,7 @@ fn store<F: Files>(image: &Option<Store<'_>>, files: &mut F) -> Result<(), Write
     ensures failed { result ≡ Err WriteFault.Failed → IsSomeAnd image.now (λ s.
         Rose ((F.state files.old).write_faults s.name.now)
         ((F.state files.new).write_faults s.name.now)) }
-    ensures kept { result ≡ Err WriteFault.Memory →
+    ensures kept { result ≡ Err (WriteFault.Memory refused) →
         AllStay (F.state files.old).held (F.state files.new).held }
     ensures others { OthersKept image.now (F.state files.old).held (F.state files.new).held }
     ensures reads { (F.state files.new).reads ≡ (F.state files.old).reads }
@@ -125,6 +127,6 @@ pub fn perform<'a, F: Files, O: Sink>(
             Err(_) => Status::Unput,
         },
         Err(WriteFault::Failed) => unwritten(&act.store),
-        Err(WriteFault::Memory) => Status::Memory,
+        Err(WriteFault::Memory(_)) => Status::Memory,
     }
 }

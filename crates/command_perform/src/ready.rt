@@ -8,8 +8,9 @@ ghost use Rattle.command_perform.specs.Ready.{IsReady};
 
 use crate::any_machine::AnyMachine;
 use command_answers::PreparedRun;
+use out_of_memory::OutOfMemory;
 use outside::Sink;
-use std::alloc::{AllocError, Global};
+use std::alloc::Global;
 use vm_plan::plan_of;
 use vm_run::OutputCut;
 use vm_state::DecodedImage;
@@ -25,7 +26,7 @@ pub struct Ready<'a> {
 
 impl<'a> Ready<'a> {
     /// Makes the plan of the image and the machine; an error says that memory is short.
-    pub fn new(alloc: Global, run: &'a PreparedRun) -> Result<Ready<'a>, AllocError>
+    pub fn new(alloc: Global, run: &'a PreparedRun) -> Result<Ready<'a>, OutOfMemory>
         ghost image: { Image }
         requires image { image ≡ (image_in run.now.image).image }
         requires can { CanRun run.now }

@@ -39,4 +39,4 @@ pub readies : BuiltImagesAreReady → ScriptsSuit → NamesOfTextsAreIdentifiers
 readies ready suits named held over text (Ok b) low image = runnable_built ready suits named held over text b low image
 readies ready suits named held over text (Err (fault.Text number place)) low is = tt
 readies ready suits named held over text (Err (fault.Untimely l)) low late = record { named = late.named; strings = late_strings named over text l late }
-readies ready suits named held over text (Err fault.Memory) low is = tt
+readies ready suits named held over text (Err (fault.Memory _)) low is = tt

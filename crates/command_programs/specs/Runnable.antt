@@ -30,7 +30,7 @@ abbrev pub Readies : Result Built CompileFault → Type 0
 Readies (Ok b) = IsRunnableBuilt b
 Readies (Err (fault.Text number place)) = Unit {0}
 Readies (Err (fault.Untimely l)) = CanBeShown l.names l.program l.table
-Readies (Err fault.Memory) = Unit {0}
+Readies (Err (fault.Memory _)) = Unit {0}
 
 abbrev pub RunsBuilt : Built → Script → Type 0
 RunsBuilt b script = CanRunByRanks (named_of b.image) script

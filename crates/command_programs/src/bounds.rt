@@ -8,9 +8,10 @@ ghost use Rattle.command_due.specs.Lines.{AreLeastBounds};
 ghost use Rattle.command_programs.specs.Levels.{HaveLevels};
 
 use image::RawProcess;
+use out_of_memory::OutOfMemory;
 use sched_response::{TaskSet, bound_of};
 use sched_sensitivity::{Spare, slack_of};
-use std::alloc::{AllocError, Global};
+use std::alloc::Global;
 use syntax_tree::List;
 
 /// The level of the rank of a process.
@@ -50,7 +51,7 @@ fn least_bounds(
     alloc: Global,
     processes: &[RawProcess],
     set: &TaskSet,
-) -> Result<List<u64>, AllocError>
+) -> Result<List<u64>, OutOfMemory>
     requires timely { IsTimely set.now }
     requires levels { HaveLevels (map process_of processes.now) set.now }
     ensures { IfOk result (AreLeastBounds (map process_of processes.now) set.now) }
@@ -71,7 +72,7 @@ pub fn bounds_with(
     set: &mut TaskSet,
     level: usize,
     extra: u64,
-) -> Result<List<u64>, AllocError>
+) -> Result<List<u64>, OutOfMemory>
     requires level { level < length set.old }
     requires room { (task_at set.old level).run + extra ≤ 1000000001 }
     requires timely { IsTimely (with_more set.old level extra) }

@@ -23,9 +23,10 @@ use command_answers::{
 };
 use command_refusals::refuse_script;
 use compile::Built;
+use out_of_memory::OutOfMemory;
 use outside::Files;
 use script::Script;
-use std::alloc::{AllocError, Global};
+use std::alloc::Global;
 use syntax_tree::Text;
 
 /// The act that stores the image of a program that is timely, puts the report, and runs the image
@@ -35,7 +36,7 @@ fn run_built<'a>(
     built: Built,
     script: Script,
     target: &'a str,
-) -> Result<PreparedCall<'a>, AllocError>
+) -> Result<PreparedCall<'a>, OutOfMemory>
     requires ready { IsRunnableBuilt built }
     requires runs { RunsBuilt built script }
     ensures outcome { IfOk result (λ act. outcome_of act ≡ built_run built script) }
@@ -65,7 +66,7 @@ fn go_act<'a>(
     script: &str,
     content: &Content,
     image: &'a str,
-) -> Result<PreparedCall<'a>, AllocError>
+) -> Result<PreparedCall<'a>, OutOfMemory>
     requires { IsRunnableBuilt built }
     ensures due { IfOk result (λ act. (text : List ℕ) → IsContent longest_text content.now text →
         IsBuiltRunDue built text (outcome_of act)) }
@@ -106,7 +107,7 @@ fn go_on<'a, F: Files>(
     let content = read(files, script, LONGEST_SCRIPT)?;
     match go_act(alloc, message, built, script, &content, image) {
         Ok(act) => Ok(act),
-        Err(_) => Err(PrepareError::Memory),
+        Err(error) => Err(PrepareError::Memory(error)),
     }
 }
 
@@ -135,7 +136,7 @@ pub fn prepare_go<'a, F: Files>(
         Ok(built) => go_on(alloc, message, built, image, script, files),
         Err(fault) => match refuse(alloc, message, program, &content, over, Format::Text, fault) {
             Ok(act) => Ok(act),
-            Err(_) => Err(PrepareError::Memory),
+            Err(error) => Err(PrepareError::Memory(error)),
         },
     }
 }

@@ -4,7 +4,7 @@ ghost use Rattle.std.specs.Prelude.{◌≡◌, ◌++◌, [], decimal, slice_inde
 ghost use Rattle.command_due.specs.Lines.{slack_line, spaced};
 
 use itoa::Buffer;
-use std::alloc::AllocError;
+use out_of_memory::OutOfMemory;
 use syntax_tree::{Name, Text};
 
 /// The name of the number; none past the end.
@@ -18,7 +18,7 @@ pub fn name_at(names: &[Name], number: usize) -> &[u8]
 }
 
 /// Puts a number at the end of a text.
-fn add_number(text: &mut Text, number: u64) -> Result<(), AllocError>
+fn add_number(text: &mut Text, number: u64) -> Result<(), OutOfMemory>
     ensures { OnOk result (text.new ≡ text.old ++ decimal number) }
 {
     let mut buffer = Buffer::new();
@@ -26,7 +26,7 @@ fn add_number(text: &mut Text, number: u64) -> Result<(), AllocError>
 }
 
 /// Puts numbers at the end of a text, each behind a space.
-fn add_spaced(text: &mut Text, numbers: &[u64]) -> Result<(), AllocError>
+fn add_spaced(text: &mut Text, numbers: &[u64]) -> Result<(), OutOfMemory>
     ensures { OnOk result (text.new ≡ text.old ++ spaced numbers.now) }
 {
     for number in numbers {
@@ -45,7 +45,7 @@ pub fn add_line(
     extra: u64,
     bounds: &[u64],
     failing: &[u8],
-) -> Result<(), AllocError>
+) -> Result<(), OutOfMemory>
     ensures { OnOk result (text.new ≡ text.old ++
         slack_line name.now extra bounds.now failing.now) }
 {

@@ -28,9 +28,10 @@ use compile::{Built, CompileFault, ProgramTextFault};
 use image::ImageNames;
 use image_loaded::Image;
 use message_program::late_message;
+use out_of_memory::OutOfMemory;
 use outside::Files;
 use sched_table::Table;
-use std::alloc::{AllocError, Global};
+use std::alloc::Global;
 use syntax_tree::{Name, Text};
 
 /// How a report is written.
@@ -49,7 +50,7 @@ pub fn report(
     names: &ImageNames,
     program: &Name,
     table: &Table,
-) -> Result<Text, AllocError>
+) -> Result<Text, OutOfMemory>
     requires { CanBeShown names.now program.now table.now }
     ensures { IfOk result (λ text. text ≡ shown format names.now program.now table.now) }
 {
@@ -69,7 +70,7 @@ pub fn refuse<'a>(
     over: u16,
     format: Format,
     fault: CompileFault,
-) -> Result<PreparedCall<'a>, AllocError>
+) -> Result<PreparedCall<'a>, OutOfMemory>
     requires { Readies (Err fault) }
     ensures due { IfOk result (λ act. (over : ℕ) (text : List ℕ) → Compiles over text (Err fault) →
         IsRefused (shown format) over text (outcome_of act)) }
@@ -88,7 +89,7 @@ pub fn refuse<'a>(
             let text = report(alloc, format, &late.names, &late.program, &late.table)?;
             Ok(put(Status::Late, text))
         }
-        CompileFault::Memory => Err(AllocError),
+        CompileFault::Memory(error) => Err(error),
     }
 }
 
@@ -97,7 +98,7 @@ fn put_report<'a>(
     alloc: Global,
     format: Format,
     built: &Built,
-) -> Result<PreparedCall<'a>, AllocError>
+) -> Result<PreparedCall<'a>, OutOfMemory>
     requires { IsRunnableBuilt built.now }
     ensures { IfOk result (λ act. act ≡ puts Status.Done
         (shown format built.now.image.names built.now.image.program built.now.table)) }
@@ -115,7 +116,7 @@ fn report_act<'a>(
     content: &Content,
     over: u16,
     format: Format,
-) -> Result<PreparedCall<'a>, AllocError>
+) -> Result<PreparedCall<'a>, OutOfMemory>
     requires { over ≤ 1000 }
     ensures due { IfOk result (λ act. (text : List ℕ) → IsContent longest_text content.now text →
         IsReportDue (shown format) over text (outcome_of act)) }
@@ -130,7 +131,7 @@ fn report_act<'a>(
 }
 
 /// The act that puts what the processes of a program that is timely can spare.
-fn put_slack<'a>(alloc: Global, built: &Built) -> Result<PreparedCall<'a>, AllocError>
+fn put_slack<'a>(alloc: Global, built: &Built) -> Result<PreparedCall<'a>, OutOfMemory>
     requires { IsRunnableBuilt built.now }
     ensures due { IfOk result (λ act. (over : ℕ) (text : List ℕ) →
         Compiles over text (Ok built.now) → IsSlackDue over text (outcome_of act)) }
@@ -148,7 +149,7 @@ fn slack_act<'a>(
     file: &str,
     content: &Content,
     over: u16,
-) -> Result<PreparedCall<'a>, AllocError>
+) -> Result<PreparedCall<'a>, OutOfMemory>
     requires { over ≤ 1000 }
     ensures due { IfOk result (λ act. (text : List ℕ) → IsContent longest_text content.now text →
         IsSlackDue over text (outcome_of act)) }
@@ -168,7 +169,7 @@ fn print_act<'a>(
     message: &mut Text,
     file: &str,
     content: &Content,
-) -> Result<PreparedCall<'a>, AllocError>
+) -> Result<PreparedCall<'a>, OutOfMemory>
     ensures due { IfOk result (λ act. (text : List ℕ) → IsContent longest_text content.now text →
         IsPrintDue text (outcome_of act)) }
     ensures quiet { IfOk result IsQuiet }
@@ -180,12 +181,12 @@ fn print_act<'a>(
         Err(ProgramTextFault::Text { number, place }) => {
             refuse_text(alloc, message, file, content, number, place)
         }
-        Err(ProgramTextFault::Memory) => Err(AllocError),
+        Err(ProgramTextFault::Memory(error)) => Err(error),
     }
 }
 
 /// The report on a program that is timely, and its image.
-pub(crate) fn report_and_image(alloc: Global, built: Built) -> Result<(Text, Image), AllocError>
+pub(crate) fn report_and_image(alloc: Global, built: Built) -> Result<(Text, Image), OutOfMemory>
     requires { IsRunnableBuilt built }
     ensures report { IfOk result (λ made. made.0 ≡ report_on built) }
     ensures image { IfOk result (λ made. made.1 ≡ named_of built.image) }
@@ -201,7 +202,7 @@ fn store_built<'a>(
     alloc: Global,
     built: Built,
     target: &'a str,
-) -> Result<PreparedCall<'a>, AllocError>
+) -> Result<PreparedCall<'a>, OutOfMemory>
     requires { IsRunnableBuilt built }
     ensures due { IfOk result (λ act. (over : ℕ) (text : List ℕ) →
         Compiles over text (Ok built) → IsCompileDue over text (outcome_of act)) }
@@ -229,7 +230,7 @@ fn compile_act<'a>(
     content: &Content,
     image: &'a str,
     over: u16,
-) -> Result<PreparedCall<'a>, AllocError>
+) -> Result<PreparedCall<'a>, OutOfMemory>
     requires { over ≤ 1000 }
     ensures due { IfOk result (λ act. (text : List ℕ) → IsContent longest_text content.now text →
         IsCompileDue over text (outcome_of act)) }
@@ -265,7 +266,7 @@ pub fn prepare_report<'a, F: Files>(
     let content = read(files, program, LONGEST_PROGRAM)?;
     match report_act(alloc, message, program, &content, over, format) {
         Ok(act) => Ok(act),
-        Err(_) => Err(PrepareError::Memory),
+        Err(error) => Err(PrepareError::Memory(error)),
     }
 }
 
@@ -290,7 +291,7 @@ pub fn prepare_slack<'a, F: Files>(
     let content = read(files, program, LONGEST_PROGRAM)?;
     match slack_act(alloc, message, program, &content, over) {
         Ok(act) => Ok(act),
-        Err(_) => Err(PrepareError::Memory),
+        Err(error) => Err(PrepareError::Memory(error)),
     }
 }
 
@@ -313,7 +314,7 @@ pub fn prepare_print<'a, F: Files>(
     let content = read(files, program, LONGEST_PROGRAM)?;
     match print_act(alloc, message, program, &content) {
         Ok(act) => Ok(act),
-        Err(_) => Err(PrepareError::Memory),
+        Err(error) => Err(PrepareError::Memory(error)),
     }
 }
 
@@ -339,6 +340,6 @@ pub fn prepare_compile<'a, F: Files>(
     let content = read(files, program, LONGEST_PROGRAM)?;
     match compile_act(alloc, message, program, &content, image, over) {
         Ok(act) => Ok(act),
-        Err(_) => Err(PrepareError::Memory),
+        Err(error) => Err(PrepareError::Memory(error)),
     }
 }

@@ -10,8 +10,9 @@ use crate::bounds::{bounds_with, level_of, spare_of};
 use crate::lines::{add_line, name_at};
 use image::RawImage;
 use loader::{task_set, with_rank};
+use out_of_memory::OutOfMemory;
 use sched_response::TaskSet;
-use std::alloc::{AllocError, Global};
+use std::alloc::Global;
 use syntax_tree::Text;
 use valid_image_law::validity_law::valid_meets_premises;
 
@@ -23,7 +24,7 @@ fn add_process(
     image: &RawImage,
     set: &mut TaskSet,
     number: usize,
-) -> Result<(), AllocError>
+) -> Result<(), OutOfMemory>
     requires tasks { AreTimelyTasks (image_of image.now) set.old }
     requires there { number < length image.now.processes }
     ensures kept { set.new ≡ set.old }
@@ -47,7 +48,7 @@ fn add_process(
 /// One line for each process of a valid image, in the order of the text: how many ticks it can
 /// spare, the least bounds with these, and the process that fails with one more. Only want of
 /// memory is an error.
-pub fn slack_text(alloc: Global, image: &RawImage) -> Result<Text, AllocError>
+pub fn slack_text(alloc: Global, image: &RawImage) -> Result<Text, OutOfMemory>
     requires limits { HasLimits (image_of image.now) }
     requires valid { IsValid (image_of image.now) }
     ensures { IfOk result (IsSlackText (named_of image.now)) }

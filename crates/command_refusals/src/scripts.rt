@@ -1,6 +1,7 @@
 //! Scripts that are refused.
 
 ghost use Rattle.std.specs.Prelude.{◌≡◌, ◌≢◌, ℕ, List, IfOk};
+ghost use Rattle.out_of_memory.specs.Refused.{refused};
 ghost use Rattle.script.specs.Scripts.{longest_text};
 ghost use Rattle.command_due.specs.Script.{script_fault_line};
 ghost use Rattle.command_answers.specs.Acting.{puts};
@@ -12,8 +13,9 @@ ghost use Rattle.message_script.specs.Message.{script_message};
 use command_answers::{Content, PreparedCall, Status};
 use image::ImageNames;
 use message_script::{long_message, script_message};
+use out_of_memory::OutOfMemory;
 use script::ScriptFault;
-use std::alloc::{AllocError, Global};
+use std::alloc::Global;
 use syntax_tree::Text;
 
 /// The message for a fault of what a script's file holds, for these names.
@@ -23,7 +25,7 @@ fn message_of(
     content: &Content,
     names: &ImageNames,
     fault: &ScriptFault,
-) -> Result<Text, AllocError>
+) -> Result<Text, OutOfMemory>
     ensures { IfOk result (λ message. (bytes : List ℕ) → IsContent longest_text content.now bytes →
         message ≡ script_message file.now bytes names.now fault.now) }
 {
@@ -42,9 +44,9 @@ pub fn refuse_script<'a>(
     content: &Content,
     names: &ImageNames,
     fault: &ScriptFault,
-) -> Result<PreparedCall<'a>, AllocError>
+) -> Result<PreparedCall<'a>, OutOfMemory>
     ensures act { IfOk result (λ act. act ≡ puts Status.Script (script_fault_line fault.now)) }
-    ensures is_fault { IfOk result (λ act. fault.now ≢ ScriptFault.Memory) }
+    ensures is_fault { IfOk result (λ act. fault.now ≢ ScriptFault.Memory refused) }
     ensures refused { IfOk result (λ act. number_of act.status ≢ 0) }
     ensures told { IfOk result (λ act. (bytes : List ℕ) → IsContent longest_text content.now bytes →
         IsScriptTold names.now file.now bytes (outcome_of act) message.new) }

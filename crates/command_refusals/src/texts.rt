@@ -10,7 +10,8 @@ ghost use Rattle.command_refusals.specs.Told.{IsTextTold};
 
 use command_answers::{Content, PreparedCall, Status, put_fault};
 use message_program::{long_message, program_message};
-use std::alloc::{AllocError, Global};
+use out_of_memory::OutOfMemory;
+use std::alloc::Global;
 use syntax_tree::{Place, Text};
 
 /// The act for a text that is no program text, or that of a program that is too large: it puts the
@@ -22,7 +23,7 @@ pub fn refuse_bytes<'a>(
     text: &[u8],
     number: u8,
     place: Place,
-) -> Result<PreparedCall<'a>, AllocError>
+) -> Result<PreparedCall<'a>, OutOfMemory>
     ensures act { IfOk result (λ act. act ≡ puts Status.Text (fault_line number place)) }
     ensures refused { IfOk result (λ act. number_of act.status ≢ 0) }
     ensures told { IfOk result (λ act. IsTextTold file.now text.now (outcome_of act) message.new) }
@@ -38,7 +39,7 @@ fn refuse_long<'a>(
     file: &str,
     number: u8,
     place: Place,
-) -> Result<PreparedCall<'a>, AllocError>
+) -> Result<PreparedCall<'a>, OutOfMemory>
     ensures act { IfOk result (λ act. act ≡ puts Status.Text (fault_line number place)) }
     ensures refused { IfOk result (λ act. number_of act.status ≢ 0) }
     ensures told { IfOk result (λ act. (bytes : List ℕ) → longest_text < length bytes →
@@ -57,7 +58,7 @@ pub fn refuse_text<'a>(
     content: &Content,
     number: u8,
     place: Place,
-) -> Result<PreparedCall<'a>, AllocError>
+) -> Result<PreparedCall<'a>, OutOfMemory>
     ensures act { IfOk result (λ act. act ≡ puts Status.Text (fault_line number place)) }
     ensures refused { IfOk result (λ act. number_of act.status ≢ 0) }
     ensures told { IfOk result (λ act. (bytes : List ℕ) → IsContent longest_text content.now bytes →

@@ -17,7 +17,7 @@ use Rattle.compile.specs.Told.{of_build}
 
 fault_told : (text : List ℕ) (g : Prog Place) (over : ℕ) (f : BuildFault) → IsProgramOf text g → Builds g over (Err f) → Compiles over text (Err (of_build f))
 fault_told text g over (build_fault.TooLarge number place) written first = of_size g written first
-fault_told text g over build_fault.Memory written is = tt
+fault_told text g over (build_fault.Memory _) written is = tt
 fault_told text g over (build_fault.Untimely l) written late = record {
   late = λ show. record {
     tree = g;

@@ -8,3 +8,5 @@ pub mod Shaping
 pub mod Filling
 pub mod Answered
 pub mod Compiled
+pub mod Covered
+pub mod CoveredTexts

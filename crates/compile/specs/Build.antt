@@ -40,4 +40,4 @@ abbrev pub Builds : Prog Place → ℕ → Result Built BuildFault → Type 0
 Builds g over (Ok b) = IsBuiltOf g over b
 Builds g over (Err (fault.TooLarge number place)) = IsFirst (SizeFails g) (record { number = number; place = place })
 Builds g over (Err (fault.Untimely l)) = IsLateOf g over l
-Builds g over (Err fault.Memory) = Unit {0}
+Builds g over (Err (fault.Memory _)) = Unit {0}

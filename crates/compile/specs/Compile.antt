@@ -24,4 +24,4 @@ abbrev pub Compiles : ℕ → List ℕ → Result Built CompileFault → Type 0
 Compiles over text (Ok b) = IsImageOf over text b
 Compiles over text (Err (fault.Text number place)) = IsTextFault text number place
 Compiles over text (Err (fault.Untimely l)) = IsLateWith over text l
-Compiles over text (Err fault.Memory) = Unit {0}
+Compiles over text (Err (fault.Memory _)) = Unit {0}

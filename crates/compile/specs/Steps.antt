@@ -33,7 +33,7 @@ pub record AreParts (g : Prog Place) (p : MeasuredCode) : Type 0 where
 abbrev pub IsSizeFault : Prog Place → BuildFault → Type 0
 IsSizeFault g (fault.TooLarge number place) = IsFirst (SizeFails g) (record { number = number; place = place })
 IsSizeFault g (fault.Untimely l) = ⊥
-IsSizeFault g fault.Memory = Unit {0}
+IsSizeFault g (fault.Memory _) = Unit {0}
 
 -- the parts of the program, put together; nothing is said of ranks, ceilings, blocks and bounds
 pub record IsAssembled (g : Prog Place) (over : ℕ) (raw : RawImage) : Type 0 where

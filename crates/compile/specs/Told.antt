@@ -8,9 +8,9 @@ use Rattle.compile.specs.declared.compiling.CompileFault.TheVariants as fault
 
 abbrev pub of_source : SourceFault → CompileFault
 of_source (source_fault.Fault number place) = fault.Text number place
-of_source source_fault.Memory = fault.Memory
+of_source (source_fault.Memory e) = fault.Memory e
 
 abbrev pub of_build : BuildFault → CompileFault
 of_build (build_fault.TooLarge number place) = fault.Text number place
 of_build (build_fault.Untimely late) = fault.Untimely late
-of_build build_fault.Memory = fault.Memory
+of_build (build_fault.Memory e) = fault.Memory e

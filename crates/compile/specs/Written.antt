@@ -10,4 +10,4 @@ use Rattle.compile.specs.declared.read_text.ProgramTextFault.TheVariants as faul
 abbrev pub ReadsWritten : List ℕ → Result Program ProgramTextFault → Type 0
 ReadsWritten text (Ok program) = IsWritten text (placed program)
 ReadsWritten text (Err (fault.Text number place)) = IsTextFault text number place
-ReadsWritten text (Err fault.Memory) = Unit {0}
+ReadsWritten text (Err (fault.Memory _)) = Unit {0}

@@ -1,8 +1,8 @@
 //! What is built.
 
 use image::{ImageNames, RawImage};
+use out_of_memory::OutOfMemory;
 use sched_table::Table;
-use std::alloc::AllocError;
 use syntax_tree::{Name, Place};
 
 /// A program that is timely: its image, whose bounds are the least, and the table that is shown of
@@ -29,16 +29,17 @@ pub enum BuildFault {
     /// The recurrence of some process has no solution within its deadline.
     Untimely(LateProgram),
     /// There was not enough memory.
-    Memory,
+    Memory(OutOfMemory),
 }
 
-impl From<AllocError> for BuildFault {
+impl From<OutOfMemory> for BuildFault {
     ghost use Rattle.std.specs.Prelude.{◌≡◌};
+    ghost use Rattle.out_of_memory.specs.Refused.{refused};
     ghost use Rattle.compile.specs.declared.built.BuildFault.TheVariants.{Memory};
 
-    ghost from_gives = { λ _ fault. fault ≡ Memory };
+    ghost from_gives = { λ _ fault. fault ≡ Memory refused };
 
-    fn from(_: AllocError) -> BuildFault {
-        BuildFault::Memory
+    fn from(error: OutOfMemory) -> BuildFault {
+        BuildFault::Memory(error)
     }
 }

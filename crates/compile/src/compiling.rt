@@ -5,6 +5,7 @@ ghost use Rattle.compile.specs.Compile.{Compiles};
 
 use crate::{BuildFault, Built, LateProgram, build};
 use front_end::{SourceFault, read};
+use out_of_memory::OutOfMemory;
 use std::alloc::Global;
 use syntax_tree::Place;
 
@@ -16,7 +17,7 @@ pub enum CompileFault {
     /// Its program is not timely with the overhead.
     Untimely(LateProgram),
     /// There was not enough memory.
-    Memory,
+    Memory(OutOfMemory),
 }
 
 impl From<SourceFault> for CompileFault {
@@ -27,7 +28,7 @@ impl From<SourceFault> for CompileFault {
     fn from(fault: SourceFault) -> CompileFault {
         match fault {
             SourceFault::Fault { number, place } => CompileFault::Text { number, place },
-            SourceFault::Memory => CompileFault::Memory,
+            SourceFault::Memory(error) => CompileFault::Memory(error),
         }
     }
 }
@@ -41,7 +42,7 @@ impl From<BuildFault> for CompileFault {
         match fault {
             BuildFault::TooLarge { number, place } => CompileFault::Text { number, place },
             BuildFault::Untimely(late) => CompileFault::Untimely(late),
-            BuildFault::Memory => CompileFault::Memory,
+            BuildFault::Memory(error) => CompileFault::Memory(error),
         }
     }
 }

@@ -6,7 +6,8 @@ ghost use Rattle.compile.specs.Steps.{IsFilled, IsReport};
 use crate::built::{Built, LateProgram};
 use compile_schedule::{table, with_bounds};
 use image::RawImage;
-use std::alloc::{AllocError, Global};
+use out_of_memory::OutOfMemory;
+use std::alloc::Global;
 use syntax_tree::List;
 
 /// Whether each bound is there.
@@ -21,7 +22,7 @@ pub fn filled(
     alloc: Global,
     image: RawImage,
     bounds: &List<Option<u32>>,
-) -> Result<Built, AllocError>
+) -> Result<Built, OutOfMemory>
     requires one_each { length bounds.now ≡ length image.processes }
     requires there { All IsSome bounds.now }
     requires code { length image.code ≤ 65535 }
@@ -37,7 +38,7 @@ pub fn reported(
     alloc: Global,
     image: RawImage,
     bounds: &List<Option<u32>>,
-) -> Result<LateProgram, AllocError>
+) -> Result<LateProgram, OutOfMemory>
     requires one_each { length bounds.now ≡ length image.processes }
     requires code { length image.code ≤ 65535 }
     ensures { IfOk result (IsReport image bounds.now) }

@@ -4,6 +4,7 @@ ghost use Rattle.compile.specs.Written.{ReadsWritten};
 
 use crate::{BuildFault, refuse_too_large};
 use front_end::{SourceFault, read};
+use out_of_memory::OutOfMemory;
 use static_semantics::Checked;
 use std::alloc::Global;
 use syntax_tree::Place;
@@ -14,7 +15,7 @@ pub enum ProgramTextFault {
     /// Its fault, by its number and its place.
     Text { number: u8, place: Place },
     /// There was not enough memory.
-    Memory,
+    Memory(OutOfMemory),
 }
 
 /// The program of a text, which keeps to all rules and is not too large.
@@ -34,9 +35,9 @@ pub fn read_written(alloc: Global, text: &[u8]) -> Result<Checked, ProgramTextFa
                 place,
             }),
             Err(BuildFault::Untimely(_)) => unreachable!(),
-            Err(BuildFault::Memory) => Err(ProgramTextFault::Memory),
+            Err(BuildFault::Memory(error)) => Err(ProgramTextFault::Memory(error)),
         },
         Err(SourceFault::Fault { number, place }) => Err(ProgramTextFault::Text { number, place }),
-        Err(SourceFault::Memory) => Err(ProgramTextFault::Memory),
+        Err(SourceFault::Memory(error)) => Err(ProgramTextFault::Memory(error)),
     }
 }

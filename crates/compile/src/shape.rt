@@ -19,7 +19,8 @@ use code_measures::declared_images_valid::code_has_its_length;
 use compile_image::assemble;
 use compile_schedule::rank;
 use image::RawImage;
-use std::alloc::{AllocError, Global};
+use out_of_memory::OutOfMemory;
+use std::alloc::Global;
 use syntax_tree::Program;
 
 /// The parts of a checked program, put together.
@@ -28,7 +29,7 @@ fn assembled(
     program: &Program,
     over: u16,
     parts: MeasuredCode,
-) -> Result<RawImage, AllocError>
+) -> Result<RawImage, OutOfMemory>
     requires over { over ≤ 1000 }
     requires checked { IsChecked (placed program.now) }
     requires parts { AreParts (placed program.now) parts }

@@ -19,25 +19,25 @@ use Rattle.codegen_spec.specs.declared.code.Code.{Code}
 use Rattle.codegen_spec.specs.Held.{HoldsHandler, HoldsProcess, HoldProcesses}
 use Rattle.code_measures.specs.Declared.{DeclaresProcess}
 use Rattle.code_cost.specs.Sizes.{AreDefined, IsSizeOf}
-use Rattle.compile_image.specs.Fields.{Begin, FitsFields, FitsProcess, HasParts, HaveHandlers}
+use Rattle.compile_image.specs.Fields.{FitsFields, FitsParts, FitsProcess, HasParts, HaveHandlers}
 use Rattle.compile_image.specs.Rows.{FitsSize, FitSizes, IsCapped}
 use Rattle.compile_image.specs.Told.{numbers_told, process_told, processes_told, release_told, start_told}
 use Rattle.compile_image.proofs.Costs.{dispatched, exact-held, first-low, is-capped, low-held, none-left, none-there, same-rest}
 
-size-fits : (g : Program) (k : ℕ) (p : Process) (x : ProcessParts) (size : ProcessMeasure) → FitsProcess g k p → Begin x → IsSizeOf g k p size → FitsSize g p x size
-size-fits g k p x size fits begins is = record {
+size-fits : (g : Program) (k : ℕ) (p : Process) (x : ProcessParts) (size : ProcessMeasure) → FitsProcess g k p → FitsParts x → IsSizeOf g k p size → FitsSize g p x size
+size-fits g k p x size fits parts is = record {
   words = fits.words;
   locals = first-low (frame_words p) _ fits.stack;
   stack = low-held size.stack (stack_of_process g k p) is.stack fits.stack;
   handler = fits.handler;
-  starts = begins;
+  parts = parts;
   cost = subst (λ c. IsCapped c) (sym is.cost) (is-capped (cost_of_process g k p));
 }
 
 -- what holds of a process by its number, in lists of which this is the beginning
 all-fit : (g : Program) (number : ℕ → ℕ) (ps : List Process) (xs : List ProcessParts) (sizes : List ProcessMeasure) → HaveHandlers ps xs → length sizes ≡ length ps
     → ((k : ℕ) (p : Process) → slice_get ps k ≡ Some p → FitsProcess g (number k) p)
-    → ((k : ℕ) (x : ProcessParts) → slice_get xs k ≡ Some x → Begin x)
+    → ((k : ℕ) (x : ProcessParts) → slice_get xs k ≡ Some x → FitsParts x)
     → ((k : ℕ) (p : Process) (size : ProcessMeasure) → slice_get ps k ≡ Some p → slice_get sizes k ≡ Some size → IsSizeOf g (number k) p size)
     → FitSizes g ps xs sizes
 all-fit g number [] [] [] a b fits begins is = tt

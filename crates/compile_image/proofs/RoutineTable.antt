@@ -14,17 +14,17 @@ use Rattle.codegen_spec.specs.Held.{HoldRoutines}
 use Rattle.code_cost_spec.specs.Levels.{cost_of_routine, stay_of_entry}
 use Rattle.code_measures.specs.Declared.{DeclaresRoutine}
 use Rattle.code_cost.specs.Sizes.{AreDefined, IsRowOf}
-use Rattle.compile_image.specs.Fields.{Begins, FitsFields, FitsText, HasParts}
+use Rattle.compile_image.specs.Fields.{FitsFields, FitsPart, FitsText, HasParts}
 use Rattle.compile_image.specs.Rows.{FitsRow, FitRows, IsCapped}
 use Rattle.compile_image.specs.Told.{routine_told, routines_told}
 use Rattle.compile_image.proofs.Costs.{exact-held, first-of-three-low, is-capped, low-cap, low-held, none-left, none-there, same-rest}
 
 -- a row that is defined of a text that fits
-row-fits : (g : Program) (t : Text) (x : Part) (row : RoutineMeasure) → FitsText g t → Begins x → IsRowOf g t row → FitsRow t x row
-row-fits g t x row fits begins is = record {
+row-fits : (g : Program) (t : Text) (x : Part) (row : RoutineMeasure) → FitsText g t → FitsPart x → IsRowOf g t row → FitsRow t x row
+row-fits g t x row fits part is = record {
   owner = fits.owner;
   params = first-of-three-low (count t.routine.params) (words_of g t.routine.vars) (loops t.routine.body) fits.words;
-  start = begins;
+  part = part;
   words = low-held row.words (routine_words g t.routine) is.words fits.words;
   cost = subst (λ c. IsCapped c) (sym is.cost) (is-capped (cost_of_routine g t));
   stay = low-cap row.stay (stay_of_entry g t) is.stay;
@@ -33,7 +33,7 @@ row-fits g t x row fits begins is = record {
 -- texts, parts and rows of a list, one by one
 all-fit : (g : Program) (ts : List Text) (xs : List Part) (rows : List RoutineMeasure) → length xs ≡ length ts → length rows ≡ length ts
     → ((r : ℕ) (t : Text) → slice_get ts r ≡ Some t → FitsText g t)
-    → ((r : ℕ) (x : Part) → slice_get xs r ≡ Some x → Begins x)
+    → ((r : ℕ) (x : Part) → slice_get xs r ≡ Some x → FitsPart x)
     → ((r : ℕ) (t : Text) (row : RoutineMeasure) → slice_get ts r ≡ Some t → slice_get rows r ≡ Some row → IsRowOf g t row)
     → FitRows ts xs rows
 all-fit g [] [] [] a b fits begins is = tt

@@ -2,6 +2,8 @@
 use Rattle.std.specs.Prelude.{◌≡◌, ◌≤◌, ◌+◌, ℕ, List, [], ◌∷◌, Option, Some, None, filter_map, is_some, length, slice_get}
 use Rattle.syntax_tree.specs.Plain.{Constant, Handler, Monitor, Process, Program}
 use Rattle.source_semantics.specs.Names.{count_value, event_in, monitors, processes}
+use Rattle.image_format.specs.TreeBytes.{RowsFit}
+use Rattle.image_format.specs.View.{views}
 use Rattle.code_spec.specs.Layout.{monitor_vars, routine_words, words_of}
 use Rattle.code_spec.specs.Numbering.{Text, numbered}
 use Rattle.code_spec.specs.Compiled.{owner_number}
@@ -50,17 +52,18 @@ abbrev pub monitors_words : Program → List Monitor → ℕ
 monitors_words g [] = 0
 monitors_words g (m ∷ ms) = words_of g (monitor_vars m) + monitors_words g ms
 
--- a part begins within the greatest code
-abbrev pub Begins : Part → Type 0
-Begins x = x.start ≤ 65535
+-- a part begins within the greatest code, and each row of segments in its tree fits its count
+pub record FitsPart (x : Part) : Type 0 where
+  pub start : x.start ≤ 65535
+  pub rows : RowsFit (views x.tree)
 
-abbrev pub HandlerBegins : Option Part → Type 0
-HandlerBegins None = Unit {0}
-HandlerBegins (Some x) = Begins x
+abbrev pub FitsHandlerPart : Option Part → Type 0
+FitsHandlerPart None = Unit {0}
+FitsHandlerPart (Some x) = FitsPart x
 
-pub record Begin (x : ProcessParts) : Type 0 where
-  pub body : Begins x.body
-  pub handler : HandlerBegins x.handler
+pub record FitsParts (x : ProcessParts) : Type 0 where
+  pub body : FitsPart x.body
+  pub handler : FitsHandlerPart x.handler
 
 -- What is asked of the numbers of a program and its code. It follows from the static rules, and
 -- from the two rules of size.
@@ -70,5 +73,5 @@ pub record FitsFields (g : Program) (k : Code) : Type 0 where
   pub monitor_words : monitors_words g (monitors g) ≤ 1048576
   pub texts : (r : ℕ) (t : Text) → slice_get (numbered g) r ≡ Some t → FitsText g t
   pub processes : (n : ℕ) (p : Process) → slice_get (processes g) n ≡ Some p → FitsProcess g n p
-  pub routine_parts : (r : ℕ) (x : Part) → slice_get k.routines r ≡ Some x → Begins x
-  pub process_parts : (n : ℕ) (x : ProcessParts) → slice_get k.processes n ≡ Some x → Begin x
+  pub routine_parts : (r : ℕ) (x : Part) → slice_get k.routines r ≡ Some x → FitsPart x
+  pub process_parts : (n : ℕ) (x : ProcessParts) → slice_get k.processes n ≡ Some x → FitsParts x

@@ -12,7 +12,7 @@ use Rattle.code_cost.specs.declared.program.Measures.{Measures}
 use Rattle.codegen_spec.specs.declared.code.Part.{Part}
 use Rattle.codegen_spec.specs.declared.code.ProcessParts.{ProcessParts}
 use Rattle.codegen_spec.specs.declared.code.Code.{Code}
-use Rattle.compile_image.specs.Fields.{Begins, Begin, FitsHandler, monitors_words}
+use Rattle.compile_image.specs.Fields.{FitsHandler, FitsPart, FitsParts, monitors_words}
 
 -- each component is one that is counted up to 1,000,000,001
 pub record IsCapped (c : Cost) : Type 0 where
@@ -23,7 +23,7 @@ pub record IsCapped (c : Cost) : Type 0 where
 pub record FitsRow (t : Text) (x : Part) (row : RoutineMeasure) : Type 0 where
   pub owner : owner_number t.owner ≤ 65535
   pub params : count t.routine.params ≤ 4096
-  pub start : Begins x
+  pub part : FitsPart x
   pub words : row.words ≤ 4096
   pub cost : IsCapped row.cost
   pub stay : row.stay ≤ 1000000001
@@ -38,7 +38,7 @@ pub record FitsSize (g : Program) (p : Process) (x : ProcessParts) (size : Proce
   pub locals : frame_words p ≤ 4096
   pub stack : size.stack ≤ 4096
   pub handler : FitsHandler g p.handler
-  pub starts : Begin x
+  pub parts : FitsParts x
   pub cost : IsCapped size.cost
 
 abbrev pub FitSizes : Program → List Process → List ProcessParts → List ProcessMeasure → Type 0

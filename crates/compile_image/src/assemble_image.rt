@@ -20,7 +20,8 @@ use code_cost::Measures;
 use codegen_spec::Code;
 use image::{ImageNames, RawImage};
 use machine_isa::Instr;
-use std::alloc::{AllocError, Global};
+use out_of_memory::OutOfMemory;
+use std::alloc::Global;
 use syntax_tree::{List, Name, Program};
 
 /// The instructions of the code.
@@ -71,7 +72,7 @@ fn named_parts(
     over: u16,
     code: &Code,
     measures: &Measures,
-) -> Result<NamedParts, AllocError>
+) -> Result<NamedParts, OutOfMemory>
     requires over { over ≤ 1000 }
     requires fits { FitAll (plain (placed program.now)) code.now measures.now }
     ensures program { IfOk result (λ named. named.program ≡ (placed program.now).name) }
@@ -105,7 +106,7 @@ pub fn assemble(
     over: u16,
     code: Code,
     measures: &Measures,
-) -> Result<RawImage, AllocError>
+) -> Result<RawImage, OutOfMemory>
     requires over { over ≤ 1000 }
     requires defined { AreDefined (plain (placed program.now)) measures.now }
     requires parts { HasParts (plain (placed program.now)) code }

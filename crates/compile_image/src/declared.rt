@@ -10,7 +10,8 @@ use crate::errors::tri;
 use crate::events::Released;
 use crate::lists::copied;
 use image::{DeviceName, EventName};
-use std::alloc::{AllocError, Global};
+use out_of_memory::OutOfMemory;
+use std::alloc::Global;
 use syntax_tree::{Declaration, List};
 
 /// Lists what is declared, if it is a device.
@@ -18,7 +19,7 @@ fn list_device(
     alloc: Global,
     devices: &mut List<DeviceName>,
     decl: &Declaration,
-) -> Result<(), AllocError>
+) -> Result<(), OutOfMemory>
     ensures { OnOk result ((rest : List SpecDecl) → devices.new ++ filter_map named_device rest ≡
         devices.old ++ filter_map named_device (plain_decl (placed_decl decl.now) ∷ rest)) }
 {
@@ -30,7 +31,7 @@ fn list_device(
 }
 
 /// The devices with their directions.
-pub fn device_names(alloc: Global, decls: &[Declaration]) -> Result<List<DeviceName>, AllocError>
+pub fn device_names(alloc: Global, decls: &[Declaration]) -> Result<List<DeviceName>, OutOfMemory>
     ensures { IfOk result (λ devices. devices ≡
         filter_map named_device (map plain_decl (map placed_decl decls.now))) }
 {
@@ -47,7 +48,7 @@ fn list_event(
     released: &Released<'_>,
     events: &mut List<EventName>,
     decl: &Declaration,
-) -> Result<(), AllocError>
+) -> Result<(), OutOfMemory>
     ensures { OnOk result ((rest : List SpecDecl) → events.new ++
         events_found released.now.frames released.now.events rest ≡ events.old ++
         events_found released.now.frames released.now.events
@@ -66,7 +67,7 @@ pub fn event_names(
     alloc: Global,
     released: &Released<'_>,
     decls: &[Declaration],
-) -> Result<List<EventName>, AllocError>
+) -> Result<List<EventName>, OutOfMemory>
     ensures { IfOk result (λ events. events ≡
         events_found released.now.frames released.now.events
         (map plain_decl (map placed_decl decls.now))) }

@@ -11,7 +11,8 @@ use crate::counts::count;
 use crate::errors::tri;
 use code_layout::ConstantValues;
 use code_names::NameList;
-use std::alloc::{AllocError, Global};
+use out_of_memory::OutOfMemory;
+use std::alloc::Global;
 use syntax_tree::{List, Name, Process, Trigger};
 
 /// The events that release processes, in the order of these processes, each with the frame of its
@@ -28,7 +29,7 @@ fn list_event<'a>(
     events: &mut Vec<&'a [u8]>,
     frames: &mut List<u32>,
     process: &'a Process,
-) -> Result<(), AllocError>
+) -> Result<(), OutOfMemory>
     ensures events { OnOk result ((rest : List SpecProcess) → names_of events.new.items ++
         released_events rest ≡ names_of events.old.items ++
         released_events (plain_process (placed_process process.now) ∷ rest)) }
@@ -49,7 +50,7 @@ pub fn released_by_events<'a>(
     alloc: Global,
     values: &ConstantValues<'_>,
     processes: &[&'a Process],
-) -> Result<Released<'a>, AllocError>
+) -> Result<Released<'a>, OutOfMemory>
     ensures events { IfOk result (λ r. r.events ≡ released_events (seen_processes processes.now)) }
     ensures frames { IfOk result (λ r. r.frames ≡
         released_frames (plain (placed values.now)) (seen_processes processes.now)) }

@@ -9,18 +9,19 @@ ghost use Rattle.compile_image.specs.Released.{conditions_named};
 
 use crate::errors::tri;
 use image::ConditionName;
-use std::alloc::{AllocError, Global};
+use out_of_memory::OutOfMemory;
+use std::alloc::Global;
 use syntax_tree::{List, Member, Monitor, Name, Process};
 
 /// A name once more.
-pub fn copied(alloc: Global, name: &Name) -> Result<Name, AllocError>
+pub fn copied(alloc: Global, name: &Name) -> Result<Name, OutOfMemory>
     ensures { IfOk result (λ copy. copy ≡ name.now) }
 {
     Name::new(alloc, name.as_bytes())
 }
 
 /// The names of processes.
-pub fn process_names(alloc: Global, processes: &[&Process]) -> Result<List<Name>, AllocError>
+pub fn process_names(alloc: Global, processes: &[&Process]) -> Result<List<Name>, OutOfMemory>
     ensures { IfOk result (λ names. names ≡ map (λ p. p.name) (seen_processes processes.now)) }
 {
     let mut names = List::new(alloc);
@@ -32,7 +33,7 @@ pub fn process_names(alloc: Global, processes: &[&Process]) -> Result<List<Name>
 }
 
 /// The names of monitors.
-pub fn monitor_names(alloc: Global, monitors: &[&Monitor]) -> Result<List<Name>, AllocError>
+pub fn monitor_names(alloc: Global, monitors: &[&Monitor]) -> Result<List<Name>, OutOfMemory>
     ensures { IfOk result (λ names. names ≡ map (λ m. m.name) (seen_monitors monitors.now)) }
 {
     let mut names = List::new(alloc);
@@ -49,7 +50,7 @@ fn list_condition(
     monitor: u16,
     conditions: &mut List<ConditionName>,
     member: &Member,
-) -> Result<(), AllocError>
+) -> Result<(), OutOfMemory>
     ensures { OnOk result ((rest : List SpecMember) → conditions.new ++
         conditions_named monitor rest ≡ conditions.old ++
         conditions_named monitor (plain_member (placed_member member.now) ∷ rest)) }
@@ -67,7 +68,7 @@ fn list_conditions(
     monitor: u16,
     conditions: &mut List<ConditionName>,
     members: &[Member],
-) -> Result<(), AllocError>
+) -> Result<(), OutOfMemory>
     ensures { OnOk result (conditions.new ≡ conditions.old ++
         conditions_named monitor (map plain_member (map placed_member members.now))) }
 {
@@ -81,7 +82,7 @@ fn list_conditions(
 pub fn condition_names(
     alloc: Global,
     monitors: &[&Monitor],
-) -> Result<List<ConditionName>, AllocError>
+) -> Result<List<ConditionName>, OutOfMemory>
     requires few { length monitors.now ≤ 64 }
     ensures { IfOk result (λ conditions. conditions ≡
         named_conditions 0 (seen_monitors monitors.now)) }

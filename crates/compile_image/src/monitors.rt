@@ -11,7 +11,8 @@ ghost use Rattle.compile_image.specs.Told.{monitor_told, monitors_told};
 use crate::errors::tri;
 use code_layout::{ConstantValues, laid_monitor};
 use image::RawMonitor;
-use std::alloc::{AllocError, Global};
+use out_of_memory::OutOfMemory;
+use std::alloc::Global;
 use syntax_tree::{List, Monitor};
 
 /// A monitor whose words begin at this one.
@@ -20,7 +21,7 @@ fn raw_monitor(
     values: &ConstantValues<'_>,
     base: u32,
     monitor: &Monitor,
-) -> Result<RawMonitor, AllocError>
+) -> Result<RawMonitor, OutOfMemory>
     requires { base + words_of (plain (placed values.now))
         (monitor_vars (plain_monitor (placed_monitor monitor.now))) ≤ 1048576 }
     ensures told { IfOk result (λ raw. monitor_of raw ≡
@@ -29,7 +30,7 @@ fn raw_monitor(
     ensures words { IfOk result (λ raw. raw.words ≡ words_of (plain (placed values.now))
         (monitor_vars (plain_monitor (placed_monitor monitor.now)))) }
 {
-    let laid = tri!(laid_monitor(alloc, values, u64::from(base), monitor));
+    let laid = tri!(laid_monitor(alloc, values, u128::from(base), monitor));
     let end = laid.word as u32;
     Ok(RawMonitor {
         base,
@@ -43,7 +44,7 @@ pub fn raw_monitors(
     alloc: Global,
     values: &ConstantValues<'_>,
     monitors: &[&Monitor],
-) -> Result<List<RawMonitor>, AllocError>
+) -> Result<List<RawMonitor>, OutOfMemory>
     requires { monitors_words (plain (placed values.now)) (seen_monitors monitors.now) ≤ 1048576 }
     ensures { IfOk result (λ list. map monitor_of list ≡
         monitors_told (plain (placed values.now)) 0 (seen_monitors monitors.now)) }

@@ -12,7 +12,8 @@ use crate::lists::{condition_names, monitor_names, process_names};
 use code_layout::ConstantValues;
 use code_names::Directory;
 use image::{DeviceName, EventName, ImageNames};
-use std::alloc::{AllocError, Global};
+use out_of_memory::OutOfMemory;
+use std::alloc::Global;
 use syntax_tree::{List, Program};
 
 /// The events with the frames of the processes that they release.
@@ -20,7 +21,7 @@ fn all_events(
     alloc: Global,
     program: &Program,
     directory: &Directory<'_>,
-) -> Result<List<EventName>, AllocError>
+) -> Result<List<EventName>, OutOfMemory>
     requires { directory.now ≡ program.now }
     ensures { IfOk result (λ events. events ≡
         map (λ e. named_event (plain (placed program.now)) e)
@@ -37,7 +38,7 @@ fn with_parts(
     directory: &Directory<'_>,
     devices: List<DeviceName>,
     events: List<EventName>,
-) -> Result<ImageNames, AllocError>
+) -> Result<ImageNames, OutOfMemory>
     requires { length (monitors_in (plain (placed directory.now))) ≤ 64 }
     ensures processes { IfOk result (λ names. names.processes ≡
         map (λ p. p.name) (processes_in (plain (placed directory.now)))) }
@@ -66,7 +67,7 @@ fn names_of_parts(
     alloc: Global,
     program: &Program,
     directory: &Directory<'_>,
-) -> Result<ImageNames, AllocError>
+) -> Result<ImageNames, OutOfMemory>
     requires directory { directory.now ≡ program.now }
     requires few { length (monitors_in (plain (placed program.now))) ≤ 64 }
     ensures { IfOk result (λ names. names ≡ names_of (plain (placed program.now))) }
@@ -80,7 +81,7 @@ fn names_of_parts(
 /// The names of a program's parts, as an image has them, each list in the order of the text. There
 /// must be at most 64 monitors, so that the number of each fits its field. It takes time in
 /// proportion to the text, and fails only where memory is wanting.
-pub fn image_names(alloc: Global, program: &Program) -> Result<ImageNames, AllocError>
+pub fn image_names(alloc: Global, program: &Program) -> Result<ImageNames, OutOfMemory>
     requires few { length (monitors_in (plain (placed program.now))) ≤ 64 }
     ensures { IfOk result (λ names. names ≡ names_of (plain (placed program.now))) }
 {

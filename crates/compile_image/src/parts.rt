@@ -20,7 +20,8 @@ use code_layout::Tables;
 use code_names::NameList;
 use codegen_spec::Code;
 use image::{RawMonitor, RawProcess, RawRoutine};
-use std::alloc::{AllocError, Global};
+use out_of_memory::OutOfMemory;
+use std::alloc::Global;
 use syntax_tree::{Declaration, List, Program};
 
 /// The parts of an image, each list in the order of the numbers.
@@ -32,7 +33,7 @@ pub struct ImageParts {
 }
 
 /// Lists what is declared, if it is an event.
-fn list_event<'a>(names: &mut Vec<&'a [u8]>, decl: &'a Declaration) -> Result<(), AllocError>
+fn list_event<'a>(names: &mut Vec<&'a [u8]>, decl: &'a Declaration) -> Result<(), OutOfMemory>
     ensures { OnOk result ((rest : List SpecDecl) → names_of names.new.items ++
         filter_map event_in rest ≡ names_of names.old.items ++
         filter_map event_in (plain_decl (placed_decl decl.now) ∷ rest)) }
@@ -44,7 +45,7 @@ fn list_event<'a>(names: &mut Vec<&'a [u8]>, decl: &'a Declaration) -> Result<()
 }
 
 /// The events of a program.
-fn event_names<'a>(alloc: Global, decls: &'a [Declaration]) -> Result<NameList<'a>, AllocError>
+fn event_names<'a>(alloc: Global, decls: &'a [Declaration]) -> Result<NameList<'a>, OutOfMemory>
     ensures { IfOk result (λ names. names ≡ filter_map event_in
         (map plain_decl (map placed_decl decls.now))) }
 {
@@ -56,7 +57,7 @@ fn event_names<'a>(alloc: Global, decls: &'a [Declaration]) -> Result<NameList<'
 }
 
 /// The monitors of a program.
-fn all_monitors(alloc: Global, tables: &Tables<'_>) -> Result<List<RawMonitor>, AllocError>
+fn all_monitors(alloc: Global, tables: &Tables<'_>) -> Result<List<RawMonitor>, OutOfMemory>
     requires { monitors_words (plain (placed tables.now)) (monitors (plain (placed tables.now))) ≤
         1048576 }
     ensures { IfOk result (λ list. map monitor_of list ≡
@@ -72,7 +73,7 @@ fn all_routines(
     tables: &Tables<'_>,
     code: &Code,
     measures: &Measures,
-) -> Result<List<RawRoutine>, AllocError>
+) -> Result<List<RawRoutine>, OutOfMemory>
     requires parts { length code.now.routines ≡ length (numbered (plain (placed tables.now))) }
     requires rows { length measures.now.routines ≡ length (numbered (plain (placed tables.now))) }
     requires fits { FitRows (numbered (plain (placed tables.now))) code.now.routines
@@ -97,7 +98,7 @@ fn all_processes(
     over: u16,
     code: &Code,
     measures: &Measures,
-) -> Result<List<RawProcess>, AllocError>
+) -> Result<List<RawProcess>, OutOfMemory>
     requires over { over ≤ 1000 }
     requires events { length events.now ≤ 64 }
     requires parts { length code.now.processes ≡ length (processes (plain (placed tables.now))) }
@@ -129,7 +130,7 @@ fn all_parts(
     over: u16,
     code: &Code,
     measures: &Measures,
-) -> Result<ImageParts, AllocError>
+) -> Result<ImageParts, OutOfMemory>
     requires over { over ≤ 1000 }
     requires events { length events.now ≤ 64 }
     requires fits { FitAll (plain (placed tables.now)) code.now measures.now }
@@ -160,7 +161,7 @@ fn parts_by_tables(
     over: u16,
     code: &Code,
     measures: &Measures,
-) -> Result<ImageParts, AllocError>
+) -> Result<ImageParts, OutOfMemory>
     requires tables { tables.now ≡ program.now }
     requires over { over ≤ 1000 }
     requires fits { FitAll (plain (placed program.now)) code.now measures.now }
@@ -185,7 +186,7 @@ pub fn parts_of(
     over: u16,
     code: &Code,
     measures: &Measures,
-) -> Result<ImageParts, AllocError>
+) -> Result<ImageParts, OutOfMemory>
     requires over { over ≤ 1000 }
     requires fits { FitAll (plain (placed program.now)) code.now measures.now }
     ensures monitors { IfOk result (λ parts. map monitor_of parts.monitors ≡

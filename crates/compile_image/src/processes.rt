@@ -21,7 +21,8 @@ use code_names::NameList;
 use codegen_spec::ProcessParts;
 use image::RawProcess;
 use image_format::SegTree;
-use std::alloc::{AllocError, Global};
+use out_of_memory::OutOfMemory;
+use std::alloc::Global;
 use syntax_tree::{List, Process};
 
 /// The ticks of an activation, with two dispatches at the release and two after each wait, where
@@ -41,7 +42,7 @@ fn data_words(
     alloc: Global,
     values: &ConstantValues<'_>,
     process: &Process,
-) -> Result<u32, AllocError>
+) -> Result<u32, OutOfMemory>
     requires { words_of (plain (placed values.now)) (plain_process
         (placed_process process.now)).vars ≤ 1048576 }
     ensures { IfOk result (λ words. words ≡ words_of (plain (placed values.now))
@@ -60,7 +61,7 @@ fn raw_process(
     process: &Process,
     parts: &ProcessParts,
     size: ProcessMeasure,
-) -> Result<RawProcess, AllocError>
+) -> Result<RawProcess, OutOfMemory>
     requires over { over ≤ 1000 }
     requires events { length events.now ≤ 64 }
     requires fits { FitsSize (plain (placed values.now))
@@ -106,7 +107,7 @@ pub fn raw_processes(
     processes: &[&Process],
     parts: &[ProcessParts],
     sizes: &[ProcessMeasure],
-) -> Result<List<RawProcess>, AllocError>
+) -> Result<List<RawProcess>, OutOfMemory>
     requires over { over ≤ 1000 }
     requires events { length events.now ≤ 64 }
     requires parts { length parts.now ≡ length processes.now }

@@ -15,7 +15,8 @@ use code_names::{Body, RoutineOwner};
 use codegen_spec::Part;
 use image::RawRoutine;
 use image_format::SegTree;
-use std::alloc::{AllocError, Global};
+use out_of_memory::OutOfMemory;
+use std::alloc::Global;
 use syntax_tree::{List, Routine};
 
 /// The number that tells whose a routine is: the program's, a process's or a monitor's.
@@ -61,7 +62,7 @@ fn raw_routine(
     text: Body<'_>,
     part: &Part,
     row: RoutineMeasure,
-) -> Result<RawRoutine, AllocError>
+) -> Result<RawRoutine, OutOfMemory>
     requires { FitsRow (text_of text) part.now row }
     ensures { IfOk result (λ raw. routine_of raw ≡ routine_told (text_of text.entry) part.now row) }
 {
@@ -87,7 +88,7 @@ pub fn raw_routines(
     texts: &[Body<'_>],
     parts: &[Part],
     rows: &[RoutineMeasure],
-) -> Result<List<RawRoutine>, AllocError>
+) -> Result<List<RawRoutine>, OutOfMemory>
     requires parts { length parts.now ≡ length texts.now }
     requires rows { length rows.now ≡ length texts.now }
     requires fits { FitRows (texts_of texts.now) parts.now rows.now }

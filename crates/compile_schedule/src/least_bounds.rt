@@ -9,8 +9,9 @@ ghost use Rattle.code_measures.specs.Whole.{HasRanks};
 
 use image::{RawImage, RawProcess};
 use loader::task_set;
+use out_of_memory::OutOfMemory;
 use sched_response::{TaskSet, bound_of};
-use std::alloc::{AllocError, Global};
+use std::alloc::Global;
 use syntax_tree::List;
 
 /// The least bound of the level, which is at most its limit; none where there is none within the
@@ -37,7 +38,7 @@ fn process_bound(set: &TaskSet, process: &RawProcess) -> Option<u32>
 
 /// The least bound of each process within its deadline (Burns and Wellings), none where its
 /// recurrence has no solution there. It fails only where memory is wanting.
-pub fn bounds(alloc: Global, image: &RawImage) -> Result<List<Option<u32>>, AllocError>
+pub fn bounds(alloc: Global, image: &RawImage) -> Result<List<Option<u32>>, OutOfMemory>
     requires limits { HasLimits (image_of image.now) }
     requires ranks { HasRanks (image_of image.now) }
     ensures { IfOk result (AreLeast (image_of image.now)) }

@@ -8,11 +8,12 @@ ghost use Rattle.valid_image.specs.Times as defined;
 
 use image::{RawImage, RawMonitor, RawProcess};
 use loader::{Stays, ceiling_of, needed_block, rank_of};
-use std::alloc::{AllocError, Global};
+use out_of_memory::OutOfMemory;
+use std::alloc::Global;
 use syntax_tree::List;
 
 /// The ranks that are due of the processes.
-pub(crate) fn due_ranks(alloc: Global, image: &RawImage) -> Result<Vec<u16>, AllocError>
+pub(crate) fn due_ranks(alloc: Global, image: &RawImage) -> Result<Vec<u16>, OutOfMemory>
     requires { length image.now.processes ≤ 64 }
     ensures { IfOk result (λ ranks. AreDue (defined.rank_of (image_of image.now))
         (length image.now.processes) ranks.items) }
@@ -30,7 +31,7 @@ pub(crate) fn due_ceilings(
     alloc: Global,
     image: &RawImage,
     stays: &Stays,
-) -> Result<Vec<u16>, AllocError>
+) -> Result<Vec<u16>, OutOfMemory>
     requires few { length image.now.processes ≤ 64 }
     requires stays { AreStays (image_of image.now) stays.now }
     ensures { IfOk result (λ ceilings. AreDue (defined.ceiling_of (image_of image.now))
@@ -49,7 +50,7 @@ pub(crate) fn due_blocks(
     alloc: Global,
     image: &RawImage,
     stays: &Stays,
-) -> Result<Vec<u32>, AllocError>
+) -> Result<Vec<u32>, OutOfMemory>
     requires { AreStays (image_of image.now) stays.now }
     ensures { IfOk result (λ blocks. blocks.items ≡ blocks_of (image_of image.now)) }
 {

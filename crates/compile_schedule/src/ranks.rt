@@ -11,10 +11,11 @@ ghost use Rattle.code_measures.specs.Whole.{HasRanks};
 use crate::processes::{blocked, ceiled, due_blocks, due_ceilings, due_ranks, ranked};
 use image::RawImage;
 use loader::{Stays, longest_stays};
-use std::alloc::{AllocError, Global};
+use out_of_memory::OutOfMemory;
+use std::alloc::Global;
 
 /// The image with the ranks of its processes and the ceilings of its monitors.
-fn with_ranks(alloc: Global, image: RawImage, stays: &Stays) -> Result<RawImage, AllocError>
+fn with_ranks(alloc: Global, image: RawImage, stays: &Stays) -> Result<RawImage, OutOfMemory>
     requires few { length image.processes ≤ 64 }
     requires stays { AreStays (image_of image) stays.now }
     ensures { IfOk result (IsRanked image) }
@@ -29,7 +30,7 @@ fn with_ranks(alloc: Global, image: RawImage, stays: &Stays) -> Result<RawImage,
 }
 
 /// The image with the blocks of its processes.
-fn with_blocks(alloc: Global, image: RawImage, stays: &Stays) -> Result<RawImage, AllocError>
+fn with_blocks(alloc: Global, image: RawImage, stays: &Stays) -> Result<RawImage, OutOfMemory>
     requires { AreStays (image_of image) stays.now }
     ensures { IfOk result (IsBlocked image) }
 {
@@ -44,7 +45,7 @@ fn with_blocks(alloc: Global, image: RawImage, stays: &Stays) -> Result<RawImage
 /// the blocks of its processes (immediate ceilings); each bound is the deadline, until the least
 /// one is known. It asks nothing of the ranks, ceilings, blocks and bounds that stand there before,
 /// and fails only where memory is wanting.
-pub fn rank(alloc: Global, image: RawImage) -> Result<RawImage, AllocError>
+pub fn rank(alloc: Global, image: RawImage) -> Result<RawImage, OutOfMemory>
     requires few { length image.processes ≤ 64 }
     ensures same { IfOk result (λ now. DiffersInRanks (named_of image) (named_of now)) }
     ensures ranks { IfOk result (λ now. HasRanks (image_of now)) }

@@ -6,8 +6,9 @@ ghost use Rattle.image.specs.Raw.{image_of, monitor_of, process_of};
 
 use base::Cost;
 use image::{RawImage, RawMonitor, RawProcess};
+use out_of_memory::OutOfMemory;
 use sched_table::{Row, Size, Table};
-use std::alloc::{AllocError, Global};
+use std::alloc::Global;
 use syntax_tree::List;
 
 /// The ceiling of a monitor that no process enters.
@@ -50,7 +51,7 @@ fn rows(
     alloc: Global,
     processes: &[RawProcess],
     bounds: &[Option<u32>],
-) -> Result<List<Row>, AllocError>
+) -> Result<List<Row>, OutOfMemory>
     requires { length bounds.now ≡ length processes.now }
     ensures { IfOk result (λ rows. rows ≡ rows_of (map process_of processes.now) bounds.now) }
 {
@@ -74,7 +75,7 @@ fn monitor_ceiling(monitor: &RawMonitor) -> Option<u16>
 }
 
 /// The ceilings of monitors.
-fn ceilings(alloc: Global, monitors: &[RawMonitor]) -> Result<List<Option<u16>>, AllocError>
+fn ceilings(alloc: Global, monitors: &[RawMonitor]) -> Result<List<Option<u16>>, OutOfMemory>
     ensures { IfOk result (λ all. all ≡ map ceiling_shown (map monitor_of monitors.now)) }
 {
     let mut all = List::new(alloc);
@@ -86,7 +87,7 @@ fn ceilings(alloc: Global, monitors: &[RawMonitor]) -> Result<List<Option<u16>>,
 }
 
 /// The words of monitors.
-fn words(alloc: Global, monitors: &[RawMonitor]) -> Result<List<u32>, AllocError>
+fn words(alloc: Global, monitors: &[RawMonitor]) -> Result<List<u32>, OutOfMemory>
     ensures { IfOk result (λ all. all ≡ map (λ x. x.words) (map monitor_of monitors.now)) }
 {
     let mut all = List::new(alloc);
@@ -101,7 +102,7 @@ pub fn table(
     alloc: Global,
     image: &RawImage,
     bounds: &List<Option<u32>>,
-) -> Result<Table, AllocError>
+) -> Result<Table, OutOfMemory>
     requires one_each { length bounds.now ≡ length image.now.processes }
     requires code { length image.now.code < 2 ^ 32 }
     ensures { IfOk result (λ table. table ≡ table_of (image_of image.now) bounds.now) }

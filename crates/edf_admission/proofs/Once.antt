@@ -112,4 +112,4 @@ pub admitted_shapes_are_not_refused : EachShapeHasOneAnswer → AdmittedShapesAr
 admitted_shapes_are_not_refused law named (fault.Waits at) shape is refused = absurd (is.waitless at refused.here)
 admitted_shapes_are_not_refused law named (fault.Overhead over) shape is refused = absurd (refused.some is.over)
 admitted_shapes_are_not_refused law named (fault.Unfit answer) shape is refused = absurd (refused.unfit is.points (law named answer (verdict.Feasible is.points) shape refused.answered is.feasible))
-admitted_shapes_are_not_refused law named fault.Memory shape is refused = refl
+admitted_shapes_are_not_refused law named (fault.Memory _) shape is refused = refl

@@ -1,5 +1,6 @@
 -- The laws of the answers.
 use Rattle.std.specs.Prelude.{◌≡◌, Err}
+use Rattle.out_of_memory.specs.Refused.{refused}
 use Rattle.image.specs.Named.{NamedImage}
 use Rattle.image_loaded.specs.Shape.{IsShape}
 use Rattle.sched_demand.specs.declared.judging.Judgement.{Judgement}
@@ -15,4 +16,4 @@ EachShapeHasOneAnswer = (shape : NamedImage) (one other : Judgement) → IsShape
 
 -- The law: so a shape that is admitted is refused for want of memory alone.
 abbrev pub AdmittedShapesAreNotRefused : Type 0
-AdmittedShapesAreNotRefused = (shape : NamedImage) (why : EdfFault) → IsShape shape → IsAdmitted shape.image → Admits shape (Err why) → why ≡ fault.Memory
+AdmittedShapesAreNotRefused = (shape : NamedImage) (why : EdfFault) → IsShape shape → IsAdmitted shape.image → Admits shape (Err why) → why ≡ fault.Memory refused

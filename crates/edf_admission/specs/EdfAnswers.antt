@@ -30,4 +30,4 @@ Admits shape (Ok image) = (image ≡ shape) × IsAdmitted image.image
 Admits shape (Err (fault.Waits at)) = IsFirstWait shape.image at
 Admits shape (Err (fault.Overhead over)) = HasOverhead shape.image over
 Admits shape (Err (fault.Unfit answer)) = IsUnfit shape.image answer
-Admits shape (Err fault.Memory) = HasNoWait shape.image × (shape.image.over ≡ 0)
+Admits shape (Err (fault.Memory _)) = HasNoWait shape.image × (shape.image.over ≡ 0)

@@ -6,9 +6,10 @@ ghost use Rattle.command_due.specs.Tasks.{AreDemands, IsAnswer};
 ghost use Rattle.edf_admission.specs.Steps.{AreAsked, EachRankIsHad, HasRank, IsAsked, IsBlockOfLast, SomeHasRank};
 
 use image_loaded::Shape;
+use out_of_memory::OutOfMemory;
 use sched_demand::demand::each_set_has_one_reach;
 use sched_demand::{DemandSet, DemandTask, Judgement, judge};
-use std::alloc::{AllocError, Global};
+use std::alloc::Global;
 
 /// The number of the process of the rank.
 fn with_rank(shape: &Shape, rank: u16) -> u16
@@ -58,7 +59,7 @@ fn demand(shape: &Shape, rank: u16) -> DemandTask
 }
 
 /// What the processes ask for, in the order of ranks.
-fn tasks(alloc: Global, shape: &Shape) -> Result<Vec<DemandTask>, AllocError>
+fn tasks(alloc: Global, shape: &Shape) -> Result<Vec<DemandTask>, OutOfMemory>
     requires { EachRankIsHad shape.now.image }
     ensures { IfOk result (λ all. AreAsked shape.now.image all.items) }
 {
@@ -70,7 +71,7 @@ fn tasks(alloc: Global, shape: &Shape) -> Result<Vec<DemandTask>, AllocError>
 }
 
 /// The tasks whose demand is tested.
-fn demands(alloc: Global, shape: &Shape) -> Result<DemandSet, AllocError>
+fn demands(alloc: Global, shape: &Shape) -> Result<DemandSet, OutOfMemory>
     ensures tasks { IfOk result (AreDemands shape.now.image) }
     ensures valid { IfOk result AreTasks }
 {
@@ -82,7 +83,7 @@ fn demands(alloc: Global, shape: &Shape) -> Result<DemandSet, AllocError>
 }
 
 /// What the test of the demand says of the shape. It fails only where memory is wanting.
-pub(crate) fn judge_shape(alloc: Global, shape: &Shape) -> Result<Judgement, AllocError>
+pub(crate) fn judge_shape(alloc: Global, shape: &Shape) -> Result<Judgement, OutOfMemory>
     ensures { IfOk result (IsAnswer shape.now.image) }
 {
     each_set_has_one_reach();

@@ -1,5 +1,6 @@
 //! Why a shape may not run under earliest deadline first.
 
+use out_of_memory::OutOfMemory;
 use sched_demand::Judgement;
 use thiserror::Error;
 
@@ -18,5 +19,5 @@ pub enum EdfFault {
     Unfit(Judgement),
     /// There was not enough memory for the test.
     #[error("out of memory")]
-    Memory,
+    Memory(OutOfMemory),
 }

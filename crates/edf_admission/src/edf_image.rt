@@ -67,7 +67,7 @@ impl EdfImage {
                 Ok(EdfImage { shape })
             }
             Ok(judgement) => Err(EdfFault::Unfit(judgement)),
-            Err(_) => Err(EdfFault::Memory),
+            Err(error) => Err(EdfFault::Memory(error)),
         }
     }
 

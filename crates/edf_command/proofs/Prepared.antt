@@ -29,7 +29,7 @@ use Rattle.edf_command.specs.Judged.{IsMet, IsScriptDue, IsScriptError, IsStoppe
 
 pub unread_stops : (text : List ℕ) (why : ProgramTextFault) → ReadsWritten text (Err why) → Stops text why
 unread_stops text (text_fault.Text number place) is = faulty is
-unread_stops text text_fault.Memory is = tt
+unread_stops text (text_fault.Memory _) is = tt
 
 of_stopped : (text : List ℕ) (number : ℕ) (place : Place) (script : Option (List ℕ)) → IsStopped text number place → IsEdfDue (Some text) script (outcome_of (puts status.Text (fault_line number place)))
 of_stopped text number place script (faulty is) = edf_faulty text number place refl is (outcome_of_puts status.Text (fault_line number place))
@@ -83,4 +83,4 @@ module _ (tells : Bool) (program script : List ℕ) (before mid now : FilesState
       unread (unready.Unread name) (error, met) =
           script_unread tells (call.edf program script) script before mid now fell (unready.Unread name) refl
           (of_held tells (before.held program) P (λ text. (m : NamedImage) × (points : ℕ) × IsFeasibleText text m points) is (λ text p. feasible n answer met text (judged text p))) error
-      unread unready.Memory error = tt
+      unread (unready.Memory _) error = tt

@@ -2,6 +2,7 @@
 use Rattle.std.proofs.Common.{◌≡◌, ◌≢◌, ◌++◌, ◌⊎◌, ℕ, List, Option, Some, None, Bool, true, false, Ok, Err, inl, inr, refl}
 use Rattle.std.specs.Prelude.{Result, IfOk, IsSomeAnd}
 use Rattle.std.specs.Bool.{OnTrue}
+use Rattle.out_of_memory.specs.Refused.{refused}
 use Rattle.image.specs.Named.{NamedImage}
 use Rattle.script.specs.declared.script.Script.{Script}
 use Rattle.script.specs.declared.fault.ScriptFault.{ScriptFault}
@@ -27,8 +28,8 @@ module _ (n : NamedImage) (answer : Judgement) where
   ran_due script P (Ok act) is_script is = λ text p. ran script.lines script.end (is_script text p) is
   ran_due script P (Err e) is_script is = tt
 
-  pub bad_due : {E : Type 0} (why : ScriptFault) (P : List ℕ → Type 0) (made : Result PreparedCall E) → ((text : List ℕ) → P text → (why ≡ script_fault.Memory) ⊎ IsFault n.names text why)
-      → IfOk made (λ act. act ≡ puts status.Script (script_fault_line why)) → IfOk made (λ act. why ≢ script_fault.Memory)
+  pub bad_due : {E : Type 0} (why : ScriptFault) (P : List ℕ → Type 0) (made : Result PreparedCall E) → ((text : List ℕ) → P text → (why ≡ script_fault.Memory refused) ⊎ IsFault n.names text why)
+      → IfOk made (λ act. act ≡ puts status.Script (script_fault_line why)) → IfOk made (λ act. why ≢ script_fault.Memory refused)
       → IfOk made (λ act. (text : List ℕ) → P text → IsScriptDue n answer text (outcome_of act))
   bad_due why P (Ok act) answered is other = λ text p. elim (answered text p) [
     | inl memory ↦ absurd (other memory)

@@ -42,7 +42,7 @@ pub data IsStopped (text : List ℕ) (number : ℕ) (place : Place) : Type 0 whe
 -- want of memory says nothing of the text
 abbrev pub Stops : List ℕ → ProgramTextFault → Type 0
 Stops text (fault.Text number place) = IsStopped text number place
-Stops text fault.Memory = Unit {0}
+Stops text (fault.Memory _) = Unit {0}
 
 -- the demand is met at each point
 abbrev pub IsMet : Judgement → Type 0
@@ -63,4 +63,4 @@ pub data IsSubjectDue (n : NamedImage) (answer : Judgement) (script : Option (Li
 -- why the script could not be read, which is read only where the demand is met
 abbrev pub IsScriptError : Judgement → List ℕ → (before now : FilesState) → PrepareError → Type 0
 IsScriptError answer name before now (unready.Unread failed) = IsReadError name before now (unready.Unread failed) × IsMet answer
-IsScriptError answer name before now unready.Memory = Unit {0}
+IsScriptError answer name before now (unready.Memory _) = Unit {0}

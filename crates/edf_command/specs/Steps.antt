@@ -31,7 +31,7 @@ pub record IsEdfShape (g : Prog Place) (raw : RawImage) : Type 0 where
 -- why a program has none: the rule of size that fails first; want of memory says nothing of it
 abbrev pub IsSizeFault : Prog Place → ShapeFault → Type 0
 IsSizeFault g (fault.TooLarge number place) = IsFirst (SizeFails g) (record { number = number; place = place })
-IsSizeFault g fault.Memory = Unit {0}
+IsSizeFault g (fault.Memory _) = Unit {0}
 
 -- the image of the program, and what the test of the demand says of it
 pub record IsJudgedProgram (g : Prog Place) (j : Judged) : Type 0 where

@@ -19,10 +19,11 @@ use command_answers::{Content, PreparedCall};
 use command_refusals::refuse_text;
 use compile::{ProgramTextFault, read_written};
 use image::RawImage;
+use out_of_memory::OutOfMemory;
 use sched_demand::Judgement;
 use static_rule::rule;
 use static_semantics::Checked;
-use std::alloc::{AllocError, Global};
+use std::alloc::Global;
 use syntax_tree::{Place, Text};
 
 /// Where a fault of a whole text stands.
@@ -50,7 +51,7 @@ fn judge_waitless(alloc: Global, program: &Checked) -> Result<Subject, ProgramTe
             answer: judged.answer,
         }),
         Err(ShapeFault::TooLarge { .. }) => unreachable!(),
-        Err(ShapeFault::Memory) => Err(ProgramTextFault::Memory),
+        Err(ShapeFault::Memory(error)) => Err(ProgramTextFault::Memory(error)),
     }
 }
 
@@ -114,7 +115,7 @@ pub fn refuse_source<'a>(
     file: &str,
     content: &Content,
     fault: ProgramTextFault,
-) -> Result<PreparedCall<'a>, AllocError>
+) -> Result<PreparedCall<'a>, OutOfMemory>
     ensures due { IfOk result (λ act. (text : List ℕ) (script : Option (List ℕ)) →
         Stops text fault → IsEdfDue (Some text) script (outcome_of act)) }
     ensures quiet { IfOk result IsQuiet }
@@ -126,6 +127,6 @@ pub fn refuse_source<'a>(
         ProgramTextFault::Text { number, place } => {
             refuse_text(alloc, message, file, content, number, place)
         }
-        ProgramTextFault::Memory => Err(AllocError),
+        ProgramTextFault::Memory(error) => Err(error),
     }
 }

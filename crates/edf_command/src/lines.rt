@@ -5,14 +5,15 @@ ghost use Rattle.image.specs.Raw.{named_of, process_of};
 ghost use Rattle.command_due.specs.Report.{edf_report, judgement_lines, points_text, process_line, processes_lines, times_text, verdict_text};
 
 use image::{RawImage, RawProcess};
+use out_of_memory::OutOfMemory;
 use sched_demand::Judgement;
 use sched_table::{add_name, add_number};
-use std::alloc::{AllocError, Global};
+use std::alloc::Global;
 use syntax_tree::{Name, Text};
 
 /// Puts the times of a process at the end of a text.
 #[tactic(auto, unfolding(command_due::specs::Report::times_text))]
-fn add_times(text: &mut Text, process: &RawProcess) -> Result<(), AllocError>
+fn add_times(text: &mut Text, process: &RawProcess) -> Result<(), OutOfMemory>
     ensures { OnOk result (text.new ≡ text.old ++ times_text (process_of process.now)) }
 {
     add_number(text, " frame ", u64::from(process.frame))?;
@@ -22,7 +23,7 @@ fn add_times(text: &mut Text, process: &RawProcess) -> Result<(), AllocError>
 
 /// Puts the line of a process at the end of a text.
 #[tactic(auto, unfolding(command_due::specs::Report::process_line))]
-fn add_process(text: &mut Text, name: &Name, process: &RawProcess) -> Result<(), AllocError>
+fn add_process(text: &mut Text, name: &Name, process: &RawProcess) -> Result<(), OutOfMemory>
     ensures { OnOk result (text.new ≡ text.old ++ process_line name.now
         (process_of process.now)) }
 {
@@ -38,7 +39,7 @@ fn add_processes(
     text: &mut Text,
     names: &[Name],
     processes: &[RawProcess],
-) -> Result<(), AllocError>
+) -> Result<(), OutOfMemory>
     requires { length names.now ≡ length processes.now }
     ensures { OnOk result (text.new ≡ text.old ++ processes_lines names.now
         (map process_of processes.now)) }
@@ -50,7 +51,7 @@ fn add_processes(
 }
 
 /// Puts how many points there are at the end of a text.
-fn add_points(text: &mut Text, answer: Judgement) -> Result<(), AllocError>
+fn add_points(text: &mut Text, answer: Judgement) -> Result<(), OutOfMemory>
     ensures { OnOk result (text.new ≡ text.old ++ points_text answer) }
 {
     match answer {
@@ -61,7 +62,7 @@ fn add_points(text: &mut Text, answer: Judgement) -> Result<(), AllocError>
 }
 
 /// Puts what the test of the demand says at the end of a text.
-fn add_verdict(text: &mut Text, answer: Judgement) -> Result<(), AllocError>
+fn add_verdict(text: &mut Text, answer: Judgement) -> Result<(), OutOfMemory>
     ensures { OnOk result (text.new ≡ text.old ++ verdict_text answer) }
 {
     match answer {
@@ -76,7 +77,7 @@ fn add_verdict(text: &mut Text, answer: Judgement) -> Result<(), AllocError>
 
 /// Puts the lines of what the test says at the end of a text.
 #[tactic(auto, unfolding(command_due::specs::Report::judgement_lines))]
-fn add_judgement(text: &mut Text, answer: Judgement) -> Result<(), AllocError>
+fn add_judgement(text: &mut Text, answer: Judgement) -> Result<(), OutOfMemory>
     ensures { OnOk result (text.new ≡ text.old ++ judgement_lines answer) }
 {
     add_points(text, answer)?;
@@ -93,7 +94,7 @@ fn add_judgement(text: &mut Text, answer: Judgement) -> Result<(), AllocError>
 /// first point at which the demand is not met and the demand there, or `too many`. A number above
 /// 1,000,000,000 is `over`. Only want of memory is an error.
 #[tactic(auto, unfolding(command_due::specs::Report::edf_report))]
-pub fn report(alloc: Global, image: &RawImage, answer: Judgement) -> Result<Text, AllocError>
+pub fn report(alloc: Global, image: &RawImage, answer: Judgement) -> Result<Text, OutOfMemory>
     requires { length image.now.names.processes ≡ length image.now.processes }
     ensures { IfOk result (λ text. text ≡ edf_report (named_of image.now) answer) }
 {

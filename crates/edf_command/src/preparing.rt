@@ -49,7 +49,7 @@ fn run_on<'a, F: Files>(
     let content = read(files, script, LONGEST_SCRIPT)?;
     match run_act(alloc, message, script, subject, &content) {
         Ok(act) => Ok(act),
-        Err(_) => Err(PrepareError::Memory),
+        Err(error) => Err(PrepareError::Memory(error)),
     }
 }
 
@@ -80,7 +80,7 @@ fn judged_on<'a, F: Files>(
     }
     match refuse_unfit(alloc, message, program, &subject) {
         Ok(act) => Ok(act),
-        Err(_) => Err(PrepareError::Memory),
+        Err(error) => Err(PrepareError::Memory(error)),
     }
 }
 
@@ -106,7 +106,7 @@ pub fn prepare_edf<'a, F: Files>(
         Ok(subject) => judged_on(alloc, message, program, subject, script, files),
         Err(fault) => match refuse_source(alloc, message, program, &content, fault) {
             Ok(act) => Ok(act),
-            Err(_) => Err(PrepareError::Memory),
+            Err(error) => Err(PrepareError::Memory(error)),
         },
     }
 }

@@ -23,8 +23,9 @@ use command_refusals::refuse_script;
 use edf_correct::edf_ready::{edf_images_are_in_range, edf_images_are_ready};
 use image_bytes::ImageBytes;
 use message_program::demand_message;
+use out_of_memory::OutOfMemory;
 use script::Script;
-use std::alloc::{AllocError, Global};
+use std::alloc::Global;
 use syntax_tree::Text;
 
 /// The act for a program whose demand is not met: it puts the report, and the message takes the
@@ -34,7 +35,7 @@ pub fn refuse_unfit<'a>(
     message: &mut Text,
     file: &str,
     subject: &Subject,
-) -> Result<PreparedCall<'a>, AllocError>
+) -> Result<PreparedCall<'a>, OutOfMemory>
     requires { IsSubject subject.now }
     ensures act { IfOk result (λ act. act ≡
         puts Status.Late (edf_report (named_of subject.now.image) subject.now.answer)) }
@@ -53,7 +54,7 @@ fn run_image<'a>(
     alloc: Global,
     subject: Subject,
     script: Script,
-) -> Result<PreparedCall<'a>, AllocError>
+) -> Result<PreparedCall<'a>, OutOfMemory>
     requires subject { IsSubject subject }
     requires met { IsMet subject.answer }
     requires script { (text : List ℕ) ×
@@ -85,7 +86,7 @@ pub fn run_act<'a>(
     file: &str,
     subject: Subject,
     content: &Content,
-) -> Result<PreparedCall<'a>, AllocError>
+) -> Result<PreparedCall<'a>, OutOfMemory>
     requires subject { IsSubject subject }
     requires met { IsMet subject.answer }
     ensures due { IfOk result (λ act. (text : List ℕ) → IsContent longest_text content.now text →

@@ -12,8 +12,9 @@ use built_image_law::shape_before_times::shapes_leave_bounds_aside;
 use compile::{BuildFault, ranked};
 use compile_schedule::with_bounds;
 use image::{RawImage, RawProcess};
+use out_of_memory::OutOfMemory;
 use static_semantics::Checked;
-use std::alloc::{AllocError, Global};
+use std::alloc::Global;
 use syntax_tree::{List, Place, Program};
 
 /// Why a program has no image.
@@ -22,17 +23,18 @@ pub enum ShapeFault {
     /// A rule of size fails: 46 for the number of instructions, 47 for a stack, at its place.
     TooLarge { number: u8, place: Place },
     /// There was not enough memory.
-    Memory,
+    Memory(OutOfMemory),
 }
 
-impl From<AllocError> for ShapeFault {
+impl From<OutOfMemory> for ShapeFault {
     ghost use Rattle.std.specs.Prelude.{◌≡◌};
+    ghost use Rattle.out_of_memory.specs.Refused.{refused};
     ghost use Rattle.edf_command.specs.declared.shaping.ShapeFault.TheVariants.{Memory};
 
-    ghost from_gives = { λ _ fault. fault ≡ Memory };
+    ghost from_gives = { λ _ fault. fault ≡ Memory refused };
 
-    fn from(_: AllocError) -> ShapeFault {
-        ShapeFault::Memory
+    fn from(error: OutOfMemory) -> ShapeFault {
+        ShapeFault::Memory(error)
     }
 }
 
@@ -48,12 +50,12 @@ fn with_ranks(alloc: Global, program: &Program) -> Result<RawImage, ShapeFault>
         Ok(image) => Ok(image),
         Err(BuildFault::TooLarge { number, place }) => Err(ShapeFault::TooLarge { number, place }),
         Err(BuildFault::Untimely(_)) => unreachable!(),
-        Err(BuildFault::Memory) => Err(ShapeFault::Memory),
+        Err(BuildFault::Memory(error)) => Err(ShapeFault::Memory(error)),
     }
 }
 
 /// The deadlines of processes, as bounds.
-fn deadlines(alloc: Global, processes: &[RawProcess]) -> Result<List<Option<u32>>, AllocError>
+fn deadlines(alloc: Global, processes: &[RawProcess]) -> Result<List<Option<u32>>, OutOfMemory>
     ensures { IfOk result (λ all. all ≡ map due_of (map process_of processes.now)) }
 {
     let mut all = List::new(alloc);

@@ -10,10 +10,11 @@ ghost use Rattle.edf_command.specs.Listed.{demand_of, demands_of, last_block as 
 
 use image::{RawImage, RawProcess};
 use loader::{task_at, with_rank};
+use out_of_memory::OutOfMemory;
 use sched_demand::demand::each_set_has_one_reach;
 use sched_demand::{DemandSet, DemandTask, Judgement, judge};
 use sched_response::Task;
-use std::alloc::{AllocError, Global};
+use std::alloc::Global;
 
 /// The block of the last process with the deadline in the order of ranks; 0 where none has it.
 fn last_block(processes: &[RawProcess], deadline: u64) -> u64
@@ -44,7 +45,7 @@ fn task_with_block(processes: &[RawProcess], task: Task) -> DemandTask
 
 /// The tasks in the order of ranks.
 #[tactic(auto, using(crate::proofs::Growing::no_more_tasks))]
-fn tasks(alloc: Global, image: &RawImage) -> Result<Vec<DemandTask>, AllocError>
+fn tasks(alloc: Global, image: &RawImage) -> Result<Vec<DemandTask>, OutOfMemory>
     ensures { IfOk result (λ v. v.items ≡ demands_of (image_of image.now)) }
 {
     let processes = image.processes.as_slice();
@@ -59,7 +60,7 @@ fn tasks(alloc: Global, image: &RawImage) -> Result<Vec<DemandTask>, AllocError>
 /// The tasks whose demand is tested, of an image with its ranks, ceilings and blocks: declared
 /// frames, deadlines and costs; where deadlines are equal, each has the block of the last of their
 /// processes in the order of ranks. It fails only where memory is wanting.
-pub fn demands(alloc: Global, image: &RawImage) -> Result<DemandSet, AllocError>
+pub fn demands(alloc: Global, image: &RawImage) -> Result<DemandSet, OutOfMemory>
     requires limits { HasLimits (image_of image.now) }
     requires ranks { HasRanks (image_of image.now) }
     ensures tasks { IfOk result (AreDemands (image_of image.now)) }
@@ -73,7 +74,7 @@ pub fn demands(alloc: Global, image: &RawImage) -> Result<DemandSet, AllocError>
 
 /// What the test of the demand says of an image with its ranks, ceilings and blocks. It fails only
 /// where memory is wanting.
-pub fn judge_image(alloc: Global, image: &RawImage) -> Result<Judgement, AllocError>
+pub fn judge_image(alloc: Global, image: &RawImage) -> Result<Judgement, OutOfMemory>
     requires limits { HasLimits (image_of image.now) }
     requires ranks { HasRanks (image_of image.now) }
     ensures { IfOk result (IsAnswer (image_of image.now)) }

@@ -14,8 +14,9 @@ ghost use Rattle.edf_machine.specs.Standing.{StandsIn};
 use crate::choice::choose;
 use crate::marks::{DeadlineState, first_marks, mark_begun, mark_releases, note_idle};
 use base::Event;
+use out_of_memory::OutOfMemory;
 use script::Script;
-use std::alloc::{AllocError, Global};
+use std::alloc::Global;
 use vm_runner::{Dispatch, Machine, Setup};
 use vm_state::{DecodedImage, MachineState};
 
@@ -28,7 +29,7 @@ pub struct Deadlines {
 impl Deadlines {
     /// What is known before the first tick, given the deadline of each process in ticks. An error
     /// says that memory is short.
-    pub fn new(alloc: Global, deadlines: &[u32]) -> Result<Deadlines, AllocError>
+    pub fn new(alloc: Global, deadlines: &[u32]) -> Result<Deadlines, OutOfMemory>
         ensures { IfOk result (λ known. (run : Run) → HasDeadlines run.image deadlines.now →
             Knows run.image run.script (Before 0) known) }
     {
@@ -101,7 +102,7 @@ pub fn machine_by_deadlines(
     plan: &DecodedImage,
     deadlines: &[u32],
     script: &Script,
-) -> Result<Machine<Deadlines>, AllocError>
+) -> Result<Machine<Deadlines>, OutOfMemory>
     ghost run: { Run }
     requires plan { IsOf run.image plan.now }
     requires script { run.script ≡ script_of script.now }

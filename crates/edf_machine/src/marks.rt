@@ -9,7 +9,8 @@ ghost use Rattle.machine_semantics.specs.State.{Thread};
 ghost use Rattle.vm_state.specs.Board.{state_of};
 ghost use Rattle.edf_machine.specs.Marks.{AreMarks, AreNoted, IsMark, first_kept, is_idle};
 
-use std::alloc::{AllocError, Global};
+use out_of_memory::OutOfMemory;
+use std::alloc::Global;
 use vm_state::{ControlBlock, MachineState, SchedulingState};
 
 /// What the choice knows of a process beside where it stands.
@@ -30,7 +31,7 @@ pub(crate) struct DeadlineState {
 pub(crate) fn first_marks(
     alloc: Global,
     deadlines: &[u32],
-) -> Result<Vec<DeadlineState>, AllocError>
+) -> Result<Vec<DeadlineState>, OutOfMemory>
     ensures { IfOk result (λ marks. marks.items ≡ map first_kept deadlines.now) }
 {
     let mut marks = Vec::with_capacity(alloc, deadlines.len())?;

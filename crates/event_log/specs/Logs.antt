@@ -71,4 +71,4 @@ pub record IsFaultyLine (names : ImageNames) (text : List ℕ) (line : ℕ) : Ty
 abbrev pub IsFault : ImageNames → List ℕ → LogFault → Type 0
 IsFault names text Long = longest_text < length text
 IsFault names text (Line line) = IsFaultyLine names text line
-IsFault names text Memory = ⊥
+IsFault names text (Memory _) = ⊥

@@ -1,6 +1,6 @@
 //! Why a text is no log.
 
-use std::alloc::AllocError;
+use out_of_memory::OutOfMemory;
 use thiserror::Error;
 
 /// Why a text was refused. Lines count from 1.
@@ -14,16 +14,17 @@ pub enum LogFault {
     Long,
     /// There was not enough memory.
     #[error("out of memory")]
-    Memory,
+    Memory(OutOfMemory),
 }
 
-impl From<AllocError> for LogFault {
+impl From<OutOfMemory> for LogFault {
     ghost use Rattle.std.specs.Prelude.{◌≡◌};
+    ghost use Rattle.out_of_memory.specs.Refused.{refused};
     ghost use Rattle.event_log.specs.declared.fault.LogFault.TheVariants.{Memory};
 
-    ghost from_gives = { λ _ fault. fault ≡ Memory };
+    ghost from_gives = { λ _ fault. fault ≡ Memory refused };
 
-    fn from(_: AllocError) -> LogFault {
-        LogFault::Memory
+    fn from(error: OutOfMemory) -> LogFault {
+        LogFault::Memory(error)
     }
 }

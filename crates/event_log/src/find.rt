@@ -8,7 +8,8 @@ ghost use Rattle.event_log.specs.Finding.{AreConditionNames, AreFound};
 use crate::numbers::{NumbersByName, device_numbers, find, numbers_of};
 use base::{Act, Event};
 use image::ImageNames;
-use std::alloc::{AllocError, Global};
+use out_of_memory::OutOfMemory;
+use std::alloc::Global;
 use syntax_tree::{List, Name};
 use text_fields::is_same;
 
@@ -30,7 +31,7 @@ impl<'a, 't> NameIndex<'a, 't> {
         alloc: Global,
         names: &'a ImageNames,
         conditions: &'t List<Name>,
-    ) -> Result<NameIndex<'a, 't>, AllocError>
+    ) -> Result<NameIndex<'a, 't>, OutOfMemory>
         requires few { AreFew names.now }
         requires conditions { AreConditionNames names.now conditions.now }
         ensures found { IfOk result AreFound }

@@ -21,7 +21,8 @@ mod words;
 
 pub use fault::LogFault;
 pub use find::NameIndex;
-pub use lines::{LineBuffer, write_line};
+pub use lines::write_line;
 pub use numbers::condition_names;
 pub use one_log_law::one_log;
 pub use reader::LogReader;
+pub use text::LineBuffer;

@@ -11,26 +11,9 @@ ghost use Rattle.std.specs.Fmt.{signed_decimal};
 ghost use Rattle.event_log.specs.InRange.{ActIsIn, AreIn, AreSound, WokenIsIn};
 ghost use Rattle.event_log.specs.Line.{act_text, condition_name, device_name, line_of, monitor_name, process_name, qualified, truth_text, woken_name};
 
-use crate::text::Text;
+use crate::text::LineBuffer;
 use base::{Act, Event};
 use image::{ConditionName, ImageNames};
-use itoa::Buffer;
-use std::marker::Model;
-
-/// Room for a line, and for the digits of its numbers. It is seen as the line.
-#[derive(Drop)]
-pub struct LineBuffer {
-    text: Text,
-    digits: Buffer,
-}
-
-impl Model for LineBuffer {
-    ghost use Rattle.std.specs.Prelude.{List, ℕ};
-
-    ghost Value = { List ℕ };
-
-    ghost view = { λ line. line.text };
-}
 
 /// The name of a process.
 fn process_of(names: &ImageNames, number: u16) -> &[u8]
@@ -94,165 +77,111 @@ fn truth_of(answer: bool) -> &'static [u8]
     if answer { b"1" } else { b"0" }
 }
 
-/// Adds a tick, which has at most 9 digits.
-#[inline(always)]
-fn add_tick(text: &mut Text, digits: &mut Buffer, tick: u64)
-    requires tick { tick < 1000000000 }
-    requires room { length text.old ≤ 100 }
-    ensures items { text.new ≡ text.old ++ decimal tick }
-    ensures len { length text.new ≤ length text.old + 9 }
-{
-    text.add(digits.format(tick).as_bytes());
-}
-
-/// Adds what an act does, with the monitor and the name of a condition.
-fn add_condition(text: &mut Text, names: &ImageNames, does: &[u8], number: u16)
+/// Puts what an act does, with the monitor and the name of a condition.
+fn put_condition(line: &mut LineBuffer, names: &ImageNames, does: &[u8], number: u16)
     requires sound { AreSound names.now }
     requires condition { number < length names.now.conditions }
     requires does { length does.now ≤ 11 }
-    requires room { length text.old ≤ 100 }
-    ensures items { text.new ≡ text.old ++
-        (does.now ++ condition_name names.now number) }
-    ensures len { length text.new ≤ length text.old + length does.now + 127 }
+    requires room { length line.old ≤ 100 }
+    ensures items { line.new ≡ does.now ++ (condition_name names.now number ++ line.old) }
+    ensures len { length line.new ≤ length does.now + 127 + length line.old }
 {
     let condition = condition_of(names, number);
-    text.add(does);
-    text.add(monitor_of(names, condition.mon));
-    text.add_byte(b' ');
-    text.add(condition.name.as_bytes());
+    line.put(condition.name.as_bytes());
+    line.put_byte(b' ');
+    line.put(monitor_of(names, condition.mon));
+    line.put(does);
 }
 
-/// Adds the last word of a line.
+/// Puts the last word of a line.
 #[inline(always)]
-fn add_last(text: &mut Text, word: &[u8])
-    requires { length text.old + length word.now ≤ 318 }
-    ensures items { text.new ≡ text.old ++ (codes " " ++ (word.now ++ codes "\n")) }
-    ensures len { length text.new ≡ length text.old + length word.now + 2 }
+fn put_last(line: &mut LineBuffer, word: &[u8])
+    requires { length word.now + length line.old ≤ 100 }
+    ensures items { line.new ≡ codes " " ++ (word.now ++ line.old) }
+    ensures len { length line.new ≡ length word.now + 1 + length line.old }
 {
-    text.add_byte(b' ');
-    text.add(word);
-    text.add_byte(b'\n');
+    line.put(word);
+    line.put_byte(b' ');
 }
 
-/// Adds the last word of a line, a number.
-fn add_number(text: &mut Text, digits: &mut Buffer, number: u16)
-    requires { length text.old ≤ 313 }
-    ensures items { text.new ≡ text.old ++
-        (codes " " ++ (decimal number ++ codes "\n")) }
-    ensures len { length text.new ≤ length text.old + 7 }
+/// Puts the last word of a line, a number.
+fn put_last_number(line: &mut LineBuffer, number: u16)
+    requires { length line.old ≤ 50 }
+    ensures items { line.new ≡ codes " " ++ (decimal number ++ line.old) }
+    ensures len { length line.new ≤ 6 + length line.old }
 {
-    add_last(text, digits.format(number).as_bytes());
+    line.put_number(u64::from(number));
+    line.put_byte(b' ');
 }
 
-/// Adds what an act does with a device and a value.
-fn add_transfer(
-    text: &mut Text,
-    digits: &mut Buffer,
-    names: &ImageNames,
-    does: &[u8],
-    dev: u16,
-    value: i32,
-)
+/// Puts what an act does with a device and a value.
+#[inline(always)]
+fn put_transfer(line: &mut LineBuffer, names: &ImageNames, does: &[u8], dev: u16, value: i32)
     requires sound { AreSound names.now }
     requires device { dev < length names.now.devices }
     requires does { length does.now ≤ 11 }
-    requires room { length text.old ≤ 100 }
-    ensures items { text.new ≡
-        text.old ++ (does.now ++ (device_name names.now dev ++
-        (codes " " ++ (signed_decimal value ++ codes "\n")))) }
-    ensures len { length text.new ≤ length text.old + 100 }
+    requires room { length line.old ≤ 50 }
+    ensures items { line.new ≡
+        does.now ++ (device_name names.now dev ++
+        (codes " " ++ (signed_decimal value ++ line.old))) }
+    ensures len { length line.new ≤ 100 + length line.old }
 {
-    text.add(does);
-    text.add(device_of(names, dev));
-    add_last(text, digits.format(value).as_bytes());
+    line.put_signed(value);
+    line.put_byte(b' ');
+    line.put(device_of(names, dev));
+    line.put(does);
 }
 
-/// Adds what an act does with a monitor.
-fn add_passage(text: &mut Text, names: &ImageNames, does: &[u8], mon: u16)
+/// Puts what an act does with a monitor.
+#[inline(always)]
+fn put_passage(line: &mut LineBuffer, names: &ImageNames, does: &[u8], mon: u16)
     requires sound { AreSound names.now }
     requires monitor { mon < length names.now.monitors }
     requires does { length does.now ≤ 11 }
-    requires room { length text.old ≤ 100 }
-    ensures items { text.new ≡ text.old ++
-        (does.now ++ (monitor_name names.now mon ++ codes "\n")) }
-    ensures len { length text.new ≤ length text.old + 100 }
+    requires room { length line.old ≤ 100 }
+    ensures items { line.new ≡ does.now ++ (monitor_name names.now mon ++ line.old) }
+    ensures len { length line.new ≤ 100 + length line.old }
 {
-    text.add(does);
-    text.add(monitor_of(names, mon));
-    text.add_byte(b'\n');
+    line.put(monitor_of(names, mon));
+    line.put(does);
 }
 
-/// Adds what a process does, and with what.
-fn add_act(text: &mut Text, digits: &mut Buffer, names: &ImageNames, act: Act)
+/// Puts what a process does, and with what, before the LF.
+fn put_act(line: &mut LineBuffer, names: &ImageNames, act: Act)
     requires sound { AreSound names.now }
     requires act { ActIsIn names.now act }
-    requires room { length text.old ≤ 100 }
-    ensures items { text.new ≡ text.old ++ act_text names.now act }
-    ensures len { length text.new ≤ length text.old + 200 }
+    requires begun { line.old ≡ codes "\n" }
+    ensures items { line.new ≡ act_text names.now act }
+    ensures len { length line.new ≤ 200 }
 {
     match act {
-        Act::Release => text.add(b" release\n"),
+        Act::Release => line.put(b" release"),
         Act::TimeOut { cond, number } => {
-            add_condition(text, names, b" timeout ", cond);
-            add_number(text, digits, number);
+            put_last_number(line, number);
+            put_condition(line, names, b" timeout ", cond);
         }
-        Act::Get { dev, value } => add_transfer(text, digits, names, b" get ", dev, value),
-        Act::Put { dev, value } => add_transfer(text, digits, names, b" put ", dev, value),
-        Act::Enter { mon } => add_passage(text, names, b" enter ", mon),
-        Act::Leave { mon } => add_passage(text, names, b" leave ", mon),
-        Act::Wait { cond } => {
-            add_condition(text, names, b" wait ", cond);
-            text.add_byte(b'\n');
-        }
+        Act::Get { dev, value } => put_transfer(line, names, b" get ", dev, value),
+        Act::Put { dev, value } => put_transfer(line, names, b" put ", dev, value),
+        Act::Enter { mon } => put_passage(line, names, b" enter ", mon),
+        Act::Leave { mon } => put_passage(line, names, b" leave ", mon),
+        Act::Wait { cond } => put_condition(line, names, b" wait ", cond),
         Act::Signal { cond, woken } => {
-            add_condition(text, names, b" signal ", cond);
-            add_last(text, woken_of(names, woken));
+            put_last(line, woken_of(names, woken));
+            put_condition(line, names, b" signal ", cond);
         }
         Act::Broadcast { cond, count } => {
-            add_condition(text, names, b" broadcast ", cond);
-            add_number(text, digits, count);
+            put_last_number(line, count);
+            put_condition(line, names, b" broadcast ", cond);
         }
         Act::Empty { cond, answer } => {
-            add_condition(text, names, b" empty ", cond);
-            add_last(text, truth_of(answer));
+            put_last(line, truth_of(answer));
+            put_condition(line, names, b" empty ", cond);
         }
         Act::Raise { number } => {
-            text.add(b" raise");
-            add_number(text, digits, number);
+            put_last_number(line, number);
+            line.put(b" raise");
         }
-        Act::End => text.add(b" end\n"),
-    }
-}
-
-/// Makes the text the line of an event.
-fn write(text: &mut Text, digits: &mut Buffer, names: &ImageNames, event: &Event)
-    requires { AreIn names.now event.now }
-    ensures text { text.new ≡ line_of names.now event.now }
-    ensures short { length text.new ≤ 273 }
-{
-    text.clear();
-    add_tick(text, digits, event.tick);
-    text.add_byte(b' ');
-    text.add(process_of(names, event.proc));
-    add_act(text, digits, names, event.act);
-}
-
-impl LineBuffer {
-    /// Room for a line; none is written yet.
-    pub fn new() -> LineBuffer
-        ensures { result ≡ [] }
-    {
-        LineBuffer {
-            text: Text::new(),
-            digits: Buffer::new(),
-        }
-    }
-
-    /// The bytes of the line.
-    pub fn as_slice(&self) -> &[u8]
-        ensures { result.now ≡ self.now }
-    {
-        self.text.as_slice()
+        Act::End => line.put(b" end"),
     }
 }
 
@@ -264,5 +193,9 @@ pub fn write_line(line: &mut LineBuffer, names: &ImageNames, event: &Event)
     ensures text { line.new ≡ line_of names.now event.now }
     ensures short { length line.new ≤ 273 }
 {
-    write(&mut line.text, &mut line.digits, names, event);
+    line.begin();
+    put_act(line, names, event.act);
+    line.put(process_of(names, event.proc));
+    line.put_byte(b' ');
+    line.put_number(event.tick);
 }

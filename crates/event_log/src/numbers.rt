@@ -7,7 +7,8 @@ ghost use Rattle.event_log.specs.Finding.{AreConditionNames, AreNumbers};
 
 use image::{ConditionName, ImageNames};
 use indexmap::IndexMap;
-use std::alloc::{AllocError, Global};
+use out_of_memory::OutOfMemory;
+use std::alloc::Global;
 use syntax_tree::{List, Name};
 
 /// Numbers by name.
@@ -21,7 +22,7 @@ pub fn find(numbers: &NumbersByName<'_>, name: &[u8]) -> Option<u16>
 }
 
 /// The numbers of these names; of two that are the same, that of the later.
-pub fn numbers_of<'a>(alloc: Global, list: &'a [Name]) -> Result<NumbersByName<'a>, AllocError>
+pub fn numbers_of<'a>(alloc: Global, list: &'a [Name]) -> Result<NumbersByName<'a>, OutOfMemory>
     requires { length list.now ≤ 2 ^ 16 }
     ensures { IfOk result (λ numbers.
         AreNumbers numbers.entries (length list.now) (λ k. unwrap_or (slice_get list.now k) [])) }
@@ -37,7 +38,7 @@ pub fn numbers_of<'a>(alloc: Global, list: &'a [Name]) -> Result<NumbersByName<'
 pub fn device_numbers<'a>(
     alloc: Global,
     names: &'a ImageNames,
-) -> Result<NumbersByName<'a>, AllocError>
+) -> Result<NumbersByName<'a>, OutOfMemory>
     requires { length names.now.devices ≤ 2 ^ 16 }
     ensures { IfOk result (λ numbers.
         AreNumbers numbers.entries (length names.now.devices) (device_name names.now)) }
@@ -61,7 +62,7 @@ fn monitor_of(names: &ImageNames, number: u16) -> &[u8]
 }
 
 /// The name of a condition behind that of its monitor.
-fn qualified_name(alloc: Global, monitor: &[u8], name: &[u8]) -> Result<Name, AllocError>
+fn qualified_name(alloc: Global, monitor: &[u8], name: &[u8]) -> Result<Name, OutOfMemory>
     ensures { IfOk result (λ text. text ≡ monitor.now ++ 32 ∷ name.now) }
 {
     let mut text = Vec::new(alloc);
@@ -72,7 +73,7 @@ fn qualified_name(alloc: Global, monitor: &[u8], name: &[u8]) -> Result<Name, Al
 }
 
 /// The names of the conditions as lines tell them, behind those of their monitors.
-pub fn condition_names(alloc: Global, names: &ImageNames) -> Result<List<Name>, AllocError>
+pub fn condition_names(alloc: Global, names: &ImageNames) -> Result<List<Name>, OutOfMemory>
     ensures { IfOk result (AreConditionNames names.now) }
 {
     let mut texts = List::new(alloc);

@@ -1,76 +1,111 @@
-//! The bytes of a line, without memory of its own.
+//! Room for a line, which is written from its end, without memory of its own.
 
-ghost use Rattle.std.specs.Prelude.{◌≡◌, ◌≤◌, ◌<◌, ◌+◌, ◌++◌, ◌∷◌, [], length};
+ghost use Rattle.std.specs.Prelude.{◌≡◌, ◌≤◌, ◌<◌, ◌+◌, ◌++◌, ◌∷◌, [], length, codes, decimal};
+ghost use Rattle.std.specs.Fmt.{signed_decimal};
 
+use itoa::write_digits;
 use std::marker::Model;
 
 /// More bytes than a line has.
 const ROOM: usize = 320;
 
-/// The bytes of a line that are written so far.
+/// The bytes of a line. It is written from its last byte to its first, so that each part is put
+/// where it lies, digits too.
 #[derive(Drop)]
-pub(crate) struct Text {
+pub struct LineBuffer {
     bytes: [u8; ROOM],
-    len: usize,
+    start: usize,
 }
 
-impl Model for Text {
-    ghost use Rattle.std.specs.Prelude.{◌≤◌, List, ℕ, take};
+impl Model for LineBuffer {
+    ghost use Rattle.std.specs.Prelude.{◌≤◌, List, ℕ, drop};
 
     ghost Value = { List ℕ };
 
-    ghost view = { λ s. take s.len s.bytes };
+    ghost view = { λ s. drop s.start s.bytes };
 
-    ghost invariant = { λ s. s.len ≤ 320 };
+    ghost invariant = { λ s. s.start ≤ 320 };
 }
 
-impl Text {
-    /// No bytes yet.
-    pub(crate) fn new() -> Text
+impl LineBuffer {
+    /// Room for a line; none is written yet.
+    pub fn new() -> LineBuffer
         ensures { result ≡ [] }
     {
-        Text {
+        LineBuffer {
             bytes: [0; ROOM],
-            len: 0,
+            start: ROOM,
         }
     }
 
     /// Forgets what was written.
     #[inline(always)]
-    pub(crate) fn clear(&mut self)
+    fn clear(&mut self)
         ensures { self.new ≡ [] }
     {
-        self.len = 0;
+        self.start = ROOM;
     }
 
-    /// Adds bytes that fit.
+    /// Begins a line, at its end: puts its LF.
     #[inline(always)]
-    pub(crate) fn add(&mut self, bytes: &[u8])
-        requires { length self.old + length bytes.now ≤ 320 }
-        ensures items { self.new ≡ self.old ++ bytes.now }
-        ensures len { length self.new ≡ length self.old + length bytes.now }
+    pub(crate) fn begin(&mut self)
+        ensures { self.new ≡ codes "\n" }
     {
-        let end = self.len + bytes.len();
-        self.bytes[self.len..end].copy_from_slice(bytes);
-        self.len = end;
+        self.clear();
+        self.put_byte(b'\n');
     }
 
-    /// Adds a byte that fits.
+    /// Puts bytes that fit in front.
     #[inline(always)]
-    pub(crate) fn add_byte(&mut self, byte: u8)
+    pub(crate) fn put(&mut self, bytes: &[u8])
+        requires { length bytes.now + length self.old ≤ 320 }
+        ensures items { self.new ≡ bytes.now ++ self.old }
+        ensures len { length self.new ≡ length bytes.now + length self.old }
+    {
+        let start = self.start - bytes.len();
+        self.bytes[start..self.start].copy_from_slice(bytes);
+        self.start = start;
+    }
+
+    /// Puts a byte that fits in front.
+    #[inline(always)]
+    pub(crate) fn put_byte(&mut self, byte: u8)
         requires { length self.old < 320 }
-        ensures items { self.new ≡ self.old ++ byte ∷ [] }
-        ensures len { length self.new ≡ length self.old + 1 }
+        ensures items { self.new ≡ byte ∷ self.old }
+        ensures len { length self.new ≡ 1 + length self.old }
     {
-        self.bytes[self.len] = byte;
-        self.len += 1;
+        self.start -= 1;
+        self.bytes[self.start] = byte;
     }
 
-    /// The bytes.
+    /// Puts a number that fits in front.
     #[inline(always)]
-    pub(crate) fn as_slice(&self) -> &[u8]
+    pub(crate) fn put_number(&mut self, number: u64)
+        requires { length (decimal number) + length self.old ≤ 320 }
+        ensures items { self.new ≡ decimal number ++ self.old }
+        ensures len { length self.new ≡ length (decimal number) + length self.old }
+    {
+        self.start = write_digits(number, &mut self.bytes, self.start);
+    }
+
+    /// Puts a number with its sign in front.
+    #[inline(always)]
+    pub(crate) fn put_signed(&mut self, number: i32)
+        requires { length self.old ≤ 300 }
+        ensures items { self.new ≡ signed_decimal number ++ self.old }
+        ensures len { length self.new ≤ 11 + length self.old }
+    {
+        self.put_number(u64::from(number.unsigned_abs()));
+        if number < 0 {
+            self.put_byte(b'-');
+        }
+    }
+
+    /// The bytes of the line.
+    #[inline(always)]
+    pub fn as_slice(&self) -> &[u8]
         ensures { result.now ≡ self.now }
     {
-        &self.bytes[..self.len]
+        &self.bytes[self.start..]
     }
 }

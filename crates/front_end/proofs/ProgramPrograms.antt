@@ -1,5 +1,6 @@
 -- The programs and the faults of texts, by those of trees, names and rules.
 use Rattle.std.proofs.Common.{◌≡◌, ℕ, List, refl, subst}
+use Rattle.out_of_memory.specs.Refused.{refused}
 use Rattle.syntax_tree.specs.declared.place.Place.{Place}
 use Rattle.syntax_tree.specs.Placed.{Prog}
 use Rattle.static_names.specs.Resolved.{IsNamed, IsFault as IsNameFault}
@@ -30,14 +31,14 @@ program_or_fault one apart text g number place is (of_rules m) = misruled one te
 
 -- ---- what `read` answers
 
-pub name_only : HasOneTree → (text : List ℕ) (t g : Prog Place) (fault : NameFault) → IsTreeOf text t → IsNameFault t fault → IsProgramOf text g → nominal fault ≡ Memory
+pub name_only : HasOneTree → (text : List ℕ) (t g : Prog Place) (fault : NameFault) → IsTreeOf text t → IsNameFault t fault → IsProgramOf text g → nominal fault ≡ Memory refused
 name_only one text t g (name_fault.Rule number place) tree first is = absurd (subst IsNamed (one text g t is.tree tree) is.checked.named number place first.broken)
-name_only one text t g name_fault.Memory tree first is = refl
+name_only one text t g (name_fault.Memory _) tree first is = refl
 
-pub rule_only : HasOneTree → (text : List ℕ) (t g : Prog Place) (fault : RuleFault) → IsTreeOf text t → IsRuleFault t fault → IsProgramOf text g → regular fault ≡ Memory
+pub rule_only : HasOneTree → (text : List ℕ) (t g : Prog Place) (fault : RuleFault) → IsTreeOf text t → IsRuleFault t fault → IsProgramOf text g → regular fault ≡ Memory refused
 rule_only one text t g (rule_fault.Rule number place) tree first is = absurd (subst (λ h. (n : ℕ) (p : Place) → ¬ Fails h n p) (one text g t is.tree tree) is.checked.checked number place first.broken)
-rule_only one text t g rule_fault.Memory tree first is = refl
+rule_only one text t g (rule_fault.Memory _) tree first is = refl
 
 pub rule_fault_is : (text : List ℕ) (t : Prog Place) (fault : RuleFault) → IsTreeOf text t → IsNamed t → IsRuleFault t fault → IsFaultOf text (regular fault)
 rule_fault_is text t (rule_fault.Rule number place) tree named first = of_rules (record { program = t; tree = tree; named = named; first = first })
-rule_fault_is text t rule_fault.Memory tree named first = tt
+rule_fault_is text t (rule_fault.Memory _) tree named first = tt

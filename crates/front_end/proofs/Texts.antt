@@ -1,6 +1,7 @@
 -- The tree and the faults of a text, by what the lexer and the parser say of it.
 use Rattle.std.proofs.Common.{◌≡◌, ℕ, List, ◌⊎◌, inl, inr, Result, Ok, Err, refl, ap, sym, ◌∙◌, subst}
 use Rattle.std.specs.Prelude.{IfErr, IsErrAnd, MatchResult}
+use Rattle.out_of_memory.specs.Refused.{refused}
 use Rattle.syntax_tree.specs.declared.place.Place.{Place}
 use Rattle.syntax_tree.specs.Placed.{Prog}
 use Rattle.syntax.specs.declared.fault.LexFault.{LexFault}
@@ -20,11 +21,11 @@ use Rattle.front_end.specs.ProgramLaws.{HasOneTree}
 
 -- ---- what `read_tree` answers
 
-pub only_lexical : {X : Type 0} (r : Result X SourceFault) (P : X → Type 0) (fault : LexFault) → IsErrAnd r (λ made. made ≡ lexical fault) → fault ≡ lex.Memory → MatchResult r P (λ f. f ≡ Memory)
+pub only_lexical : {X : Type 0} (r : Result X SourceFault) (P : X → Type 0) (fault : LexFault) → IsErrAnd r (λ made. made ≡ lexical fault) → fault ≡ lex.Memory refused → MatchResult r P (λ f. f ≡ Memory refused)
 only_lexical (Ok x) P fault made memory = absurd made
 only_lexical (Err e) P fault made memory = made ∙ ap lexical memory
 
-pub only_syntactic : {X : Type 0} (r : Result X SourceFault) (P : X → Type 0) (fault : SyntaxFault) → IsErrAnd r (λ made. made ≡ syntactic fault) → fault ≡ syn.Memory → MatchResult r P (λ f. f ≡ Memory)
+pub only_syntactic : {X : Type 0} (r : Result X SourceFault) (P : X → Type 0) (fault : SyntaxFault) → IsErrAnd r (λ made. made ≡ syntactic fault) → fault ≡ syn.Memory refused → MatchResult r P (λ f. f ≡ Memory refused)
 only_syntactic (Ok x) P fault made memory = absurd made
 only_syntactic (Err e) P fault made memory = made ∙ ap syntactic memory
 
@@ -32,27 +33,27 @@ only_syntactic (Err e) P fault made memory = made ∙ ap syntactic memory
 pub stands_as : {X : Type 0} (text : List ℕ) (toks : Tokens) (fault : SyntaxFault)
     → ((p : Place) → ◌≡◌ {A = Result X SyntaxFault} (Err fault) (Err (syn.Syntax p)) → StopsAt text toks p)
     → ((p : Place) → ◌≡◌ {A = Result X SyntaxFault} (Err fault) (Err (syn.Nesting p)) → OpensAt text toks.list p)
-    → ((p : Place) → OpensAt text toks.list p → ◌≡◌ {A = Result X SyntaxFault} (Err fault) (Err (syn.Nesting p)) ⊎ ◌≡◌ {A = Result X SyntaxFault} (Err fault) (Err syn.Memory))
+    → ((p : Place) → OpensAt text toks.list p → ◌≡◌ {A = Result X SyntaxFault} (Err fault) (Err (syn.Nesting p)) ⊎ ◌≡◌ {A = Result X SyntaxFault} (Err fault) (Err (syn.Memory refused)))
     → Stands text toks fault
 stands_as {X} text toks (syn.Syntax place) stops nesting deep = (stops place refl, λ p opens. by p (deep p opens))
   where
-    by : (p : Place) → ◌≡◌ {A = Result X SyntaxFault} (Err (syn.Syntax place)) (Err (syn.Nesting p)) ⊎ ◌≡◌ {A = Result X SyntaxFault} (Err (syn.Syntax place)) (Err syn.Memory) → ⊥
+    by : (p : Place) → ◌≡◌ {A = Result X SyntaxFault} (Err (syn.Syntax place)) (Err (syn.Nesting p)) ⊎ ◌≡◌ {A = Result X SyntaxFault} (Err (syn.Syntax place)) (Err (syn.Memory refused)) → ⊥
     by p (inl e) = cc
     by p (inr e) = cc
 stands_as text toks (syn.Nesting place) stops nesting deep = nesting place refl
-stands_as text toks syn.Memory stops nesting deep = tt
+stands_as text toks (syn.Memory _) stops nesting deep = tt
 
 -- the parser's fault is the text's
-parser_fault : (text : List ℕ) (toks : Tokens) (fault : SyntaxFault) → tokens text toks.list → IsEnd text toks.end → ((g : Prog Place) → tree text toks.list g → fault ≡ syn.Memory)
+parser_fault : (text : List ℕ) (toks : Tokens) (fault : SyntaxFault) → tokens text toks.list → IsEnd text toks.end → ((g : Prog Place) → tree text toks.list g → fault ≡ syn.Memory refused)
     → Stands text toks fault → IsSourceFaultOf text (syntactic fault)
 parser_fault text toks (syn.Syntax p) listed end only stands =
-    no_program refl (record { toks = toks; listed = listed; end = end; none = λ g grown. let e : ◌≡◌ {A = SyntaxFault} (syn.Syntax p) syn.Memory = only g grown in cc; stands = stands })
+    no_program refl (record { toks = toks; listed = listed; end = end; none = λ g grown. let e : ◌≡◌ {A = SyntaxFault} (syn.Syntax p) (syn.Memory refused) = only g grown in cc; stands = stands })
 parser_fault text toks (syn.Nesting p) listed end only stands =
-    too_deep refl (record { toks = toks; listed = listed; end = end; none = λ g grown. let e : ◌≡◌ {A = SyntaxFault} (syn.Nesting p) syn.Memory = only g grown in cc; stands = stands })
-parser_fault text toks syn.Memory listed end only stands = tt
+    too_deep refl (record { toks = toks; listed = listed; end = end; none = λ g grown. let e : ◌≡◌ {A = SyntaxFault} (syn.Nesting p) (syn.Memory refused) = only g grown in cc; stands = stands })
+parser_fault text toks (syn.Memory _) listed end only stands = tt
 
 pub syntactic_fault : {X : Type 0} (r : Result X SourceFault) (text : List ℕ) (toks : Tokens) (fault : SyntaxFault) → IsErrAnd r (λ made. made ≡ syntactic fault) → tokens text toks.list → IsEnd text toks.end
-    → ((g : Prog Place) → tree text toks.list g → fault ≡ syn.Memory) → Stands text toks fault → IfErr r (λ f. IsSourceFaultOf text f)
+    → ((g : Prog Place) → tree text toks.list g → fault ≡ syn.Memory refused) → Stands text toks fault → IfErr r (λ f. IsSourceFaultOf text f)
 syntactic_fault (Ok x) text toks fault made listed end only stands = tt
 syntactic_fault (Err e) text toks fault made listed end only stands = subst (IsSourceFaultOf text) (sym made) (parser_fault text toks fault listed end only stands)
 

@@ -43,14 +43,14 @@ pub data IsProgramFault (text : List ℕ) (number : ℕ) (place : Place) : Type 
 -- want of memory is no fault of a text
 abbrev pub IsFaultOf : List ℕ → SourceFault → Type 0
 IsFaultOf text (Fault number place) = IsProgramFault text number place
-IsFaultOf text Memory = Unit {0}
+IsFaultOf text (Memory _) = Unit {0}
 
 -- ---- what a fault of names and rules is told as
 
 abbrev pub nominal : NameFault → SourceFault
 nominal (name_fault.Rule number place) = Fault number place
-nominal name_fault.Memory = Memory
+nominal (name_fault.Memory e) = Memory e
 
 abbrev pub regular : RuleFault → SourceFault
 regular (rule_fault.Rule number place) = Fault number place
-regular rule_fault.Memory = Memory
+regular (rule_fault.Memory e) = Memory e

@@ -27,7 +27,7 @@ pub record IsTreeOf (text : List ℕ) (g : Prog Place) : Type 0 where
 abbrev pub Stands : List ℕ → Tokens → SyntaxFault → Type 0
 Stands text toks (syn.Syntax place) = StopsAt text toks place × ((p : Place) → ¬ OpensAt text toks.list p)
 Stands text toks (syn.Nesting place) = OpensAt text toks.list place
-Stands text toks syn.Memory = Unit {0}
+Stands text toks (syn.Memory _) = Unit {0}
 
 -- the text has tokens, they have no tree, and this is what the parser says of them
 pub record HasNoTree (text : List ℕ) (fault : SyntaxFault) : Type 0 where
@@ -57,7 +57,7 @@ pub data IsSourceFault (text : List ℕ) (number : ℕ) (place : Place) : Type 0
 -- want of memory is no fault of a text
 abbrev pub IsSourceFaultOf : List ℕ → SourceFault → Type 0
 IsSourceFaultOf text (Fault number place) = IsSourceFault text number place
-IsSourceFaultOf text Memory = Unit {0}
+IsSourceFaultOf text (Memory _) = Unit {0}
 
 -- ---- what a fault of the tokens and of the tree is told as
 
@@ -66,9 +66,9 @@ lexical (lex.Byte line col) = Fault 1 (record { line = line; col = col })
 lexical (lex.Literal line col) = Fault 2 (record { line = line; col = col })
 lexical (lex.Ident line col) = Fault 3 (record { line = line; col = col })
 lexical lex.Long = Fault 4 start
-lexical lex.Memory = Memory
+lexical (lex.Memory e) = Memory e
 
 abbrev pub syntactic : SyntaxFault → SourceFault
 syntactic (syn.Syntax place) = Fault 10 place
 syntactic (syn.Nesting place) = Fault 11 place
-syntactic syn.Memory = Memory
+syntactic (syn.Memory e) = Memory e

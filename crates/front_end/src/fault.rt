@@ -1,5 +1,6 @@
 //! Why a text was refused.
 
+use out_of_memory::OutOfMemory;
 use static_rule::rule;
 use syntax::LexFault;
 use syntax_parser::SyntaxFault;
@@ -16,7 +17,7 @@ pub enum SourceFault {
     Fault { number: u8, place: Place },
     /// There was not enough memory.
     #[error("out of memory")]
-    Memory,
+    Memory(OutOfMemory),
 }
 
 /// Where a fault of the whole text stands: the first line and byte.
@@ -46,7 +47,7 @@ impl From<LexFault> for SourceFault {
                 number: rule::LONG_TEXT,
                 place: START,
             },
-            LexFault::Memory => SourceFault::Memory,
+            LexFault::Memory(error) => SourceFault::Memory(error),
         }
     }
 }
@@ -67,7 +68,7 @@ impl From<SyntaxFault> for SourceFault {
                 number: rule::NESTING,
                 place,
             },
-            SyntaxFault::Memory => SourceFault::Memory,
+            SyntaxFault::Memory(error) => SourceFault::Memory(error),
         }
     }
 }

@@ -1,6 +1,7 @@
 //! Reading a program text.
 
 ghost use Rattle.std.specs.Prelude.{◌≡◌, IfOk, IfErr, MatchResult};
+ghost use Rattle.out_of_memory.specs.Refused.{refused};
 ghost use Rattle.syntax_tree.specs.Placed.{placed, Prog as SpecProg};
 ghost use Rattle.syntax_tree.specs.declared.place.Place.{Place as SpecPlace};
 ghost use Rattle.front_end.specs.Program.{IsProgramOf, IsFaultOf, nominal, regular};
@@ -18,7 +19,7 @@ fn of_names(fault: NameFault) -> SourceFault
 {
     match fault {
         NameFault::Rule { number, place } => SourceFault::Fault { number, place },
-        NameFault::Memory => SourceFault::Memory,
+        NameFault::Memory(error) => SourceFault::Memory(error),
     }
 }
 
@@ -28,7 +29,7 @@ fn of_rules(fault: RuleFault) -> SourceFault
 {
     match fault {
         RuleFault::Rule { number, place } => SourceFault::Fault { number, place },
-        RuleFault::Memory => SourceFault::Memory,
+        RuleFault::Memory(error) => SourceFault::Memory(error),
     }
 }
 
@@ -46,7 +47,7 @@ pub fn read(alloc: Global, text: &[u8]) -> Result<Checked, SourceFault>
     ensures found { IfOk result (λ c. IsProgramOf text.now (placed c)) }
     // A program of the text is read, unless memory runs out.
     ensures only { (g : SpecProg SpecPlace) → IsProgramOf text.now g →
-        MatchResult result (λ c. placed c ≡ g) (λ f. f ≡ SourceFault.Memory) }
+        MatchResult result (λ c. placed c ≡ g) (λ f. f ≡ SourceFault.Memory refused) }
     // A fault is the text's.
     ensures fault { IfErr result (λ f. IsFaultOf text.now f) }
 {

@@ -1,6 +1,7 @@
 //! Reading a text.
 
 ghost use Rattle.std.specs.Prelude.{◌≡◌, IfOk, IfErr, MatchResult};
+ghost use Rattle.out_of_memory.specs.Refused.{refused};
 ghost use Rattle.syntax_tree.specs.Placed.{placed, Prog as SpecProg};
 ghost use Rattle.syntax_tree.specs.declared.place.Place.{Place as SpecPlace};
 ghost use Rattle.front_end.specs.Source.{IsTreeOf, IsSourceFaultOf};
@@ -24,7 +25,7 @@ pub fn read_tree(alloc: Global, text: &[u8]) -> Result<Program, SourceFault>
     ensures found { IfOk result (λ g. IsTreeOf text.now (placed g)) }
     // A tree of the text is read, unless memory runs out.
     ensures only { (g : SpecProg SpecPlace) → IsTreeOf text.now g →
-        MatchResult result (λ p. placed p ≡ g) (λ f. f ≡ SourceFault.Memory) }
+        MatchResult result (λ p. placed p ≡ g) (λ f. f ≡ SourceFault.Memory refused) }
     // A fault is the text's.
     ensures fault { IfErr result (λ f. IsSourceFaultOf text.now f) }
 {

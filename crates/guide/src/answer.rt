@@ -1,14 +1,17 @@
 //! What a command puts.
 
+ghost use Rattle.std.specs.Prelude.{◌≡◌, [], IfOk};
+ghost use Rattle.outside.specs.Memory.{bytes_of};
+
 use command::whole_call;
 use outside::{MemorySink, RealFiles};
-use std::alloc::{AllocError, Global};
+use std::alloc::Global;
 use std::{fs, io};
 
 /// The bytes that the sink of a command takes.
 const ROOM: usize = 1_048_576;
 
-fn push_words(alloc: Global, words: &mut Vec<String>, line: &str) -> Result<(), AllocError> {
+fn push_words(alloc: Global, words: &mut Vec<String>, line: &str) -> io::Result<()> {
     for word in line.split_whitespace() {
         words.push(String::from_str(alloc, word)?)?;
     }
@@ -16,22 +19,32 @@ fn push_words(alloc: Global, words: &mut Vec<String>, line: &str) -> Result<(), 
 }
 
 /// The words of a line.
-fn words_of(alloc: Global, line: &str) -> Result<Vec<String>, AllocError> {
+fn words_of(alloc: Global, line: &str) -> io::Result<Vec<String>> {
     let mut words = Vec::new(alloc);
     push_words(alloc, &mut words, line)?;
     Ok(words)
 }
 
-fn push_bytes(alloc: Global, text: &mut String, bytes: &[u8]) -> Result<(), AllocError> {
+fn push_bytes(alloc: Global, text: &mut String, bytes: &[u8]) -> io::Result<()> {
     let part = String::from_utf8_lossy(alloc, bytes)?;
-    text.push_str(part.as_str())
+    Ok(text.push_str(part.as_str())?)
 }
 
 /// The one behind the other, as a text.
-fn joined(alloc: Global, put: &[u8], told: &[u8]) -> Result<String, AllocError> {
+fn joined(alloc: Global, put: &[u8], told: &[u8]) -> io::Result<String> {
     let mut all = String::from_utf8_lossy(alloc, put)?;
     push_bytes(alloc, &mut all, told)?;
     Ok(all)
+}
+
+/// A sink that has taken nothing.
+fn sink(alloc: Global) -> io::Result<MemorySink>
+    ensures { IfOk result (λ sink. bytes_of sink ≡ []) }
+{
+    match MemorySink::new(alloc, ROOM, Vec::new(alloc)) {
+        Ok(sink) => Ok(sink),
+        Err(_) => Err(io::Error::from(io::ErrorKind::OutOfMemory)),
+    }
 }
 
 /// What `rte` puts for these words, and then what it tells.
@@ -41,12 +54,12 @@ fn of_words<R: std::rt::Files + AllocGlobal>(
     status: &mut u8,
 ) -> io::Result<String> {
     let alloc = rt.alloc();
-    let out = MemorySink::new(alloc, ROOM, Vec::new(alloc))?;
-    let mut err = MemorySink::new(alloc, ROOM, Vec::new(alloc))?;
+    let out = sink(alloc)?;
+    let mut err = sink(alloc)?;
     let mut files = RealFiles::new(alloc, rt);
     let (ended, out) = whole_call(alloc, words, &mut files, out, &mut err);
     *status = ended.code();
-    Ok(joined(alloc, out.bytes(), err.bytes())?)
+    joined(alloc, out.bytes(), err.bytes())
 }
 
 /// What `rte` puts for these words, over the files of the system, and then what it tells a person. Its
@@ -67,7 +80,7 @@ fn push_kept(
     least: usize,
     most: usize,
     word: &str,
-) -> Result<(), AllocError> {
+) -> io::Result<()> {
     for line in text.lines().skip(least).take(most) {
         if line.contains(word) {
             all.push_str(line)?;
@@ -78,13 +91,7 @@ fn push_kept(
 }
 
 /// The lines of a text that the call keeps.
-fn kept(
-    alloc: Global,
-    text: &str,
-    least: usize,
-    most: usize,
-    word: &str,
-) -> Result<String, AllocError> {
+fn kept(alloc: Global, text: &str, least: usize, most: usize, word: &str) -> io::Result<String> {
     let mut all = String::new(alloc);
     push_kept(&mut all, text, least, most, word)?;
     Ok(all)
@@ -106,14 +113,14 @@ fn filtered<R: fs::Files + AllocGlobal>(rt: &R, text: &str, filter: &str) -> io:
     let alloc = rt.alloc();
     let all = text.lines().count();
     if let Some(word) = filter.strip_prefix("grep ") {
-        return Ok(kept(alloc, text, 0, all, word)?);
+        return kept(alloc, text, 0, all, word);
     }
     if let Some(number) = filter.strip_prefix("head -n ") {
-        return Ok(kept(alloc, text, 0, number.parse().unwrap_or(0), "")?);
+        return kept(alloc, text, 0, number.parse().unwrap_or(0), "");
     }
     if let Some(number) = filter.strip_prefix("tail -n ") {
         let number = number.parse().unwrap_or(0);
-        return Ok(kept(alloc, text, all.saturating_sub(number), all, "")?);
+        return kept(alloc, text, all.saturating_sub(number), all, "");
     }
     if let Some(name) = filter.strip_prefix("diff - ") {
         return difference(rt, text, name);

@@ -1,7 +1,7 @@
 //! A row of a table of faults.
 
 use crate::answer;
-use std::alloc::{AllocError, Global};
+use std::alloc::Global;
 use std::{fs, io};
 
 /// Where the texts of a row are written.
@@ -79,7 +79,7 @@ fn tells_place(
     place: &str,
     code: &str,
     told: &str,
-) -> Result<bool, AllocError> {
+) -> io::Result<bool> {
     let whole = format!(in alloc; "{TEXT}:{place}: {code}: {told}")?;
     Ok(first == whole.as_str())
 }
@@ -91,7 +91,7 @@ fn tells_line(
     numbers: &str,
     code: &str,
     told: &str,
-) -> Result<bool, AllocError> {
+) -> io::Result<bool> {
     let line = numbers.split(' ').next().unwrap_or("");
     let begin = format!(in alloc; "{TEXT}:{line}:")?;
     let end = format!(in alloc; ": {code}: {told}")?;
@@ -99,7 +99,7 @@ fn tells_line(
 }
 
 /// Whether the fault of a row is put, and then what a person is told of it.
-fn is_told(alloc: Global, row: Row<'_>, put: &str) -> Result<bool, AllocError> {
+fn is_told(alloc: Global, row: Row<'_>, put: &str) -> io::Result<bool> {
     let mut lines = put.lines();
     let (Some(fault), Some(first)) = (lines.next(), lines.next()) else {
         return Ok(false);

@@ -13,11 +13,12 @@ use crate::parts::{put_condition, put_device, put_event, put_monitor, put_proces
 use crate::raw::{RawImage, RawMonitor, RawProcess, RawRoutine};
 use image_format::{put_u16, put_u32};
 use machine_isa::{Instr, write_instr};
-use std::alloc::{AllocError, Global};
+use out_of_memory::OutOfMemory;
+use std::alloc::Global;
 use syntax_tree::Name;
 
 /// Puts how many parts of each kind there are.
-fn put_counts(out: &mut Vec<u8>, image: &RawImage) -> Result<(), AllocError>
+fn put_counts(out: &mut Vec<u8>, image: &RawImage) -> Result<(), OutOfMemory>
     requires { AreCounted image.now.names (image_of image.now) }
     ensures { OnOk result (out.new.items ≡ out.old.items ++
         counts_bytes image.now.names (image_of image.now)) }
@@ -33,7 +34,7 @@ fn put_counts(out: &mut Vec<u8>, image: &RawImage) -> Result<(), AllocError>
 }
 
 /// Puts the number of the version, and the overhead.
-fn put_version(out: &mut Vec<u8>, overhead: u16) -> Result<(), AllocError>
+fn put_version(out: &mut Vec<u8>, overhead: u16) -> Result<(), OutOfMemory>
     ensures { OnOk result (out.new.items ≡ out.old.items ++ version_bytes Second overhead) }
 {
     put_u16(out, 2)?;
@@ -42,7 +43,7 @@ fn put_version(out: &mut Vec<u8>, overhead: u16) -> Result<(), AllocError>
 }
 
 /// Puts the letters, the version, the overhead, the counts and the program's name.
-fn put_head(out: &mut Vec<u8>, image: &RawImage) -> Result<(), AllocError>
+fn put_head(out: &mut Vec<u8>, image: &RawImage) -> Result<(), OutOfMemory>
     requires counts { AreCounted image.now.names (image_of image.now) }
     requires program { IsShort image.now.program }
     ensures { OnOk result (out.new.items ≡ out.old.items ++
@@ -56,7 +57,7 @@ fn put_head(out: &mut Vec<u8>, image: &RawImage) -> Result<(), AllocError>
 }
 
 /// Puts the devices.
-fn put_devices(out: &mut Vec<u8>, devices: &[DeviceName]) -> Result<(), AllocError>
+fn put_devices(out: &mut Vec<u8>, devices: &[DeviceName]) -> Result<(), OutOfMemory>
     requires { All (λ d. IsShort d.name) devices.now }
     ensures { OnOk result (out.new.items ≡ out.old.items ++ flat_map device_bytes devices.now) }
 {
@@ -67,7 +68,7 @@ fn put_devices(out: &mut Vec<u8>, devices: &[DeviceName]) -> Result<(), AllocErr
 }
 
 /// Puts the events.
-fn put_events(out: &mut Vec<u8>, events: &[EventName]) -> Result<(), AllocError>
+fn put_events(out: &mut Vec<u8>, events: &[EventName]) -> Result<(), OutOfMemory>
     requires { All (λ e. IsShort e.name) events.now }
     ensures { OnOk result (out.new.items ≡ out.old.items ++ flat_map event_bytes events.now) }
 {
@@ -78,7 +79,7 @@ fn put_events(out: &mut Vec<u8>, events: &[EventName]) -> Result<(), AllocError>
 }
 
 /// Puts the conditions.
-fn put_conditions(out: &mut Vec<u8>, conditions: &[ConditionName]) -> Result<(), AllocError>
+fn put_conditions(out: &mut Vec<u8>, conditions: &[ConditionName]) -> Result<(), OutOfMemory>
     requires { All (λ c. IsShort c.name) conditions.now }
     ensures { OnOk result (out.new.items ≡ out.old.items ++
         flat_map condition_bytes conditions.now) }
@@ -94,7 +95,7 @@ fn put_monitors(
     out: &mut Vec<u8>,
     names: &[Name],
     monitors: &[RawMonitor],
-) -> Result<(), AllocError>
+) -> Result<(), OutOfMemory>
     requires each { length names.now ≡ length monitors.now }
     requires short { All IsShort names.now }
     ensures { OnOk result (out.new.items ≡ out.old.items ++
@@ -107,7 +108,7 @@ fn put_monitors(
 }
 
 /// Puts the routines.
-fn put_routines(out: &mut Vec<u8>, routines: &[RawRoutine]) -> Result<(), AllocError>
+fn put_routines(out: &mut Vec<u8>, routines: &[RawRoutine]) -> Result<(), OutOfMemory>
     ensures { OnOk result (out.new.items ≡ out.old.items ++
         flat_map routine_bytes (map routine_of routines.now)) }
 {
@@ -122,7 +123,7 @@ fn put_processes(
     out: &mut Vec<u8>,
     names: &[Name],
     processes: &[RawProcess],
-) -> Result<(), AllocError>
+) -> Result<(), OutOfMemory>
     requires each { length names.now ≡ length processes.now }
     requires short { All IsShort names.now }
     requires in_range { All IsProcessInRange (map process_of processes.now) }
@@ -136,7 +137,7 @@ fn put_processes(
 }
 
 /// Puts the instructions.
-fn put_code(out: &mut Vec<u8>, code: &[Instr]) -> Result<(), AllocError>
+fn put_code(out: &mut Vec<u8>, code: &[Instr]) -> Result<(), OutOfMemory>
     ensures { OnOk result (out.new.items ≡ out.old.items ++ flat_map instr_bytes code.now) }
 {
     for instr in code {
@@ -146,7 +147,7 @@ fn put_code(out: &mut Vec<u8>, code: &[Instr]) -> Result<(), AllocError>
 }
 
 /// Puts the devices, the events, the monitors and the conditions.
-fn put_named(out: &mut Vec<u8>, image: &RawImage) -> Result<(), AllocError>
+fn put_named(out: &mut Vec<u8>, image: &RawImage) -> Result<(), OutOfMemory>
     requires { AreNamed image.now.names (image_of image.now) }
     ensures { OnOk result (out.new.items ≡ out.old.items ++
         names_bytes image.now.names (map monitor_of image.now.monitors)) }
@@ -162,7 +163,7 @@ fn put_named(out: &mut Vec<u8>, image: &RawImage) -> Result<(), AllocError>
 /// The bytes of an image, version 2, as a file holds them, all numbers with the highest byte first.
 /// The counts must fit their fields, and each process and monitor have a name. An error says that
 /// memory is short.
-pub fn write_image(alloc: Global, image: &RawImage) -> Result<Vec<u8>, AllocError>
+pub fn write_image(alloc: Global, image: &RawImage) -> Result<Vec<u8>, OutOfMemory>
     requires { IsInRange (named_of image.now) }
     ensures { IfOk result (λ bytes. bytes.items ≡ bytes_of Second (named_of image.now)) }
 {

@@ -4,11 +4,11 @@ ghost use Rattle.std.specs.Prelude.{◌≡◌, ◌++◌, ◌<◌, ◌^◌, lengt
 ghost use Rattle.image_format.specs.Numbers.{flag, name_bytes};
 
 use image_format::put_u8;
-use std::alloc::AllocError;
+use out_of_memory::OutOfMemory;
 use syntax_tree::Name;
 
 /// Puts 1 for true and 0 for false.
-pub fn put_flag(out: &mut Vec<u8>, holds: bool) -> Result<(), AllocError>
+pub fn put_flag(out: &mut Vec<u8>, holds: bool) -> Result<(), OutOfMemory>
     ensures { OnOk result (out.new.items ≡ out.old.items ++ flag holds) }
 {
     put_u8(out, if holds { 1 } else { 0 })?;
@@ -16,7 +16,7 @@ pub fn put_flag(out: &mut Vec<u8>, holds: bool) -> Result<(), AllocError>
 }
 
 /// Puts a name after the byte of its length.
-pub fn put_name(out: &mut Vec<u8>, name: &Name) -> Result<(), AllocError>
+pub fn put_name(out: &mut Vec<u8>, name: &Name) -> Result<(), OutOfMemory>
     requires { length name.now < 2 ^ 8 }
     ensures { OnOk result (out.new.items ≡ out.old.items ++ name_bytes name.now) }
 {

@@ -10,11 +10,11 @@ use crate::names::{ConditionName, DeviceName, EventName};
 use crate::numbers::{put_flag, put_name};
 use crate::raw::{RawMonitor, RawProcess, RawRoutine};
 use image_format::{SegTree, put_u8, put_u16, put_u32};
-use std::alloc::AllocError;
+use out_of_memory::OutOfMemory;
 use syntax_tree::Name;
 
 /// Puts a device.
-pub fn put_device(out: &mut Vec<u8>, device: &DeviceName) -> Result<(), AllocError>
+pub fn put_device(out: &mut Vec<u8>, device: &DeviceName) -> Result<(), OutOfMemory>
     requires { IsShort device.now.name }
     ensures { OnOk result (out.new.items ≡ out.old.items ++ device_bytes device.now) }
 {
@@ -24,7 +24,7 @@ pub fn put_device(out: &mut Vec<u8>, device: &DeviceName) -> Result<(), AllocErr
 }
 
 /// Puts an event.
-pub fn put_event(out: &mut Vec<u8>, event: &EventName) -> Result<(), AllocError>
+pub fn put_event(out: &mut Vec<u8>, event: &EventName) -> Result<(), OutOfMemory>
     requires { IsShort event.now.name }
     ensures { OnOk result (out.new.items ≡ out.old.items ++ event_bytes event.now) }
 {
@@ -33,7 +33,7 @@ pub fn put_event(out: &mut Vec<u8>, event: &EventName) -> Result<(), AllocError>
 }
 
 /// Puts a condition.
-pub fn put_condition(out: &mut Vec<u8>, condition: &ConditionName) -> Result<(), AllocError>
+pub fn put_condition(out: &mut Vec<u8>, condition: &ConditionName) -> Result<(), OutOfMemory>
     requires { IsShort condition.now.name }
     ensures { OnOk result (out.new.items ≡ out.old.items ++ condition_bytes condition.now) }
 {
@@ -43,7 +43,7 @@ pub fn put_condition(out: &mut Vec<u8>, condition: &ConditionName) -> Result<(),
 }
 
 /// Puts a monitor after its name.
-pub fn put_monitor(out: &mut Vec<u8>, name: &Name, monitor: &RawMonitor) -> Result<(), AllocError>
+pub fn put_monitor(out: &mut Vec<u8>, name: &Name, monitor: &RawMonitor) -> Result<(), OutOfMemory>
     requires { IsShort name.now }
     ensures { OnOk result (out.new.items ≡ out.old.items ++
         monitor_bytes name.now (monitor_of monitor.now)) }
@@ -56,7 +56,7 @@ pub fn put_monitor(out: &mut Vec<u8>, name: &Name, monitor: &RawMonitor) -> Resu
 }
 
 /// Puts whose a routine is, its parameters and locals, and whether it has a result.
-fn put_owner(out: &mut Vec<u8>, routine: &RawRoutine) -> Result<(), AllocError>
+fn put_owner(out: &mut Vec<u8>, routine: &RawRoutine) -> Result<(), OutOfMemory>
     ensures { OnOk result (out.new.items ≡ out.old.items ++ owner_bytes (routine_of routine.now)) }
 {
     put_u8(out, routine.kind)?;
@@ -68,7 +68,7 @@ fn put_owner(out: &mut Vec<u8>, routine: &RawRoutine) -> Result<(), AllocError>
 }
 
 /// Puts where the code of a routine stands, and what it takes of time.
-fn put_cost(out: &mut Vec<u8>, routine: &RawRoutine) -> Result<(), AllocError>
+fn put_cost(out: &mut Vec<u8>, routine: &RawRoutine) -> Result<(), OutOfMemory>
     ensures { OnOk result (out.new.items ≡ out.old.items ++ cost_bytes (routine_of routine.now)) }
 {
     put_u32(out, routine.start)?;
@@ -80,7 +80,7 @@ fn put_cost(out: &mut Vec<u8>, routine: &RawRoutine) -> Result<(), AllocError>
 }
 
 /// Puts a tree.
-fn put_tree(out: &mut Vec<u8>, tree: &SegTree) -> Result<(), AllocError>
+fn put_tree(out: &mut Vec<u8>, tree: &SegTree) -> Result<(), OutOfMemory>
     ensures { OnOk result (out.new.items ≡ out.old.items ++ tree_bytes tree.now) }
 {
     out.extend_from_slice(tree.bytes())?;
@@ -88,7 +88,7 @@ fn put_tree(out: &mut Vec<u8>, tree: &SegTree) -> Result<(), AllocError>
 }
 
 /// Puts a routine.
-pub fn put_routine(out: &mut Vec<u8>, routine: &RawRoutine) -> Result<(), AllocError>
+pub fn put_routine(out: &mut Vec<u8>, routine: &RawRoutine) -> Result<(), OutOfMemory>
     ensures { OnOk result (out.new.items ≡ out.old.items ++
         routine_bytes (routine_of routine.now)) }
 {
@@ -99,7 +99,7 @@ pub fn put_routine(out: &mut Vec<u8>, routine: &RawRoutine) -> Result<(), AllocE
 }
 
 /// Puts when a process is released, within what it has to end, and its rank.
-fn put_release(out: &mut Vec<u8>, process: &RawProcess) -> Result<(), AllocError>
+fn put_release(out: &mut Vec<u8>, process: &RawProcess) -> Result<(), OutOfMemory>
     ensures { OnOk result (out.new.items ≡ out.old.items ++
         release_bytes Second (process_of process.now)) }
 {
@@ -113,7 +113,7 @@ fn put_release(out: &mut Vec<u8>, process: &RawProcess) -> Result<(), AllocError
 }
 
 /// Puts what a process takes of time.
-fn put_time(out: &mut Vec<u8>, process: &RawProcess) -> Result<(), AllocError>
+fn put_time(out: &mut Vec<u8>, process: &RawProcess) -> Result<(), OutOfMemory>
     ensures { OnOk result (out.new.items ≡ out.old.items ++ time_bytes (process_of process.now)) }
 {
     put_u32(out, process.run)?;
@@ -125,7 +125,7 @@ fn put_time(out: &mut Vec<u8>, process: &RawProcess) -> Result<(), AllocError>
 }
 
 /// Puts what a process takes of memory, and where its code stands.
-fn put_room(out: &mut Vec<u8>, process: &RawProcess) -> Result<(), AllocError>
+fn put_room(out: &mut Vec<u8>, process: &RawProcess) -> Result<(), OutOfMemory>
     ensures { OnOk result (out.new.items ≡ out.old.items ++ room_bytes (process_of process.now)) }
 {
     put_u32(out, process.words)?;
@@ -137,7 +137,7 @@ fn put_room(out: &mut Vec<u8>, process: &RawProcess) -> Result<(), AllocError>
 }
 
 /// Puts how many numbers a handler takes, and these numbers.
-fn put_numbers(out: &mut Vec<u8>, numbers: &[u16]) -> Result<(), AllocError>
+fn put_numbers(out: &mut Vec<u8>, numbers: &[u16]) -> Result<(), OutOfMemory>
     requires { length numbers.now < 2 ^ 16 }
     ensures { OnOk result (out.new.items ≡ out.old.items ++ numbers_bytes numbers.now) }
 {
@@ -149,7 +149,7 @@ fn put_numbers(out: &mut Vec<u8>, numbers: &[u16]) -> Result<(), AllocError>
 }
 
 /// Puts the tree of the handler of a process that has one.
-fn put_handler(out: &mut Vec<u8>, process: &RawProcess) -> Result<(), AllocError>
+fn put_handler(out: &mut Vec<u8>, process: &RawProcess) -> Result<(), OutOfMemory>
     ensures { OnOk result (out.new.items ≡ out.old.items ++
         handler_bytes process.now.numbers (process_of process.now).handler_tree) }
 {
@@ -161,7 +161,7 @@ fn put_handler(out: &mut Vec<u8>, process: &RawProcess) -> Result<(), AllocError
 }
 
 /// Puts a process after its name.
-pub fn put_process(out: &mut Vec<u8>, name: &Name, process: &RawProcess) -> Result<(), AllocError>
+pub fn put_process(out: &mut Vec<u8>, name: &Name, process: &RawProcess) -> Result<(), OutOfMemory>
     requires named { IsShort name.now }
     requires in_range { IsProcessInRange (process_of process.now) }
     ensures { OnOk result (out.new.items ≡ out.old.items ++

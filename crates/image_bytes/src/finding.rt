@@ -13,7 +13,8 @@ use crate::lists::{monitors_from, processes_from, routines_from};
 use crate::names::{after_conditions, after_devices, after_events, after_name};
 use crate::places::PartOffsets;
 use image::RawImage;
-use std::alloc::{AllocError, Global};
+use out_of_memory::OutOfMemory;
+use std::alloc::Global;
 
 /// So many bytes stand before the program's name: the letters, the version, the overhead and the
 /// counts.
@@ -31,7 +32,7 @@ fn after_opening(raw: &RawImage) -> usize
 
 /// Where the parts of an image begin in the bytes that are written of it, which are fewer than
 /// 2^64. The places follow from the image. An error says that memory is short.
-pub fn places_of(alloc: Global, raw: &RawImage) -> Result<PartOffsets, AllocError>
+pub fn places_of(alloc: Global, raw: &RawImage) -> Result<PartOffsets, OutOfMemory>
     requires limits { HasLimits (image_of raw.now) }
     requires written { IsInRange (named_of raw.now) }
     requires room { length (bytes_of Second (named_of raw.now)) < 2 ^ 64 }

@@ -11,7 +11,8 @@ use crate::reading::{bytes_from, instr_bytes_at, monitor_at};
 use crate::{PartOffsets, ProcessRef, RoutineRef, places_of, process_at, routine_at};
 use image::{ImageNames, RawImage, RawMonitor, write_image};
 use machine_isa::{Instr, read_instr};
-use std::alloc::{AllocError, Global};
+use out_of_memory::OutOfMemory;
+use std::alloc::Global;
 use std::marker::Model;
 use syntax_tree::Name;
 
@@ -44,7 +45,7 @@ impl Model for ImageBytes {
 impl ImageBytes {
     /// The image of these numbers, which have to be in the ranges of their fields, as those of
     /// every image that `read_image` gives. An error says that memory is short.
-    pub fn of(alloc: Global, raw: RawImage) -> Result<ImageBytes, AllocError>
+    pub fn of(alloc: Global, raw: RawImage) -> Result<ImageBytes, OutOfMemory>
         requires limits { HasLimits (image_of raw) }
         requires written { IsInRange (named_of raw) }
         ensures { IfOk result (λ image. image ≡ named_of raw) }
@@ -54,7 +55,7 @@ impl ImageBytes {
     }
 
     /// The image of these numbers, likewise, where its bytes are there already. It keeps them.
-    pub fn keeping(alloc: Global, bytes: Vec<u8>, raw: RawImage) -> Result<ImageBytes, AllocError>
+    pub fn keeping(alloc: Global, bytes: Vec<u8>, raw: RawImage) -> Result<ImageBytes, OutOfMemory>
         requires limits { HasLimits (image_of raw) }
         requires written { IsInRange (named_of raw) }
         requires bytes { bytes.items ≡ bytes_of Second (named_of raw) }

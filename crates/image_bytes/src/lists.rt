@@ -14,7 +14,8 @@ use crate::names::after_name;
 use crate::parts::{after_process, after_routine};
 use crate::{monitor_is_read, process_is_read, routine_is_read};
 use image::{RawMonitor, RawProcess, RawRoutine};
-use std::alloc::{AllocError, Global};
+use out_of_memory::OutOfMemory;
+use std::alloc::Global;
 use syntax_tree::{List, Name};
 
 /// So many bytes of a monitor stand after its name.
@@ -26,7 +27,7 @@ pub(crate) fn monitors_from(
     start: usize,
     names: &[Name],
     monitors: &[RawMonitor],
-) -> Result<(List<usize>, usize), AllocError>
+) -> Result<(List<usize>, usize), OutOfMemory>
     requires each { length names.now ≡ length monitors.now }
     requires room { HasEnd start (monitors_bytes names.now (map monitor_of monitors.now)) }
     ensures places { IfOk result (λ x. AreAmong monitor_format start
@@ -51,7 +52,7 @@ pub(crate) fn routines_from(
     alloc: Global,
     start: usize,
     routines: &[RawRoutine],
-) -> Result<(List<usize>, usize), AllocError>
+) -> Result<(List<usize>, usize), OutOfMemory>
     requires { HasEnd start (flat_map routine_bytes (map routine_of routines.now)) }
     ensures places { IfOk result (λ x. AreAmong routine_fields start
         (flat_map routine_bytes (map routine_of routines.now)) x.0
@@ -75,7 +76,7 @@ pub(crate) fn processes_from(
     start: usize,
     names: &[Name],
     processes: &[RawProcess],
-) -> Result<(List<usize>, usize), AllocError>
+) -> Result<(List<usize>, usize), OutOfMemory>
     requires each { length names.now ≡ length processes.now }
     requires handlers { All (λ p. HasHandler p p.handler_tree) (map process_of processes.now) }
     requires in_range { All IsProcessInRange (map process_of processes.now) }

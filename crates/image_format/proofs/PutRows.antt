@@ -1,5 +1,5 @@
 -- Rows of segments as they are put.
-use Rattle.std.proofs.Common.{◌<◌, ◌^◌, ◌+◌, suc, true, ◌≡◌, ◌≤◌, ◌++◌, ℕ, List, [], ◌∷◌, length, drop, refl, sym, ◌∙◌, ap, subst, arith, append_assoc, append-nil}
+use Rattle.std.proofs.Common.{◌<◌, ◌^◌, ◌-◌, suc, true, ◌≡◌, ◌≤◌, ◌++◌, ℕ, List, [], ◌∷◌, length, drop, refl, sym, ◌∙◌, ap, subst, arith, append_assoc, append-nil}
 use Rattle.std.specs.Prelude.{nat_lt}
 use Rattle.std.proofs.lemmas.List.{drop_all}
 use Rattle.std.proofs.lemmas.Bool.{lt-ltb}
@@ -25,13 +25,13 @@ tree_written out start counted segs i past counted-is written =
     sym (append-nil out) ∙ whole ∙ ap (λ (xs : List ℕ). xs ++ segs_bytes (views segs)) counted-is ∙ append_assoc start (u32 (length segs)) (segs_bytes (views segs)) ∙ ap (λ (xs : List ℕ). start ++ xs) (sym rows)
 
 -- a tree whose segments all fit nests one deeper
-pub tree_fits : (depth below count : ℕ) (segs : List Seg) (i : ℕ) → depth ≡ below + 1 → length segs ≡ count → count < 2 ^ 32 → length segs ≤ i
-    → segs_is (seg_format (within_limits widest) (any_tree below)) (views (drop i segs)) ≡ segs_is (seg_format (within_limits widest) (any_tree below)) (views segs) → (any_tree depth).is (views segs) ≡ true
+pub tree_fits : (depth : ℕ) (segs : List Seg) (i : ℕ) → 0 < depth → row (views segs) < 2 ^ 32 → length segs ≤ i
+    → segs_is (seg_format (within_limits widest) (any_tree (depth - 1))) (views (drop i segs)) ≡ segs_is (seg_format (within_limits widest) (any_tree (depth - 1))) (views segs) → (any_tree depth).is (views segs) ≡ true
 unfolding tree_format
-tree_fits depth below count segs i deep long fits past so_far =
-    let one = seg_format (within_limits widest) (any_tree below) in
+tree_fits depth segs i deep fits past so_far =
+    let one = seg_format (within_limits widest) (any_tree (depth - 1)) in
     let none : drop i segs ≡ [] = drop_all i segs past in
     let all : segs_is one (views segs) ≡ true = sym so_far ∙ ap (λ xs. segs_is one (views xs)) none in
-    let few : nat_lt (row (views segs)) (2 ^ 32) ≡ true = lt-ltb (row (views segs)) (2 ^ 32) (omega (arith, row-views segs, long, fits)) in
-    let is_suc : depth ≡ suc below = omega (arith, deep) in
+    let few : nat_lt (row (views segs)) (2 ^ 32) ≡ true = lt-ltb (row (views segs)) (2 ^ 32) fits in
+    let is_suc : depth ≡ suc (depth - 1) = omega (arith, deep) in
     ap (λ d. (any_tree d).is (views segs)) is_suc ∙ together (nat_lt (row (views segs)) (2 ^ 32)) (segs_is one (views segs)) few all

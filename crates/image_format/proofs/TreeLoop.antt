@@ -50,7 +50,7 @@ goes_on f front count i bytes t after total lt h so_far =
 pub ends : (f : Format tree.Seg) (e : ReadError) (front : Segs) (count i : ℕ) (bytes : List ℕ) (total : Read Segs) → i < count → Fails e (f.read bytes)
     → with_front front (segs_read f (count - i) bytes) ≡ total → Fails e total
 unfolding segs_read
-ends f errors.Memory front count i bytes total lt h so_far = tt
+ends f (errors.Memory _) front count i bytes total lt h so_far = tt
 ends f (errors.Fault x) front count i bytes total lt h so_far =
     let k : count - i ≡ suc (count - (i + 1)) = omega arith in
     let one : with_front front (segs_read f (count - i) bytes) ≡ Err x = rw (k, h) refl in

@@ -6,7 +6,7 @@ use Rattle.image_format.specs.declared.fault.ByteFault.{ByteFault}
 
 -- want of memory says nothing; a fault is the one that reading gives
 abbrev pub Fails : {Y : Type 0} → ReadError → Result Y ByteFault → Type 0
-Fails errors.Memory read = Unit {0}
+Fails (errors.Memory _) read = Unit {0}
 Fails (errors.Fault f) read = read ≡ Err f
 
 -- the answer is what reading gives, in view

@@ -1,5 +1,5 @@
 -- Segment trees as bytes: the number of segments, and each segment by its tag.
-use Rattle.std.specs.Prelude.{◌+◌, ◌++◌, ℕ, List, [], ◌∷◌}
+use Rattle.std.specs.Prelude.{◌<◌, ◌+◌, ◌^◌, ◌++◌, ℕ, List, [], ◌∷◌}
 use Rattle.machine_semantics.specs.Trees.{Seg, Line, Fork, Rep, Call, Stay, Wait, Exit, Segs, Nil, Cons}
 use Rattle.image_format.specs.Numbers.{u16, u32}
 
@@ -11,6 +11,29 @@ row (Cons head rest) = 1 + row rest
 -- the number of segments, before their bytes
 abbrev pub counted : Segs → List ℕ → List ℕ
 counted tree segments = u32 (row tree) ++ segments
+
+-- the number of segments side by side fits its four bytes
+abbrev pub IsCounted : Segs → Type 0
+IsCounted tree = row tree < 2 ^ 32
+
+-- so does that of each tree inside a segment, and inside segments side by side
+abbrev mutual
+  pub InnerRowsFit : Seg → Type 0
+  InnerRowsFit (Line count) = Unit {0}
+  InnerRowsFit (Fork first second) = (IsCounted first × AllRowsFit first) × (IsCounted second × AllRowsFit second)
+  InnerRowsFit (Rep turns body) = IsCounted body × AllRowsFit body
+  InnerRowsFit (Call routine) = Unit {0}
+  InnerRowsFit (Stay monitor body) = IsCounted body × AllRowsFit body
+  InnerRowsFit Wait = Unit {0}
+  InnerRowsFit Exit = Unit {0}
+
+  pub AllRowsFit : Segs → Type 0
+  AllRowsFit Nil = Unit {0}
+  AllRowsFit (Cons head rest) = InnerRowsFit head × AllRowsFit rest
+
+-- each number of segments in a tree fits its four bytes
+abbrev pub RowsFit : Segs → Type 0
+RowsFit tree = IsCounted tree × AllRowsFit tree
 
 -- a segment by its tag, its numbers and its trees; segments side by side
 abbrev mutual

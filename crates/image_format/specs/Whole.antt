@@ -10,9 +10,9 @@ use Rattle.image_format.specs.Rows.{row_in}
 abbrev pub any_tree : (depth : ℕ) → Format Segs
 any_tree depth = tree_format (within_limits widest) depth
 
--- how deep trees that are kept may nest
+-- how deep trees that are kept may nest: each level takes four bytes, and there are never 2 ^ 64
 abbrev pub deepest_kept : ℕ
-deepest_kept = 4294967295
+deepest_kept = 4611686018427387904
 
 -- the tree that bytes are read as
 unfoldable pub tree_of : (depth : ℕ) → List ℕ → Segs

@@ -1,9 +1,11 @@
 //! Why bytes are none of a thing.
 
 ghost use Rattle.std.specs.Prelude.{◌≡◌};
+ghost use Rattle.out_of_memory.specs.Refused.{refused};
 ghost use Rattle.image_format.specs.declared.fault.ReadError.TheVariants.{Fault as Wrong, Memory};
 
-use std::alloc::{AllocError, AllocFailed};
+use out_of_memory::OutOfMemory;
+use std::alloc::AllocFailed;
 
 /// What is wrong with bytes, and how many are left from its place on.
 #[derive(Clone, Copy, Debug)]
@@ -15,23 +17,23 @@ pub struct ByteFault {
 /// Why a part was not read.
 #[derive(Drop)]
 pub enum ReadError {
-    Memory,
+    Memory(OutOfMemory),
     Fault(ByteFault),
 }
 
-impl From<AllocError> for ReadError {
-    ghost from_gives = { λ _ e. e ≡ Memory };
+impl From<OutOfMemory> for ReadError {
+    ghost from_gives = { λ _ e. e ≡ Memory refused };
 
-    fn from(_e: AllocError) -> ReadError {
-        ReadError::Memory
+    fn from(error: OutOfMemory) -> ReadError {
+        ReadError::Memory(error)
     }
 }
 
 impl<T: Drop> From<AllocFailed<T>> for ReadError {
-    ghost from_gives = { λ _ e. e ≡ Memory };
+    ghost from_gives = { λ _ e. e ≡ Memory refused };
 
-    fn from(_e: AllocFailed<T>) -> ReadError {
-        ReadError::Memory
+    fn from(error: AllocFailed<T>) -> ReadError {
+        ReadError::Memory(OutOfMemory::from(error))
     }
 }
 

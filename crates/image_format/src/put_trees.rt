@@ -1,17 +1,22 @@
 //! Segment trees at the end of a buffer. After an error the buffer may hold a part of one.
+//!
+//! How deep a tree may nest is never met: each level puts four bytes before the next, and a buffer
+//! has fewer than 2^64.
 
-ghost use Rattle.std.specs.Prelude.{◌≡◌, ◌++◌, true, OnOk};
+ghost use Rattle.std.specs.Prelude.{◌≡◌, ◌≤◌, ◌+◌, ◌*◌, ◌^◌, ◌++◌, true, OnOk, length};
 ghost use Rattle.image_format.specs.View.{view, views};
-ghost use Rattle.image_format.specs.TreeBytes.{seg_bytes, tree_bytes};
+ghost use Rattle.image_format.specs.TreeBytes.{InnerRowsFit, RowsFit, seg_bytes, tree_bytes};
 ghost use Rattle.image_format.specs.TreeFormat.{seg_is, widest, within_limits};
 ghost use Rattle.image_format.specs.Whole.{any_tree};
 
 use crate::{Seg, put_u8, put_u16, put_u32};
-use std::alloc::AllocError;
+use out_of_memory::OutOfMemory;
 
 /// Puts a segment: its tag, its numbers and its trees, which nest at most so deep.
 #[cycle(trees)]
-fn put_seg(out: &mut Vec<u8>, depth: u32, seg: &Seg) -> Result<(), AllocError>
+fn put_seg(out: &mut Vec<u8>, depth: u64, seg: &Seg) -> Result<(), OutOfMemory>
+    requires rows { InnerRowsFit (view seg.now) }
+    requires room { 2 ^ 64 ≤ 4 * depth + length out.now.items }
     ensures written { OnOk result (out.new.items ≡ out.old.items ++ seg_bytes (view seg.now)) }
     ensures fits { OnOk result (seg_is (within_limits widest) (any_tree depth) (view seg.now) ≡
         true) }
@@ -46,17 +51,17 @@ fn put_seg(out: &mut Vec<u8>, depth: u32, seg: &Seg) -> Result<(), AllocError>
     Ok(())
 }
 
-/// Puts a tree: the number of its segments, and each of them. One that nests deeper, or has more
-/// than 4,294,967,295 segments side by side, is refused as one for which there is no memory.
+/// Puts a tree: the number of its segments, and each of them.
 #[cycle(trees)]
-pub(crate) fn put_tree(out: &mut Vec<u8>, depth: u32, tree: &[Seg]) -> Result<(), AllocError>
+pub(crate) fn put_tree(out: &mut Vec<u8>, depth: u64, tree: &[Seg]) -> Result<(), OutOfMemory>
+    requires rows { RowsFit (views tree.now) }
+    requires room { 2 ^ 64 ≤ 4 * depth + length out.now.items }
     ensures written { OnOk result (out.new.items ≡ out.old.items ++ tree_bytes (views tree.now)) }
     ensures fits { OnOk result ((any_tree depth).is (views tree.now) ≡ true) }
 {
-    let (Some(below), Ok(count)) = (depth.checked_sub(1), u32::try_from(tree.len())) else {
-        return Err(AllocError);
-    };
-    put_u32(out, count)?;
+    let _bytes = out.len();
+    let below = depth - 1;
+    put_u32(out, tree.len() as u32)?;
     for seg in tree {
         put_seg(out, below, seg)?;
     }

@@ -10,14 +10,14 @@ use crate::view::{SegBytes, SegItem};
 use crate::{ByteFault, Limits, refusal, u8_at, u16_at, u16_below, u32_at, u32_within};
 
 /// How deep the trees of an image nest at most.
-pub const DEEPEST: u32 = 130;
+pub const DEEPEST: u64 = 130;
 
 /// The segment of a tag, whose fields the bytes begin with; `left` counts them and the tag. Its
 /// trees nest at most so deep.
 #[cycle(trees)]
 fn tagged_at(
     limits: Limits,
-    depth: u32,
+    depth: u64,
     tag: u8,
     left: usize,
     bytes: &[u8],
@@ -64,7 +64,7 @@ fn tagged_at(
 #[tactic(auto, unfolding(crate::specs::TreeFormat::seg_read))]
 pub(crate) fn item_at(
     limits: Limits,
-    depth: u32,
+    depth: u64,
     bytes: &[u8],
 ) -> Result<(SegItem<'_>, &[u8]), ByteFault>
     ensures read { GivesOrFault (λ x. (item_in x.0, x.1.now)) result
@@ -79,7 +79,7 @@ pub(crate) fn item_at(
 #[cycle(trees)]
 fn row_at(
     limits: Limits,
-    depth: u32,
+    depth: u64,
     count: u32,
     bytes: &[u8],
 ) -> Result<(SegBytes<'_>, &[u8]), ByteFault>
@@ -105,7 +105,7 @@ fn row_at(
 /// deep: the call calls itself once for each level of nesting.
 #[cycle(trees)]
 #[tactic(auto, unfolding(crate::specs::TreeFormat::tree_format))]
-pub fn tree_at(limits: Limits, depth: u32, bytes: &[u8]) -> Result<(SegBytes<'_>, &[u8]), ByteFault>
+pub fn tree_at(limits: Limits, depth: u64, bytes: &[u8]) -> Result<(SegBytes<'_>, &[u8]), ByteFault>
     ensures read { GivesOrFault (λ x. (tree_in x.0, x.1.now)) result
         ((tree_within limits depth).read bytes.now) }
     ensures nests { IfOk result (λ x. nesting x.0 + 1 ≡ depth) }

@@ -10,8 +10,9 @@ ghost use Rattle.machine_semantics.specs.Trees as tree;
 ghost use Rattle.image_format.specs.Kept.{fork, rep, stay};
 ghost use Rattle.image_format.specs.View.{view, views};
 
+use out_of_memory::OutOfMemory;
 use sqlite_items::Boxed;
-use std::alloc::{AllocError, Global};
+use std::alloc::Global;
 use syntax_tree::List;
 
 /// A piece of code. Routines and monitors are numbered from 0. What has trees is kept in a box, so
@@ -61,7 +62,7 @@ pub struct Inside<T> {
 
 impl Seg {
     /// A choice of two trees. An error says that memory is short.
-    pub fn fork(alloc: Global, first: Segs, second: Segs) -> Result<Seg, AllocError>
+    pub fn fork(alloc: Global, first: Segs, second: Segs) -> Result<Seg, OutOfMemory>
         ensures kept { IfOk result (λ seg. seg ≡ fork first second) }
         ensures tree { IfOk result (λ seg. view seg ≡ tree.Fork (views first) (views second)) }
     {
@@ -69,7 +70,7 @@ impl Seg {
     }
 
     /// So many turns of a tree. An error says that memory is short.
-    pub fn rep(alloc: Global, count: u32, body: Segs) -> Result<Seg, AllocError>
+    pub fn rep(alloc: Global, count: u32, body: Segs) -> Result<Seg, OutOfMemory>
         ensures kept { IfOk result (λ seg. seg ≡ rep count body) }
         ensures tree { IfOk result (λ seg. view seg ≡ tree.Rep count (views body)) }
     {
@@ -77,7 +78,7 @@ impl Seg {
     }
 
     /// A tree inside a monitor. An error says that memory is short.
-    pub fn stay(alloc: Global, monitor: u16, body: Segs) -> Result<Seg, AllocError>
+    pub fn stay(alloc: Global, monitor: u16, body: Segs) -> Result<Seg, OutOfMemory>
         ensures kept { IfOk result (λ seg. seg ≡ stay monitor body) }
         ensures tree { IfOk result (λ seg. view seg ≡ tree.Stay monitor (views body)) }
     {

@@ -17,7 +17,7 @@ use std::alloc::Global;
 fn tagged_at(
     alloc: Global,
     limits: Limits,
-    depth: u32,
+    depth: u64,
     tag: u8,
     left: usize,
     bytes: &[u8],
@@ -64,7 +64,7 @@ fn tagged_at(
 fn seg_at(
     alloc: Global,
     limits: Limits,
-    depth: u32,
+    depth: u64,
     bytes: &[u8],
 ) -> Result<(Seg, &[u8]), ReadError>
     ensures { Gives (λ x. (view x.0, x.1.now)) result
@@ -79,7 +79,7 @@ fn seg_at(
 fn segs_at(
     alloc: Global,
     limits: Limits,
-    depth: u32,
+    depth: u64,
     count: u32,
     bytes: &[u8],
 ) -> Result<(Segs, &[u8]), ReadError>
@@ -102,7 +102,7 @@ fn segs_at(
 pub(crate) fn tree_at(
     alloc: Global,
     limits: Limits,
-    depth: u32,
+    depth: u64,
     bytes: &[u8],
 ) -> Result<(Segs, &[u8]), ReadError>
     ensures { Gives (λ x. (views x.0, x.1.now)) result

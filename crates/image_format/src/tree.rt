@@ -3,7 +3,7 @@
 ghost use Rattle.std.specs.Prelude.{◌≡◌, IfOk, true};
 ghost use Rattle.image_format.specs.View.{views};
 ghost use Rattle.image_format.specs.Gives.{Gives};
-ghost use Rattle.image_format.specs.TreeBytes.{tree_bytes};
+ghost use Rattle.image_format.specs.TreeBytes.{RowsFit, tree_bytes};
 ghost use Rattle.image_format.specs.TreeFormat.{tree_format, within_limits};
 ghost use Rattle.image_format.specs.Stands.{tree_in};
 ghost use Rattle.image_format.specs.Whole.{any_tree, deepest_kept};
@@ -14,11 +14,13 @@ use crate::reading::tree_at;
 use crate::segs::tree_at as segs_at;
 use crate::view::SegBytes;
 use crate::{Limits, ReadError, Seg, Segs};
-use std::alloc::{AllocError, Global};
+use out_of_memory::OutOfMemory;
+use std::alloc::Global;
 use std::marker::Model;
 
-/// How deep a tree that is kept may nest.
-pub const DEEPEST_KEPT: u32 = u32::MAX;
+/// How deep a tree that is kept may nest: 2^62 levels, each of four bytes, are more than there is
+/// room for.
+pub const DEEPEST_KEPT: u64 = 4_611_686_018_427_387_904;
 
 /// A segment tree, kept as the bytes that an image has of it. Contracts see it as the tree.
 #[derive(Drop)]
@@ -40,9 +42,17 @@ impl Model for SegTree {
     ghost invariant = { λ t. IsTree deepest_kept t.bytes.items };
 }
 
+/// The bytes once more. An error says that memory is short.
+fn copy_of(alloc: Global, bytes: &[u8]) -> Result<Vec<u8>, OutOfMemory>
+    ensures items { IfOk result (λ copy. copy.items ≡ bytes.now) }
+{
+    Ok(Vec::from_slice(alloc, bytes)?)
+}
+
 impl SegTree {
     /// The tree of these segments. An error says that memory is short.
-    pub fn of(alloc: Global, segs: &[Seg]) -> Result<SegTree, AllocError>
+    pub fn of(alloc: Global, segs: &[Seg]) -> Result<SegTree, OutOfMemory>
+        requires { RowsFit (views segs.now) }
         ensures { IfOk result (λ tree. tree ≡ views segs.now) }
     {
         let mut bytes = Vec::new(alloc);
@@ -61,18 +71,18 @@ impl SegTree {
         ensures { Gives (λ x. (x.0, x.1.now)) result
             ((tree_format (within_limits limits) depth).read bytes.now) }
     {
-        let (_view, rest) = tree_at(limits, depth, bytes)?;
+        let (_view, rest) = tree_at(limits, u64::from(depth), bytes)?;
         are_bytes(bytes);
         let taken = &bytes[..bytes.len() - rest.len()];
-        let bytes = Vec::from_slice(alloc, taken)?;
+        let bytes = copy_of(alloc, taken)?;
         Ok((SegTree { bytes }, rest))
     }
 
     /// The tree once more. An error says that memory is short.
-    pub fn copied(&self, alloc: Global) -> Result<SegTree, AllocError>
+    pub fn copied(&self, alloc: Global) -> Result<SegTree, OutOfMemory>
         ensures { IfOk result (λ tree. tree ≡ self.now) }
     {
-        let bytes = Vec::from_slice(alloc, self.bytes.as_slice())?;
+        let bytes = copy_of(alloc, self.bytes.as_slice())?;
         Ok(SegTree { bytes })
     }
 
@@ -102,12 +112,12 @@ impl SegTree {
     }
 
     /// Its segments, each apart. An error says that memory is short.
-    pub fn segs(&self, alloc: Global) -> Result<Segs, AllocError>
+    pub fn segs(&self, alloc: Global) -> Result<Segs, OutOfMemory>
         ensures { IfOk result (λ segs. views segs ≡ self.now) }
     {
         match segs_at(alloc, Limits::widest(), DEEPEST_KEPT, self.bytes.as_slice()) {
             Ok((segs, _)) => Ok(segs),
-            Err(ReadError::Memory) => Err(AllocError),
+            Err(ReadError::Memory(error)) => Err(error),
             Err(ReadError::Fault(_)) => unreachable!(),
         }
     }

@@ -11,7 +11,7 @@ pub struct SegBytes<'a> {
     /// Within what its numbers are.
     pub(crate) limits: Limits,
     /// How deep inner trees nest at most.
-    pub(crate) depth: u32,
+    pub(crate) depth: u64,
     /// How many segments stand side by side.
     pub(crate) count: u32,
     /// The bytes from the first of them on.

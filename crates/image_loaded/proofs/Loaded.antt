@@ -34,7 +34,7 @@ is_read bytes raw limits monitors written again are held = record {
 pub reads : (bytes : List ℕ) → ImagesReadHaveLimits → ImagesReadHaveFewMonitors → ImagesReadCanBeWritten → ImagesReadAreHeldAgain → AreBytes bytes → (answer : Result RawImage ImageFault) → Tells bytes answer → Reads bytes answer
 reads bytes limits monitors written again are (Ok raw) h = is_read bytes raw limits monitors written again are h
 reads bytes limits monitors written again are (Err (image.Bad number offset)) h = h
-reads bytes limits monitors written again are (Err image.Memory) h = tt
+reads bytes limits monitors written again are (Err (image.Memory _)) h = tt
 
 -- the numbers are those that are read
 pub are_of : (bytes : List ℕ) (raw : RawImage) → Holds bytes raw → AreOf bytes (named_of raw)
@@ -67,11 +67,11 @@ loads_image bytes raw image read h = subst (AreOfValid bytes) (sym h.0) (are_of_
 pub loads_fault : (bytes : List ℕ) (raw : RawImage) (why : ValidFault) → IsRead bytes raw → Verifies raw (Err why) → Loads bytes (Err (of_numbers why))
 loads_fault bytes raw (valid.Invalid same found) read h =
     subst (λ (x : RawImage). IsInvalid bytes x found) (sym h.0) (let is : IsInvalid bytes raw found = record { held = read.held; first = h.1 } in is)
-loads_fault bytes raw valid.Memory read h = tt
+loads_fault bytes raw (valid.Memory _) read h = tt
 
 pub unread : (bytes : List ℕ) (why : ImageFault) → Reads bytes (Err why) → Loads bytes (Err (of_bytes why))
 unread bytes (image.Bad number offset) h = h
-unread bytes image.Memory h = tt
+unread bytes (image.Memory _) h = tt
 
 -- ---- shapes
 
@@ -82,11 +82,11 @@ pub misshapen : (bytes : List ℕ) (raw : RawImage) (why : ValidFault) → IsRea
 misshapen bytes raw (valid.Invalid same found) read h =
     subst (λ (x : RawImage). IsMisshapen bytes x found) (sym h.0)
     (let is : IsMisshapen bytes raw found = record { invalid = record { held = read.held; first = h.1 }; before = h.2 } in is)
-misshapen bytes raw valid.Memory read h = tt
+misshapen bytes raw (valid.Memory _) read h = tt
 
 pub unread_shape : (bytes : List ℕ) (why : ImageFault) → Reads bytes (Err why) → LoadsShape bytes (Err (of_bytes why))
 unread_shape bytes (image.Bad number offset) h = h
-unread_shape bytes image.Memory h = tt
+unread_shape bytes (image.Memory _) h = tt
 
 -- ---- an error that a question mark gave
 

@@ -30,13 +30,13 @@ abbrev pub Loads : List ℕ → Result NamedImage FileFault → Type 0
 Loads bytes (Ok image) = AreOfValid bytes image
 Loads bytes (Err (file.Image number offset)) = HasFault bytes number offset
 Loads bytes (Err (file.Invalid raw found)) = IsInvalid bytes raw found
-Loads bytes (Err file.Memory) = Unit {0}
+Loads bytes (Err (file.Memory _)) = Unit {0}
 
 -- the same of numbers: Ok exactly where they are valid, and of their image
 abbrev pub Verifies : RawImage → Result NamedImage ValidFault → Type 0
 Verifies raw (Ok image) = (image ≡ named_of raw) × IsValid (image_of raw)
 Verifies raw (Err (valid.Invalid same found)) = (same ≡ raw) × (part_fault (image_of raw) ≡ Some found)
-Verifies raw (Err valid.Memory) = Unit {0}
+Verifies raw (Err (valid.Memory _)) = Unit {0}
 
 -- the bytes are those of these numbers, of which a part of validity before bounds fails, and this is
 -- the first fault
@@ -49,7 +49,7 @@ abbrev pub LoadsShape : List ℕ → Result NamedImage FileFault → Type 0
 LoadsShape bytes (Ok shape) = AreOf bytes shape × IsShape shape
 LoadsShape bytes (Err (file.Image number offset)) = HasFault bytes number offset
 LoadsShape bytes (Err (file.Invalid raw found)) = IsMisshapen bytes raw found
-LoadsShape bytes (Err file.Memory) = Unit {0}
+LoadsShape bytes (Err (file.Memory _)) = Unit {0}
 
 -- ---- on the way
 
@@ -64,10 +64,10 @@ pub record IsRead (bytes : List ℕ) (raw : RawImage) : Type 0 where
 abbrev pub Reads : List ℕ → Result RawImage ImageFault → Type 0
 Reads bytes (Ok raw) = IsRead bytes raw
 Reads bytes (Err (image.Bad number offset)) = HasFault bytes number offset
-Reads bytes (Err image.Memory) = Unit {0}
+Reads bytes (Err (image.Memory _)) = Unit {0}
 
 -- the answer to numbers of which a shape was asked
 abbrev pub Shapes : RawImage → Result NamedImage ValidFault → Type 0
 Shapes raw (Ok shape) = (shape ≡ named_of raw) × IsShape shape
 Shapes raw (Err (valid.Invalid same found)) = (same ≡ raw) × (part_fault (image_of raw) ≡ Some found) × (fault_before_bounds (image_of raw) ≡ None → ⊥)
-Shapes raw (Err valid.Memory) = Unit {0}
+Shapes raw (Err (valid.Memory _)) = Unit {0}

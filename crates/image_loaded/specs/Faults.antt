@@ -8,8 +8,8 @@ use Rattle.image_loaded.specs.declared.fault.ValidFault.TheVariants as valid
 
 abbrev pub of_bytes : ImageFault → FileFault
 of_bytes (image.Bad number offset) = file.Image number offset
-of_bytes image.Memory = file.Memory
+of_bytes (image.Memory e) = file.Memory e
 
 abbrev pub of_numbers : ValidFault → FileFault
 of_numbers (valid.Invalid raw fault) = file.Invalid raw fault
-of_numbers valid.Memory = file.Memory
+of_numbers (valid.Memory e) = file.Memory e

@@ -3,7 +3,7 @@
 use faulty_part::PartFault;
 use image::RawImage;
 use image_reader::ImageFault;
-use std::alloc::AllocError;
+use out_of_memory::OutOfMemory;
 
 /// Why numbers are no valid image.
 #[derive(Drop)]
@@ -11,17 +11,18 @@ pub enum ValidFault {
     /// The first test that these numbers fail, with the part of the image that it is of.
     Invalid { raw: RawImage, fault: PartFault },
     /// There was not enough memory.
-    Memory,
+    Memory(OutOfMemory),
 }
 
-impl From<AllocError> for ValidFault {
+impl From<OutOfMemory> for ValidFault {
     ghost use Rattle.std.specs.Prelude.{◌≡◌};
+    ghost use Rattle.out_of_memory.specs.Refused.{refused};
     ghost use Rattle.image_loaded.specs.declared.fault.ValidFault.TheVariants as valid;
 
-    ghost from_gives = { λ _ made. made ≡ valid.Memory };
+    ghost from_gives = { λ _ made. made ≡ valid.Memory refused };
 
-    fn from(_: AllocError) -> ValidFault {
-        ValidFault::Memory
+    fn from(error: OutOfMemory) -> ValidFault {
+        ValidFault::Memory(error)
     }
 }
 
@@ -34,7 +35,7 @@ pub enum FileFault {
     /// that it is of.
     Invalid { raw: RawImage, fault: PartFault },
     /// There was not enough memory.
-    Memory,
+    Memory(OutOfMemory),
 }
 
 impl From<ImageFault> for FileFault {
@@ -46,7 +47,7 @@ impl From<ImageFault> for FileFault {
     fn from(fault: ImageFault) -> FileFault {
         match fault {
             ImageFault::Bad { number, offset } => FileFault::Image { number, offset },
-            ImageFault::Memory => FileFault::Memory,
+            ImageFault::Memory(error) => FileFault::Memory(error),
         }
     }
 }
@@ -60,7 +61,7 @@ impl From<ValidFault> for FileFault {
     fn from(fault: ValidFault) -> FileFault {
         match fault {
             ValidFault::Invalid { raw, fault } => FileFault::Invalid { raw, fault },
-            ValidFault::Memory => FileFault::Memory,
+            ValidFault::Memory(error) => FileFault::Memory(error),
         }
     }
 }

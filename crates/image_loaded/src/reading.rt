@@ -15,7 +15,8 @@ use image_reader_law::stored_images::images_read_are_held_again;
 use image_reader_law::{
     images_read_are_in_their_ranges, images_read_are_written, images_read_can_be_written,
 };
-use std::alloc::{AllocError, Global};
+use out_of_memory::OutOfMemory;
+use std::alloc::Global;
 
 /// The image that the bytes are, whose numbers are in the ranges of their fields.
 pub(crate) fn read(alloc: Global, bytes: &[u8]) -> Result<RawImage, ImageFault>
@@ -56,7 +57,7 @@ pub(crate) fn kept(
     alloc: Global,
     bytes: Option<Vec<u8>>,
     raw: RawImage,
-) -> Result<ImageBytes, AllocError>
+) -> Result<ImageBytes, OutOfMemory>
     requires limits { HasLimits (image_of raw) }
     requires written { IsInRange (named_of raw) }
     requires bytes { IfSome bytes (λ own. own.items ≡ bytes_of Second (named_of raw)) }

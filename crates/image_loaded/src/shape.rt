@@ -49,7 +49,7 @@ fn fault_of(alloc: Global, raw: RawImage) -> ValidFault
     match part_fault(alloc, &raw) {
         Ok(Some(fault)) => ValidFault::Invalid { raw, fault },
         Ok(None) => unreachable!(),
-        Err(_) => ValidFault::Memory,
+        Err(error) => ValidFault::Memory(error),
     }
 }
 

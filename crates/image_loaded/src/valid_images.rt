@@ -18,7 +18,8 @@ use crate::reading::{kept, read, second};
 use image::{ImageNames, RawImage};
 use image_bytes::ImageBytes;
 use image_reader_law::{images_read_are_in_their_ranges, images_read_can_be_written};
-use std::alloc::{AllocError, Global};
+use out_of_memory::OutOfMemory;
+use std::alloc::Global;
 use std::marker::Model;
 use valid_image_law::validity_law::every_valid_image_is_safe_and_in_time;
 use validity_parts::part_fault;
@@ -45,7 +46,7 @@ impl Model for Image {
 }
 
 /// The image of numbers that are valid. Its bytes are taken where they are there.
-fn valid(alloc: Global, bytes: Option<Vec<u8>>, raw: RawImage) -> Result<Image, AllocError>
+fn valid(alloc: Global, bytes: Option<Vec<u8>>, raw: RawImage) -> Result<Image, OutOfMemory>
     requires ranges { HasRanges raw }
     requires written { IsInRange (named_of raw) }
     requires file { AreOfValid (bytes_of Second (named_of raw)) (named_of raw) }
@@ -108,7 +109,7 @@ impl Image {
     /// The image of these numbers, which the caller has proved to be valid, as those of every
     /// program that is in time. Nothing is tested: it is the one way to an image without the tests.
     /// An error says that memory is short.
-    pub fn of_valid(alloc: Global, raw: RawImage) -> Result<Image, AllocError>
+    pub fn of_valid(alloc: Global, raw: RawImage) -> Result<Image, OutOfMemory>
         requires { AreOfValid (bytes_of Second (named_of raw)) (named_of raw) }
         ensures { IfOk result (λ image. image ≡ named_of raw) }
     {

@@ -33,7 +33,7 @@ fails f x front count i bytes total lt h so_far =
 
 pub ends : {A : Type 0} (f : List A → Format A) (e : ReadError) (front : List A) (count i : ℕ) (bytes : List ℕ) (total : Read (List A)) → i < count → Fails e ((f front).read bytes)
     → in_front front (each_read f front (count - i) bytes) ≡ total → Fails e total
-ends f errors.Memory front count i bytes total lt h so_far = tt
+ends f (errors.Memory _) front count i bytes total lt h so_far = tt
 ends f (errors.Fault x) front count i bytes total lt h so_far = fails f x front count i bytes total lt h so_far
 
 pub is_done : {A : Type 0} (f : List A → Format A) (front : List A) (count i : ℕ) (bytes : List ℕ) (total : Read (List A)) → count ≤ i

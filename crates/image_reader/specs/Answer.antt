@@ -38,4 +38,4 @@ pub record HasFault (bytes : List ℕ) (number offset : ℕ) : Type 0 where
 abbrev pub Tells : List ℕ → Result RawImage ImageFault → Type 0
 Tells bytes (Ok raw) = Holds bytes raw
 Tells bytes (Err (faults.Bad number offset)) = HasFault bytes number offset
-Tells bytes (Err faults.Memory) = Unit {0}
+Tells bytes (Err (faults.Memory _)) = Unit {0}

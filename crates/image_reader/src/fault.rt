@@ -1,5 +1,6 @@
 //! Why bytes are no image.
 
+use out_of_memory::OutOfMemory;
 use thiserror::Error;
 
 /// What a call gives; an error of it returns from the function. It is `?` with no conversion of the
@@ -28,7 +29,7 @@ macro_rules! tri_memory {
     ($called:expr) => {
         match $called {
             Ok(it) => it,
-            Err(_) => return Err(ReadError::Memory),
+            Err(error) => return Err(ReadError::Memory(error)),
         }
     };
 }
@@ -45,5 +46,5 @@ pub enum ImageFault {
     Bad { number: u8, offset: u32 },
     /// There was not enough memory for the image.
     #[error("out of memory")]
-    Memory,
+    Memory(OutOfMemory),
 }

@@ -16,7 +16,8 @@ use crate::taken::{EarlierConditions, TakenNames};
 use image::{ConditionName, DeviceName, RawRoutine};
 use image_format::ReadError;
 use machine_isa::Instr;
-use std::alloc::{AllocError, Global};
+use out_of_memory::OutOfMemory;
+use std::alloc::Global;
 use syntax_tree::{List, Name};
 
 /// Adds a device, and takes its name.
@@ -25,7 +26,7 @@ fn add_device(
     devices: &mut List<DeviceName>,
     taken: &mut TakenNames,
     device: DeviceName,
-) -> Result<(), AllocError>
+) -> Result<(), OutOfMemory>
     requires { has taken.old device.name ≡ false }
     ensures devices { OnOk result (devices.new ≡ devices.old ++ device ∷ []) }
     ensures taken { OnOk result (taken.new ≡ taken.old ++ device.name ∷ []) }
@@ -82,7 +83,7 @@ fn add_condition(
     conditions: &mut List<ConditionName>,
     earlier: &mut EarlierConditions,
     condition: ConditionName,
-) -> Result<(), AllocError>
+) -> Result<(), OutOfMemory>
     requires { is_again earlier.old condition ≡ false }
     ensures conditions { OnOk result (conditions.new ≡ conditions.old ++ condition ∷ []) }
     ensures earlier { OnOk result (earlier.new ≡ earlier.old ++ condition ∷ []) }

@@ -16,7 +16,8 @@ use crate::process::process_at;
 use crate::taken::TakenNames;
 use image::{RawMonitor, RawProcess};
 use image_format::ReadError;
-use std::alloc::{AllocError, Global};
+use out_of_memory::OutOfMemory;
+use std::alloc::Global;
 use syntax_tree::{List, Name};
 
 /// Monitors, each with its name.
@@ -48,7 +49,7 @@ fn add_monitor(
     taken: &mut TakenNames,
     name: Name,
     monitor: RawMonitor,
-) -> Result<(), AllocError>
+) -> Result<(), OutOfMemory>
     requires { has taken.old name ≡ false }
     ensures names { OnOk result (monitors.new.names ≡ monitors.old.names ++ name ∷ []) }
     ensures things { OnOk result (monitors.new.things ≡ monitors.old.things ++ monitor ∷ []) }
@@ -104,7 +105,7 @@ fn named_process_at<'a>(
 }
 
 /// Notes the event of a process of the kind, where one releases it.
-fn use_event(used: &mut List<u16>, kind: u8, event: u16) -> Result<(), AllocError>
+fn use_event(used: &mut List<u16>, kind: u8, event: u16) -> Result<(), OutOfMemory>
     ensures { OnOk result (used.new ≡ used.old ++ (if kind == 0 then [] else event ∷ [])) }
 {
     if kind == 0 { Ok(()) } else { used.push(event) }
@@ -125,7 +126,7 @@ fn add_process(
     taken: &mut TakenNames,
     name: Name,
     process: RawProcess,
-) -> Result<(), AllocError>
+) -> Result<(), OutOfMemory>
     requires { has taken.old name ≡ false }
     ensures names { OnOk result (processes.new.names ≡ processes.old.names ++ name ∷ []) }
     ensures things { OnOk result (processes.new.things ≡ processes.old.things ++ process ∷ []) }

@@ -12,7 +12,8 @@ ghost use Rattle.image_reader.specs.Taken.{Names};
 use crate::fault::{tri, tri_fault, tri_memory};
 use crate::taken::TakenNames;
 use image_format::{ByteFault, ReadError, refusal, u8_at};
-use std::alloc::{AllocError, Global};
+use out_of_memory::OutOfMemory;
+use std::alloc::Global;
 use syntax::keyword_at;
 use syntax_tree::{List, Name};
 
@@ -92,7 +93,7 @@ pub fn is_plain_name(name: &[u8]) -> bool
 }
 
 /// The name of these bytes, where they are an identifier, no keyword, and not taken; else nothing.
-fn fresh_name(alloc: Global, bytes: &[u8], taken: &TakenNames) -> Result<Option<Name>, AllocError>
+fn fresh_name(alloc: Global, bytes: &[u8], taken: &TakenNames) -> Result<Option<Name>, OutOfMemory>
     ensures { IfOk result (Names taken.now bytes.now) }
 {
     if !is_plain_name(bytes) {
@@ -131,7 +132,7 @@ pub fn add_name(
     names: &mut List<Name>,
     taken: &mut TakenNames,
     name: Name,
-) -> Result<(), AllocError>
+) -> Result<(), OutOfMemory>
     requires { has taken.old name ≡ false }
     ensures names { OnOk result (names.new ≡ names.old ++ name ∷ []) }
     ensures taken { OnOk result (taken.new ≡ taken.old ++ name ∷ []) }

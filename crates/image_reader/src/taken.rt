@@ -6,7 +6,8 @@ ghost use Rattle.image_reader.specs.Taken.{Judges};
 
 use image::ConditionName;
 use indexmap::IndexSet;
-use std::alloc::{AllocError, Global};
+use out_of_memory::OutOfMemory;
+use std::alloc::Global;
 use std::marker::Model;
 use syntax_tree::Name;
 
@@ -42,7 +43,7 @@ impl TakenNames {
     }
 
     /// Takes a name that is none of these.
-    pub fn take(&mut self, alloc: Global, name: &Name) -> Result<(), AllocError>
+    pub fn take(&mut self, alloc: Global, name: &Name) -> Result<(), OutOfMemory>
         requires { is_among self.old name.now ≡ false }
         ensures { OnOk result (self.new ≡ self.old ++ name.now ∷ []) }
     {
@@ -91,7 +92,7 @@ impl EarlierConditions {
     }
 
     /// Notes a condition that is none of these.
-    pub fn note(&mut self, alloc: Global, condition: &ConditionName) -> Result<(), AllocError>
+    pub fn note(&mut self, alloc: Global, condition: &ConditionName) -> Result<(), OutOfMemory>
         requires { is_again self.old condition.now ≡ false }
         ensures { OnOk result (self.new ≡ self.old ++ condition.now ∷ []) }
     {

@@ -20,7 +20,8 @@ use crate::taken::TakenNames;
 use image::{ConditionName, DeviceName, EventName, ImageNames, RawImage, RawProcess, RawRoutine};
 use image_format::{ByteFault, ReadError, refusal, u16_at};
 use machine_isa::Instr;
-use std::alloc::{AllocError, Global};
+use out_of_memory::OutOfMemory;
+use std::alloc::Global;
 use syntax_tree::{List, Name};
 
 /// The letters RTEU.
@@ -251,7 +252,7 @@ fn add_event(
     framed: &mut List<EventName>,
     event: &Name,
     frame: u32,
-) -> Result<(), AllocError>
+) -> Result<(), OutOfMemory>
     ensures { OnOk result (framed.new ≡
         framed.old ++ record { name = event.now; frame = frame } ∷ []) }
 {
@@ -264,7 +265,7 @@ fn framed(
     alloc: Global,
     events: &[Name],
     processes: &[RawProcess],
-) -> Result<List<EventName>, AllocError>
+) -> Result<List<EventName>, OutOfMemory>
     ensures { IfOk result (λ framed. framed ≡
         framed_events 0 events.now (map process_of processes.now)) }
 {
@@ -329,7 +330,7 @@ pub fn assemble(
     overhead: u16,
     program: Name,
     named: Named,
-) -> Result<RawImage, AllocError>
+) -> Result<RawImage, OutOfMemory>
     requires each_monitor { length named.guarded.monitors.names ≡
         length named.guarded.monitors.things }
     requires each_process { length named.guarded.work.processes.names ≡
@@ -399,7 +400,7 @@ pub fn read_image(alloc: Global, bytes: &[u8]) -> Result<RawImage, ImageFault>
     }
     match whole_at(alloc, bytes) {
         Ok((_has_deadlines, image)) => Ok(image),
-        Err(ReadError::Memory) => Err(ImageFault::Memory),
+        Err(ReadError::Memory(error)) => Err(ImageFault::Memory(error)),
         Err(ReadError::Fault(fault)) => Err(ImageFault::Bad {
             number: fault.number,
             offset: bytes.len().saturating_sub(fault.left) as u32,

@@ -8,14 +8,15 @@ ghost use Rattle.load.specs.Script.{script_text, value};
 use crate::draws::RandomGenerator;
 use crate::words::add_number;
 use itoa::Buffer;
-use std::alloc::{AllocError, Global};
+use out_of_memory::OutOfMemory;
+use std::alloc::Global;
 use syntax_tree::Text;
 
 /// How many lines set the in device.
 const SETTINGS: u64 = 20;
 
 /// Puts the line that sets the in device at the end of a text.
-fn add_setting(text: &mut Text, tick: u64, value: i32) -> Result<(), AllocError>
+fn add_setting(text: &mut Text, tick: u64, value: i32) -> Result<(), OutOfMemory>
     ensures { OnOk result (text.new ≡ text.old ++ text_of (set tick (codes "src") value ∷ [])) }
 {
     let mut digits = Buffer::new();
@@ -36,7 +37,7 @@ fn draw_value(draws: &mut RandomGenerator) -> i32
 }
 
 /// The text of the script for so many processes.
-fn script_of(alloc: Global, key: u64, count: u64) -> Result<Text, AllocError>
+fn script_of(alloc: Global, key: u64, count: u64) -> Result<Text, OutOfMemory>
     requires { count < 2 ^ 32 }
     ensures { IfOk result (λ text. text ≡ script_text key count) }
 {
@@ -57,7 +58,7 @@ fn script_of(alloc: Global, key: u64, count: u64) -> Result<Text, AllocError>
 /// # Errors
 ///
 /// Only where there is not enough memory for the text.
-pub fn make_script(alloc: Global, key: u64, count: u32) -> Result<Text, AllocError>
+pub fn make_script(alloc: Global, key: u64, count: u32) -> Result<Text, OutOfMemory>
     ensures { IfOk result (λ text. text ≡ script_text key count) }
 {
     script_of(alloc, key, u64::from(count))

@@ -6,7 +6,8 @@ ghost use Rattle.load.specs.Program.{drawn, is_even, pause_text, process_text, p
 
 use crate::draws::RandomGenerator;
 use crate::words::add_number;
-use std::alloc::{AllocError, Global};
+use out_of_memory::OutOfMemory;
+use std::alloc::Global;
 use syntax_tree::Text;
 
 /// What a process draws: how many of the shortest frames its own has beyond one, how many turns its
@@ -43,7 +44,7 @@ fn draw_three(draws: &mut RandomGenerator) -> DrawnProcess
 }
 
 /// Puts the statement that pauses at the end of a text, where the number is even.
-fn add_pause(text: &mut Text, number: u64) -> Result<(), AllocError>
+fn add_pause(text: &mut Text, number: u64) -> Result<(), OutOfMemory>
     ensures { OnOk result (text.new ≡ text.old ++ pause_text (is_even number)) }
 {
     if number % 2 == 0 {
@@ -58,7 +59,7 @@ fn add_process(
     count: u64,
     number: u64,
     drawn: DrawnProcess,
-) -> Result<(), AllocError>
+) -> Result<(), OutOfMemory>
     requires count { count < 2 ^ 32 }
     requires frames { drawn.frames < 8 }
     requires turns { drawn.turns < 10 }
@@ -83,7 +84,7 @@ fn add_process(
 }
 
 /// The text of the program with so many processes.
-fn program_of(alloc: Global, key: u64, count: u64) -> Result<Text, AllocError>
+fn program_of(alloc: Global, key: u64, count: u64) -> Result<Text, OutOfMemory>
     requires { count < 2 ^ 32 }
     ensures { IfOk result (λ text. text ≡ program_text key count) }
 {
@@ -103,7 +104,7 @@ fn program_of(alloc: Global, key: u64, count: u64) -> Result<Text, AllocError>
 /// # Errors
 ///
 /// Only where there is not enough memory for the text.
-pub fn make_program(alloc: Global, key: u64, count: u32) -> Result<Text, AllocError>
+pub fn make_program(alloc: Global, key: u64, count: u32) -> Result<Text, OutOfMemory>
     ensures { IfOk result (λ text. text ≡ program_text key count) }
 {
     program_of(alloc, key, u64::from(count))

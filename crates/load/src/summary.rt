@@ -4,7 +4,8 @@ ghost use Rattle.std.specs.Prelude.{◌≡◌, IfOk};
 ghost use Rattle.load.specs.Summary.{marked_by, summary};
 
 use crate::words::add_number;
-use std::alloc::{AllocError, Global};
+use out_of_memory::OutOfMemory;
+use std::alloc::Global;
 use syntax_tree::Text;
 
 /// The mark after these bytes, where it was `mark` before them; it is 0 before the first byte.
@@ -32,7 +33,7 @@ pub fn summary_line(
     lines: u64,
     bytes: u64,
     mark: u32,
-) -> Result<Text, AllocError>
+) -> Result<Text, OutOfMemory>
     ensures { IfOk result (λ text. text ≡ summary count code lines bytes mark) }
 {
     let mut text = Text::new(alloc);

@@ -12,7 +12,8 @@ ghost use Rattle.loader.specs.Handlers.{is_right};
 use image::{RawImage, RawProcess};
 use image_format::{SegBytes, SegItem};
 use loader_code::{FaultNumbers, tree_end};
-use std::alloc::{AllocError, Global};
+use out_of_memory::OutOfMemory;
+use std::alloc::Global;
 use syntax_tree::List;
 
 /// Whether a routine reaches a WAIT; none does that is not in the table.
@@ -55,7 +56,7 @@ pub fn tree_waits(waits: &[bool], tree: SegBytes<'_>) -> bool
 }
 
 /// Which routines reach a WAIT, from below: each by those before it.
-pub fn waits_table(alloc: Global, raw: &RawImage) -> Result<List<bool>, AllocError>
+pub fn waits_table(alloc: Global, raw: &RawImage) -> Result<List<bool>, OutOfMemory>
     ensures { IfOk result (λ waits. AreWaits raw.now waits) }
 {
     let mut waits = List::new(alloc);

@@ -9,7 +9,8 @@ ghost use Rattle.loader.specs.Stays.{stay_in, AreFirstStays, AreStays, AreStaysO
 
 use image::{RawImage, RawRoutine};
 use loader_code::{addresses_by_piece, calls_by_piece, of_piece};
-use std::alloc::{AllocError, Global};
+use out_of_memory::OutOfMemory;
+use std::alloc::Global;
 use std::marker::Model;
 use syntax_tree::List;
 
@@ -132,7 +133,7 @@ fn of_routines(
     image: &RawImage,
     calls: &[List<usize>],
     monitor: usize,
-) -> Result<Vec<Option<u32>>, AllocError>
+) -> Result<Vec<Option<u32>>, OutOfMemory>
     requires { AreCalls (image_of image.now) calls.now }
     ensures { IfOk result (λ v. AreStaysOfRoutines (image_of image.now) monitor v.items) }
 {
@@ -166,7 +167,7 @@ fn of_processes(
     image: &RawImage,
     calls: &[List<usize>],
     monitor: usize,
-) -> Result<List<Option<u32>>, AllocError>
+) -> Result<List<Option<u32>>, OutOfMemory>
     requires { AreCalls (image_of image.now) calls.now }
     ensures { IfOk result (λ v. AreStaysOfProcesses (image_of image.now) monitor v) }
 {
@@ -180,7 +181,7 @@ fn of_processes(
 }
 
 /// The longest stay of each process in each monitor, or that memory is short.
-pub fn longest_stays(alloc: Global, image: &RawImage) -> Result<Stays, AllocError>
+pub fn longest_stays(alloc: Global, image: &RawImage) -> Result<Stays, OutOfMemory>
     ensures { IfOk result (λ s. AreStays (image_of image.now) s) }
 {
     if image.monitors.is_empty() {

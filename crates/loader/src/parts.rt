@@ -21,7 +21,8 @@ use image::{RawImage, RawProcess, RawRoutine};
 use image_format::SegTree;
 use loader_code::{CodeCost, FaultNumbers, PartCost, RoutineCost, part_found, routine_found};
 use machine_isa::Instr;
-use std::alloc::{AllocError, Global};
+use out_of_memory::OutOfMemory;
+use std::alloc::Global;
 use syntax_tree::List;
 
 /// What the code of a process comes to.
@@ -177,7 +178,10 @@ fn wrong_from(start: u32) -> FaultNumbers
 }
 
 /// The first routine whose start or code is wrong. Keeps what the code of those before it comes to.
-fn routines_fault(raw: &RawImage, parts: &mut CodeCosts) -> Result<Option<FaultNumbers>, AllocError>
+fn routines_fault(
+    raw: &RawImage,
+    parts: &mut CodeCosts,
+) -> Result<Option<FaultNumbers>, OutOfMemory>
     requires known { parts.old.known ≡ [] }
     requires routines { parts.old.routines ≡ [] }
     requires end { parts.old.end ≡ 0 }
@@ -210,7 +214,7 @@ fn routines_fault(raw: &RawImage, parts: &mut CodeCosts) -> Result<Option<FaultN
 fn processes_fault(
     raw: &RawImage,
     parts: &mut CodeCosts,
-) -> Result<Option<FaultNumbers>, AllocError>
+) -> Result<Option<FaultNumbers>, OutOfMemory>
     requires routines { AreRoutines raw.now parts.old }
     requires processes { parts.old.processes ≡ [] }
     requires due { parts.old.end ≡ due_start (pieces (image_of raw.now)) (length raw.now.routines) }
@@ -243,7 +247,7 @@ fn processes_fault(
 pub fn shape_fault(
     raw: &RawImage,
     parts: &mut CodeCosts,
-) -> Result<Option<FaultNumbers>, AllocError>
+) -> Result<Option<FaultNumbers>, OutOfMemory>
     requires known { parts.old.known ≡ [] }
     requires routines { parts.old.routines ≡ [] }
     requires processes { parts.old.processes ≡ [] }

@@ -22,7 +22,8 @@ use crate::{
 };
 use image::RawImage;
 use loader_code::{FaultNumbers, operand_fault};
-use std::alloc::{AllocError, Global};
+use out_of_memory::OutOfMemory;
+use std::alloc::Global;
 
 /// A fault, with the number of its part, from 1 to 7, and the two numbers that it shows.
 #[derive(Clone, Copy)]
@@ -44,7 +45,7 @@ fn of_part(number: u8, shown: FaultNumbers) -> ValidityFault
 }
 
 /// The first fault of bounds, of an image whose ranks, ceilings and blocks have none.
-fn bounds_fault(alloc: Global, raw: &RawImage) -> Result<Option<ValidityFault>, AllocError>
+fn bounds_fault(alloc: Global, raw: &RawImage) -> Result<Option<ValidityFault>, OutOfMemory>
     requires limits { HasLimits (image_of raw.now) }
     requires ranks { rank_fault (image_of raw.now) ≡ None }
     ensures { IfOk result (λ found. shown_by found ≡ shown_of_part (image_of raw.now) Bounds) }
@@ -57,7 +58,7 @@ fn bounds_fault(alloc: Global, raw: &RawImage) -> Result<Option<ValidityFault>, 
 }
 
 /// The first fault of ranks, ceilings and blocks.
-fn ranks_fault(alloc: Global, raw: &RawImage) -> Result<Option<ValidityFault>, AllocError>
+fn ranks_fault(alloc: Global, raw: &RawImage) -> Result<Option<ValidityFault>, OutOfMemory>
     requires { HasLimits (image_of raw.now) }
     ensures { IfOk result (λ found. shown_by found ≡ shown_of_part (image_of raw.now) Ranks) }
 {
@@ -69,7 +70,7 @@ fn ranks_fault(alloc: Global, raw: &RawImage) -> Result<Option<ValidityFault>, A
 }
 
 /// The first fault of the parts between operands and bounds.
-fn later_fault(alloc: Global, raw: &RawImage) -> Result<Option<ValidityFault>, AllocError>
+fn later_fault(alloc: Global, raw: &RawImage) -> Result<Option<ValidityFault>, OutOfMemory>
     requires ranges { HasRanges raw.now }
     requires operands { operand_fault (image_of raw.now) ≡ None }
     ensures { IfOk result (λ found. shown_by found ≡ first_before_bounds (image_of raw.now)) }
@@ -86,7 +87,7 @@ fn later_fault(alloc: Global, raw: &RawImage) -> Result<Option<ValidityFault>, A
 pub fn fault_before_bounds(
     alloc: Global,
     raw: &RawImage,
-) -> Result<Option<ValidityFault>, AllocError>
+) -> Result<Option<ValidityFault>, OutOfMemory>
     requires { HasRanges raw.now }
     ensures { IfOk result (λ found. shown_by found ≡ first_before_bounds (image_of raw.now)) }
 {
@@ -97,7 +98,7 @@ pub fn fault_before_bounds(
 }
 
 /// The first fault, or None exactly where the image is valid; or that memory is short.
-pub fn first_fault(alloc: Global, raw: &RawImage) -> Result<Option<ValidityFault>, AllocError>
+pub fn first_fault(alloc: Global, raw: &RawImage) -> Result<Option<ValidityFault>, OutOfMemory>
     requires { HasRanges raw.now }
     ensures { IfOk result (λ found. shown_by found ≡ fault_of (image_of raw.now)) }
 {
@@ -127,7 +128,7 @@ fn after_trees(
     alloc: Global,
     raw: &RawImage,
     parts: &CodeCosts,
-) -> Result<Option<ValidityFault>, AllocError>
+) -> Result<Option<ValidityFault>, OutOfMemory>
     requires ranges { HasRanges raw.now }
     requires parts { AreParts raw.now parts.now }
     requires shape { shape_fault (image_of raw.now) ≡ None }
@@ -141,7 +142,7 @@ fn after_trees(
 }
 
 /// The first fault of trees, handlers, declared costs and sizes.
-fn code_fault(alloc: Global, raw: &RawImage) -> Result<Option<ValidityFault>, AllocError>
+fn code_fault(alloc: Global, raw: &RawImage) -> Result<Option<ValidityFault>, OutOfMemory>
     requires { HasRanges raw.now }
     ensures { IfOk result (λ found. shown_by found ≡ code_fault_of (image_of raw.now)) }
 {

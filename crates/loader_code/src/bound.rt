@@ -8,7 +8,8 @@ ghost use Rattle.loader_code.specs.Owned.{AreCalls};
 
 use crate::of_piece;
 use image::{RawImage, RawRoutine};
-use std::alloc::{AllocError, Global};
+use out_of_memory::OutOfMemory;
+use std::alloc::Global;
 use syntax_tree::List;
 
 /// Whether the routine reaches such code; one that has no row does not.
@@ -49,7 +50,7 @@ pub(crate) fn bounds(
     alloc: Global,
     image: &RawImage,
     calls: &[List<usize>],
-) -> Result<Vec<bool>, AllocError>
+) -> Result<Vec<bool>, OutOfMemory>
     requires { AreCalls (image_of image.now) calls.now }
     ensures { IfOk result (λ v. AreBounds (image_of image.now) v.items) }
 {

@@ -7,7 +7,8 @@ ghost use Rattle.loader_code.specs.Owned.{calls_of, number_of, AreOwned, AreCall
 
 use image::RawImage;
 use machine_isa::Instr;
-use std::alloc::{AllocError, Global};
+use out_of_memory::OutOfMemory;
+use std::alloc::Global;
 use syntax_tree::List;
 
 /// The routine that an instruction calls.
@@ -32,7 +33,7 @@ fn call_at(code: &[Instr], address: usize) -> Option<usize>
 
 /// The routines that the code at these addresses calls.
 #[tactic(auto, using(crate::proofs::Sweeping::calls_more))]
-fn calls_at(alloc: Global, code: &[Instr], addresses: &[usize]) -> Result<List<usize>, AllocError>
+fn calls_at(alloc: Global, code: &[Instr], addresses: &[usize]) -> Result<List<usize>, OutOfMemory>
     ensures { IfOk result (λ v. v ≡ calls_of code.now addresses.now) }
 {
     let mut called = List::new(alloc);
@@ -49,7 +50,7 @@ pub fn calls_by_piece(
     alloc: Global,
     image: &RawImage,
     addresses: &[List<usize>],
-) -> Result<Vec<List<usize>>, AllocError>
+) -> Result<Vec<List<usize>>, OutOfMemory>
     requires { AreOwned (image_of image.now) addresses.now }
     ensures { IfOk result (λ v. AreCalls (image_of image.now) v.items) }
 {

@@ -13,7 +13,8 @@ use crate::operand::bad_operand;
 use crate::words::Whose;
 use crate::{FaultNumbers, addresses_by_piece, calls_by_piece, of_piece};
 use image::{RawImage, RawProcess, RawRoutine};
-use std::alloc::{AllocError, Global};
+use out_of_memory::OutOfMemory;
+use std::alloc::Global;
 use syntax_tree::List;
 
 /// The fault of the instruction at the address, if there is one: the address and the operand, a
@@ -129,7 +130,7 @@ fn processes_fault(
 
 /// The first instruction that breaks a rule of operands, with its address and the operand, and None
 /// exactly where no instruction breaks one; or that memory is short.
-pub fn operand_fault(alloc: Global, image: &RawImage) -> Result<Option<FaultNumbers>, AllocError>
+pub fn operand_fault(alloc: Global, image: &RawImage) -> Result<Option<FaultNumbers>, OutOfMemory>
     requires { length image.now.processes ≤ 64 }
     ensures { IfOk result (λ found. told found ≡ defined_fault (image_of image.now)) }
 {

@@ -7,11 +7,12 @@ ghost use Rattle.valid_image.specs.Pieces.{pieces};
 ghost use Rattle.loader_code.specs.Owned.{start_of, AreMarks, AreOwned, IsBelow, IsGiven};
 
 use image::{RawImage, RawProcess, RawRoutine};
-use std::alloc::{AllocError, Global};
+use out_of_memory::OutOfMemory;
+use std::alloc::Global;
 use syntax_tree::List;
 
 /// Where each piece is declared to start.
-fn starts(alloc: Global, image: &RawImage) -> Result<Vec<usize>, AllocError>
+fn starts(alloc: Global, image: &RawImage) -> Result<Vec<usize>, OutOfMemory>
     ensures { IfOk result (λ v. v.items ≡ map start_of (pieces (image_of image.now))) }
 {
     let mut all = Vec::new(alloc);
@@ -25,7 +26,7 @@ fn starts(alloc: Global, image: &RawImage) -> Result<Vec<usize>, AllocError>
 }
 
 /// By address, the number of the last piece that starts there, if there is one.
-fn marks(alloc: Global, starts: &[usize], length: usize) -> Result<Vec<Option<usize>>, AllocError>
+fn marks(alloc: Global, starts: &[usize], length: usize) -> Result<Vec<Option<usize>>, OutOfMemory>
     ensures { IfOk result (λ v. AreMarks starts.now length v.items) }
 {
     let mut all = vec![in alloc; None; length]?;
@@ -39,7 +40,7 @@ fn marks(alloc: Global, starts: &[usize], length: usize) -> Result<Vec<Option<us
 }
 
 /// So many empty lists.
-fn no_addresses(alloc: Global, count: usize) -> Result<Vec<List<usize>>, AllocError>
+fn no_addresses(alloc: Global, count: usize) -> Result<Vec<List<usize>>, OutOfMemory>
     ensures one_each { IfOk result (λ v. length v.items ≡ count) }
     ensures each { IfOk result (λ v. (k : ℕ) → k < count → slice_index_or v.items k [] ≡ []) }
 {
@@ -51,7 +52,7 @@ fn no_addresses(alloc: Global, count: usize) -> Result<Vec<List<usize>>, AllocEr
 }
 
 /// Gives the address to the piece that it belongs to, if it belongs to one.
-fn give(all: &mut Vec<List<usize>>, owner: Option<usize>, address: usize) -> Result<(), AllocError>
+fn give(all: &mut Vec<List<usize>>, owner: Option<usize>, address: usize) -> Result<(), OutOfMemory>
     requires { IsBelow (length all.old.items) owner }
     ensures { OnOk result (IsGiven owner address all.old.items all.new.items) }
 {
@@ -72,7 +73,7 @@ fn next_owner(marks: &[Option<usize>], owner: Option<usize>, address: usize) -> 
 
 /// The addresses of each piece in ascending order, by the number of the piece; routines come before
 /// processes.
-pub fn addresses_by_piece(alloc: Global, image: &RawImage) -> Result<Vec<List<usize>>, AllocError>
+pub fn addresses_by_piece(alloc: Global, image: &RawImage) -> Result<Vec<List<usize>>, OutOfMemory>
     ensures { IfOk result (λ v. AreOwned (image_of image.now) v.items) }
 {
     let starts = starts(alloc, image)?;

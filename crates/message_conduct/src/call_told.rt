@@ -8,13 +8,14 @@ ghost use Rattle.message_conduct.specs.Told.{IsCallTold, IsRoundTold, handler_se
 
 use crate::routine_name;
 use message_text::add_quoted;
+use out_of_memory::OutOfMemory;
 use static_calls::way_back;
 use static_declarations::Declarations;
-use std::alloc::{AllocError, Global};
+use std::alloc::Global;
 use syntax_tree::{Declaration, Place, Process, Text};
 
 /// Puts two names with words between them.
-fn add_names(text: &mut Text, one: &[u8], words: &[u8], other: &[u8]) -> Result<(), AllocError>
+fn add_names(text: &mut Text, one: &[u8], words: &[u8], other: &[u8]) -> Result<(), OutOfMemory>
     ensures { OnOk result (text.new ≡ text.old ++
         (quoted one.now ++ (words.now ++ quoted other.now))) }
 {
@@ -24,7 +25,7 @@ fn add_names(text: &mut Text, one: &[u8], words: &[u8], other: &[u8]) -> Result<
 }
 
 /// Puts a name among some words.
-fn add_among(text: &mut Text, before: &[u8], name: &[u8], behind: &[u8]) -> Result<(), AllocError>
+fn add_among(text: &mut Text, before: &[u8], name: &[u8], behind: &[u8]) -> Result<(), OutOfMemory>
     ensures { OnOk result (text.new ≡ text.old ++
         (before.now ++ (quoted name.now ++ behind.now))) }
 {
@@ -34,7 +35,7 @@ fn add_among(text: &mut Text, before: &[u8], name: &[u8], behind: &[u8]) -> Resu
 }
 
 /// Puts that a routine reaches itself, and by which call.
-fn add_round(text: &mut Text, caller: &[u8], callee: &[u8]) -> Result<(), AllocError>
+fn add_round(text: &mut Text, caller: &[u8], callee: &[u8]) -> Result<(), OutOfMemory>
     ensures { OnOk result (text.new ≡ text.old ++ round_sentence caller.now callee.now) }
 {
     add_names(
@@ -46,7 +47,7 @@ fn add_round(text: &mut Text, caller: &[u8], callee: &[u8]) -> Result<(), AllocE
 }
 
 /// Puts that the handler of a process reaches a wait.
-fn add_handler(text: &mut Text, process: &[u8]) -> Result<(), AllocError>
+fn add_handler(text: &mut Text, process: &[u8]) -> Result<(), OutOfMemory>
     ensures { OnOk result (text.new ≡ text.old ++ handler_sentence process.now) }
 {
     add_among(text, b"the handler of ", process, b" reaches a `wait`")
@@ -58,7 +59,7 @@ fn round_text(
     declarations: &Declarations<'_>,
     place: Place,
     callee: Place,
-) -> Result<Text, AllocError>
+) -> Result<Text, OutOfMemory>
     ensures { IfOk result (λ said. said ≡ round_sentence
         (routine_name (placed declarations.now) place)
         (routine_name (placed declarations.now) callee)) }
@@ -78,7 +79,7 @@ fn round_told(
     alloc: Global,
     declarations: &Declarations<'_>,
     place: Place,
-) -> Result<Option<Text>, AllocError>
+) -> Result<Option<Text>, OutOfMemory>
     ensures { IfOk result (λ said. IsRoundTold (placed declarations.now) place said) }
 {
     let Some(callee) = way_back(alloc, declarations, place)? else {
@@ -114,7 +115,7 @@ fn handled_at<'a>(place: Place, list: &'a [Declaration]) -> Option<&'a Process>
 }
 
 /// The sentence for a process that has a handler.
-fn handler_text(alloc: Global, process: &Process) -> Result<Text, AllocError>
+fn handler_text(alloc: Global, process: &Process) -> Result<Text, OutOfMemory>
     ensures { IfOk result (λ said. said ≡ handler_sentence (placed_process process.now).name) }
 {
     let mut sentence = Text::new(alloc);
@@ -127,7 +128,7 @@ fn handler_told(
     alloc: Global,
     declarations: &Declarations<'_>,
     place: Place,
-) -> Result<Option<Text>, AllocError>
+) -> Result<Option<Text>, OutOfMemory>
     ensures { IfOk result (λ said. said ≡ handler_told (placed declarations.now) place) }
 {
     let Some(process) = handled_at(place, declarations.program().decls.as_slice()) else {
@@ -146,7 +147,7 @@ pub fn call_sentence(
     declarations: &Declarations<'_>,
     number: u8,
     place: Place,
-) -> Result<Option<Text>, AllocError>
+) -> Result<Option<Text>, OutOfMemory>
     ensures { IfOk result (λ said. IsCallTold (placed declarations.now) number place said) }
 {
     match number {

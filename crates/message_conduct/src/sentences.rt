@@ -10,7 +10,8 @@ ghost use Rattle.message_conduct.specs.Seen.{deed as deed_of, fault, monitor_nam
 
 use crate::stray::{Deed, Stray, Word};
 use message_text::add_quoted;
-use std::alloc::{AllocError, Global};
+use out_of_memory::OutOfMemory;
+use std::alloc::Global;
 use syntax_tree::{Declaration, Name, Place, Routine, Text};
 
 /// The name of the routine whose name stands at the place, if it is one of these.
@@ -58,7 +59,7 @@ pub fn routine_name(place: Place, list: &[Declaration]) -> &[u8]
 }
 
 /// Puts a name among some words.
-fn add_among(text: &mut Text, before: &[u8], name: &[u8], behind: &[u8]) -> Result<(), AllocError>
+fn add_among(text: &mut Text, before: &[u8], name: &[u8], behind: &[u8]) -> Result<(), OutOfMemory>
     ensures { OnOk result (text.new ≡ text.old ++ among before.now name.now behind.now) }
 {
     text.extend(before)?;
@@ -67,7 +68,7 @@ fn add_among(text: &mut Text, before: &[u8], name: &[u8], behind: &[u8]) -> Resu
 }
 
 /// A routine as it is called, an entry behind its monitor.
-fn call_text(alloc: Global, monitor: Option<&Name>, name: &Name) -> Result<Text, AllocError>
+fn call_text(alloc: Global, monitor: Option<&Name>, name: &Name) -> Result<Text, OutOfMemory>
     ensures { IfOk result (λ text. text ≡ called (monitor_name monitor.entry) name.now) }
 {
     let mut text = Text::new(alloc);
@@ -87,7 +88,7 @@ fn add_call(
     monitor: Option<&Name>,
     name: &Name,
     behind: &[u8],
-) -> Result<(), AllocError>
+) -> Result<(), OutOfMemory>
     ensures { OnOk result (text.new ≡ text.old ++
         among before.now (called (monitor_name monitor.entry) name.now) behind.now) }
 {
@@ -108,7 +109,7 @@ fn spelled(word: Word) -> &'static [u8]
 }
 
 /// Puts what is said of a function that does it.
-fn add_denied(text: &mut Text, deed: Deed<'_>) -> Result<(), AllocError>
+fn add_denied(text: &mut Text, deed: Deed<'_>) -> Result<(), OutOfMemory>
     ensures { OnOk result (text.new ≡ text.old ++ denied (deed_of deed.entry)) }
 {
     match deed {
@@ -120,7 +121,7 @@ fn add_denied(text: &mut Text, deed: Deed<'_>) -> Result<(), AllocError>
 }
 
 /// Puts that the function of this name does what it may not.
-fn add_by_function(text: &mut Text, own: &[u8], deed: Deed<'_>) -> Result<(), AllocError>
+fn add_by_function(text: &mut Text, own: &[u8], deed: Deed<'_>) -> Result<(), OutOfMemory>
     ensures { OnOk result (text.new ≡ text.old ++
         among (codes "the function ") own.now (codes ", being no entry, " ++ denied (deed_of deed.entry))) }
 {
@@ -134,7 +135,7 @@ fn add_as_statement(
     alloc: Global,
     monitor: Option<&Name>,
     name: &Name,
-) -> Result<(), AllocError>
+) -> Result<(), OutOfMemory>
     ensures { OnOk result (text.new ≡ text.old ++
         among (codes "the function ") (called (monitor_name monitor.entry) name.now)
         (codes " stands as a statement")) }
@@ -155,7 +156,7 @@ fn add_no_value(
     alloc: Global,
     monitor: Option<&Name>,
     name: &Name,
-) -> Result<(), AllocError>
+) -> Result<(), OutOfMemory>
     ensures { OnOk result (text.new ≡ text.old ++
         among [] (called (monitor_name monitor.entry) name.now)
         (codes " is a procedure and gives no value")) }
@@ -176,7 +177,7 @@ pub(crate) fn add_sentence(
     alloc: Global,
     list: &[Declaration],
     stray: Stray<'_>,
-) -> Result<(), AllocError>
+) -> Result<(), OutOfMemory>
     ensures { OnOk result (text.new ≡ text.old ++
         sentence (routines (map placed_decl list.now)) (fault stray.entry)) }
 {

@@ -6,9 +6,10 @@ ghost use Rattle.message_conduct.specs.Conduct.{conduct_sentence};
 
 use crate::sentences::add_sentence;
 use crate::walk::first_stray;
+use out_of_memory::OutOfMemory;
 use static_declarations::Declarations;
 use static_rule::Violation;
-use std::alloc::{AllocError, Global};
+use std::alloc::Global;
 use syntax_tree::{Place, Text};
 
 /// The sentence that tells what is wrong with the first statement or result where the rule with this
@@ -19,7 +20,7 @@ pub fn conduct_sentence(
     declarations: &Declarations<'_>,
     number: u8,
     place: Place,
-) -> Result<Option<Text>, AllocError>
+) -> Result<Option<Text>, OutOfMemory>
     ensures { IfOk result (λ told. told ≡ conduct_sentence (placed declarations.now) number place) }
 {
     let broken = Violation { number, place };

@@ -3,6 +3,7 @@
 ghost use Rattle.std.specs.Prelude.{◌≡◌, ◌≢◌, ◌++◌, IfOk, List, OnOk, reverse};
 ghost use Rattle.std.specs.List.{list_all};
 ghost use Rattle.std.specs.Prelude.{take as first};
+ghost use Rattle.out_of_memory.specs.Refused.{refused};
 ghost use Rattle.message_expected.specs.Automaton as automaton;
 ghost use Rattle.message_expected.specs.Leads.{Leads};
 ghost use Rattle.message_expected.specs.Stack.{fed_to, found_on, head_of, reached_of};
@@ -11,7 +12,8 @@ use crate::kinds::Kind;
 use crate::symbols::{Head, Symbol, Turn};
 use crate::tokens::bytes_of;
 use crate::turns::{is_optional, turn};
-use std::alloc::{AllocError, Global};
+use out_of_memory::OutOfMemory;
+use std::alloc::Global;
 use syntax::{LexFault, Token, TokenKind, keyword, lex};
 
 /// What is left of a program where no word has been read.
@@ -101,7 +103,7 @@ fn find(mut levels: u8, stack: &[Symbol], kind: Kind) -> Option<Found>
 }
 
 /// Puts these on the stack, the first of them on top.
-fn put(stack: &mut Vec<Symbol>, symbols: &[Symbol]) -> Result<(), AllocError>
+fn put(stack: &mut Vec<Symbol>, symbols: &[Symbol]) -> Result<(), OutOfMemory>
     ensures { OnOk result (stack.new.items ≡ stack.old.items ++ reverse symbols.now) }
 {
     let mut left = symbols.len();
@@ -113,7 +115,7 @@ fn put(stack: &mut Vec<Symbol>, symbols: &[Symbol]) -> Result<(), AllocError>
 }
 
 /// Does the turn of what was found.
-fn take(stack: &mut Vec<Symbol>, found: Found) -> Result<Fed, AllocError>
+fn take(stack: &mut Vec<Symbol>, found: Found) -> Result<Fed, OutOfMemory>
     ensures { IfOk result (λ fed. fed_to stack.new.items fed ≡
         automaton.taken found.levels (head_of found.turn.head)
         (found.turn.behind.now ++ reverse (first found.below stack.old.items))) }
@@ -144,7 +146,7 @@ fn take(stack: &mut Vec<Symbol>, found: Found) -> Result<Fed, AllocError>
 }
 
 /// Goes on with one word.
-fn feed(stack: &mut Vec<Symbol>, levels: u8, kind: Kind) -> Result<Fed, AllocError>
+fn feed(stack: &mut Vec<Symbol>, levels: u8, kind: Kind) -> Result<Fed, OutOfMemory>
     ensures { IfOk result (λ fed. fed_to stack.new.items fed ≡
         automaton.feed levels (reverse stack.old.items) kind) }
 {
@@ -173,7 +175,7 @@ fn kind_in(text: &[u8], token: Token) -> Kind
 }
 
 /// Where these tokens of the text lead.
-fn lead(alloc: Global, text: &[u8], all: &[Token]) -> Result<Reached, AllocError>
+fn lead(alloc: Global, text: &[u8], all: &[Token]) -> Result<Reached, OutOfMemory>
     ensures { IfOk result (λ it. reached_of it ≡
         automaton.reach automaton.start (automaton.kinds_in text.now all.now)) }
 {
@@ -191,17 +193,18 @@ fn lead(alloc: Global, text: &[u8], all: &[Token]) -> Result<Reached, AllocError
 }
 
 /// That a text of this fault leads nowhere.
-fn lead_nowhere(fault: LexFault) -> Result<Reached, AllocError>
-    ensures { IfOk result (λ it. (reached_of it ≡ automaton.stopped) × (fault ≢ LexFault.Memory)) }
+fn lead_nowhere(fault: LexFault) -> Result<Reached, OutOfMemory>
+    ensures { IfOk result (λ it. (reached_of it ≡ automaton.stopped) ×
+        (fault ≢ LexFault.Memory refused)) }
 {
     match fault {
-        LexFault::Memory => Err(AllocError),
+        LexFault::Memory(error) => Err(error),
         _ => Ok(Reached::Stopped),
     }
 }
 
 /// Where the words of the text lead; a text without tokens leads nowhere.
-pub(crate) fn read(alloc: Global, text: &[u8]) -> Result<Reached, AllocError>
+pub(crate) fn read(alloc: Global, text: &[u8]) -> Result<Reached, OutOfMemory>
     ensures { IfOk result (λ it. Leads text.now (reached_of it)) }
 {
     match lex(alloc, text) {

@@ -12,7 +12,8 @@ ghost use Rattle.message_expected.specs.declared.kinds.Kind.TheVariants as kind;
 use crate::automaton::{Reached, goes_on, is_whole, read};
 use crate::kinds::{KEYWORDS, Kind, SIGNS, spelling};
 use crate::tokens::front;
-use std::alloc::{AllocError, Global};
+use out_of_memory::OutOfMemory;
+use std::alloc::Global;
 use syntax::Token;
 
 /// A text has at most this many bytes.
@@ -60,7 +61,7 @@ fn add_expected(
     reached: &Reached,
     kind: Kind,
     found: &mut Vec<Kind>,
-) -> Result<(), AllocError>
+) -> Result<(), OutOfMemory>
     requires leads { Leads text.now (reached_of reached.now) }
     requires word { IsWord kind }
     ensures { OnOk result ((all : List SpecKind) →
@@ -74,7 +75,7 @@ fn add_expected(
 }
 
 /// Puts the keywords to the others that are expected behind the text.
-fn add_keywords(text: &[u8], reached: &Reached, found: &mut Vec<Kind>) -> Result<(), AllocError>
+fn add_keywords(text: &[u8], reached: &Reached, found: &mut Vec<Kind>) -> Result<(), OutOfMemory>
     requires { Leads text.now (reached_of reached.now) }
     ensures { OnOk result ((all : List SpecKind) →
         Picks (IsExpected text.now) all found.old.items →
@@ -87,7 +88,7 @@ fn add_keywords(text: &[u8], reached: &Reached, found: &mut Vec<Kind>) -> Result
 }
 
 /// Puts the signs to the others that are expected behind the text.
-fn add_signs(text: &[u8], reached: &Reached, found: &mut Vec<Kind>) -> Result<(), AllocError>
+fn add_signs(text: &[u8], reached: &Reached, found: &mut Vec<Kind>) -> Result<(), OutOfMemory>
     requires { Leads text.now (reached_of reached.now) }
     ensures { OnOk result ((all : List SpecKind) →
         Picks (IsExpected text.now) all found.old.items →
@@ -104,7 +105,7 @@ fn add_signs(text: &[u8], reached: &Reached, found: &mut Vec<Kind>) -> Result<()
 ///
 /// The tokens are the first ones of the text, those before the token at which the grammar's fault
 /// stands, or all of them where it stands at the end.
-pub fn expected(alloc: Global, text: &[u8], before: &[Token]) -> Result<Vec<Kind>, AllocError>
+pub fn expected(alloc: Global, text: &[u8], before: &[Token]) -> Result<Vec<Kind>, OutOfMemory>
     ensures { IfOk result (λ found. IsExpectedSet (front text.now before.now) found.items) }
 {
     let text = front(text, before);

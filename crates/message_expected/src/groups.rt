@@ -6,7 +6,8 @@ ghost use Rattle.message_expected.specs.Groups.{members, name, stands};
 ghost use Rattle.message_expected.specs.Kinds.{told as told_of};
 
 use crate::kinds::{Kind, add_told, has};
-use std::alloc::{AllocError, Global};
+use out_of_memory::OutOfMemory;
+use std::alloc::Global;
 use syntax::{keyword, sign};
 use syntax_tree::{List, Text};
 
@@ -177,7 +178,7 @@ fn add_group(
     found: &[Kind],
     group: Group,
     all: &mut List<Text>,
-) -> Result<(), AllocError>
+) -> Result<(), OutOfMemory>
     ensures { OnOk result
         (all.new ≡ all.old ++ map name (filter (stands found.now) (group ∷ []))) }
 {
@@ -188,7 +189,7 @@ fn add_group(
 }
 
 /// Puts the names of the groups that stand for their members to the others.
-fn add_groups(alloc: Global, found: &[Kind], all: &mut List<Text>) -> Result<(), AllocError>
+fn add_groups(alloc: Global, found: &[Kind], all: &mut List<Text>) -> Result<(), OutOfMemory>
     ensures { OnOk result
         (all.new ≡ all.old ++ map name (filter (stands found.now) all_groups)) }
 {
@@ -200,7 +201,7 @@ fn add_groups(alloc: Global, found: &[Kind], all: &mut List<Text>) -> Result<(),
 }
 
 /// What the kind is called.
-fn told(alloc: Global, kind: Kind) -> Result<Text, AllocError>
+fn told(alloc: Global, kind: Kind) -> Result<Text, OutOfMemory>
     ensures { IfOk result (λ text. text ≡ told_of kind) }
 {
     let mut text = Text::new(alloc);
@@ -214,7 +215,7 @@ fn add_kind(
     found: &[Kind],
     kind: Kind,
     all: &mut List<Text>,
-) -> Result<(), AllocError>
+) -> Result<(), OutOfMemory>
     ensures { OnOk result
         (all.new ≡ all.old ++ map told_of (filter (λ it. not (is_covered found.now it)) (kind ∷ []))) }
 {
@@ -225,7 +226,7 @@ fn add_kind(
 }
 
 /// Puts what the kinds are called for which no group stands to the others.
-fn add_kinds(alloc: Global, found: &[Kind], all: &mut List<Text>) -> Result<(), AllocError>
+fn add_kinds(alloc: Global, found: &[Kind], all: &mut List<Text>) -> Result<(), OutOfMemory>
     ensures { OnOk result
         (all.new ≡ all.old ++ map told_of (filter (λ it. not (is_covered found.now it)) found.now)) }
 {
@@ -237,7 +238,7 @@ fn add_kinds(alloc: Global, found: &[Kind], all: &mut List<Text>) -> Result<(), 
 
 /// What is expected, as it is told: the groups that stand for their members, then the other kinds.
 #[tactic(auto, unfolding(crate::specs::Groups::expectations))]
-pub(crate) fn expectations(alloc: Global, found: &[Kind]) -> Result<List<Text>, AllocError>
+pub(crate) fn expectations(alloc: Global, found: &[Kind]) -> Result<List<Text>, OutOfMemory>
     ensures { IfOk result (λ all. all ≡ expectations found.now) }
 {
     let mut all = List::new(alloc);

@@ -6,7 +6,7 @@ ghost use Rattle.syntax.specs.Spellings.{keywords, signs};
 ghost use Rattle.message_expected.specs.Kinds.{has, kind_of, of_token, same, spelling, told};
 
 use message_text::add_quoted;
-use std::alloc::AllocError;
+use out_of_memory::OutOfMemory;
 use syntax::{Token, TokenKind, keyword_spelling, sign_spelling};
 use syntax_tree::Text;
 
@@ -66,7 +66,7 @@ pub fn spelling(kind: Kind) -> &'static [u8]
 }
 
 /// Puts what the kind is called.
-pub(crate) fn add_told(text: &mut Text, kind: Kind) -> Result<(), AllocError>
+pub(crate) fn add_told(text: &mut Text, kind: Kind) -> Result<(), OutOfMemory>
     ensures { OnOk result (text.new ≡ text.old ++ told kind) }
 {
     match kind {

@@ -9,7 +9,8 @@ use crate::groups::expectations;
 use crate::kinds::Kind;
 use crate::tokens::bytes_of;
 use message_text::{add_note, add_quoted};
-use std::alloc::{AllocError, Global};
+use out_of_memory::OutOfMemory;
+use std::alloc::Global;
 use syntax::Token;
 use syntax_tree::Text;
 
@@ -24,7 +25,7 @@ fn separator(behind: &[Text]) -> &'static [u8]
 }
 
 /// Puts these, each behind a comma, but the last behind `or`.
-fn add_others(text: &mut Text, others: &[Text]) -> Result<(), AllocError>
+fn add_others(text: &mut Text, others: &[Text]) -> Result<(), OutOfMemory>
     ensures { OnOk result (text.new ≡ text.old ++ others_text others.now) }
 {
     for index in 0..others.len() {
@@ -35,7 +36,7 @@ fn add_others(text: &mut Text, others: &[Text]) -> Result<(), AllocError>
 }
 
 /// Puts a choice of these.
-fn add_either(text: &mut Text, all: &[Text]) -> Result<(), AllocError>
+fn add_either(text: &mut Text, all: &[Text]) -> Result<(), OutOfMemory>
     ensures { OnOk result (text.new ≡ text.old ++ either all.now) }
 {
     match all {
@@ -53,7 +54,7 @@ fn add_sentence(
     text: &[u8],
     before: &[Token],
     all: &[Text],
-) -> Result<(), AllocError>
+) -> Result<(), OutOfMemory>
     ensures { OnOk result
         (message.new ≡ message.old ++ sentence text.now (last before.now) all.now) }
 {
@@ -80,7 +81,7 @@ pub fn add_expected_note(
     text: &[u8],
     before: &[Token],
     found: &[Kind],
-) -> Result<(), AllocError>
+) -> Result<(), OutOfMemory>
     ensures { OnOk result
         (message.new ≡ message.old ++ expected_note text.now before.now found.now) }
 {

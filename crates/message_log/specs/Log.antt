@@ -104,7 +104,7 @@ line_message file text processes number =
 abbrev pub fault_message : (file text : List ℕ) (names : ImageNames) (fault : LogFault) → List ℕ
 fault_message file text names (Line number) = line_message file text names.processes number
 fault_message file text names Long = long_message file
-fault_message file text names Memory = []
+fault_message file text names (Memory _) = []
 
 -- the message for a text that is no log of a program with these names
 unfoldable pub log_message : (file text : List ℕ) (names : ImageNames) (fault : LogFault) → List ℕ

@@ -5,7 +5,8 @@ ghost use Rattle.message_log.specs.Image.{image_message, image_sentence, place};
 
 use crate::openings::add_opening;
 use message_text::{add_number, add_parts};
-use std::alloc::{AllocError, Global};
+use out_of_memory::OutOfMemory;
+use std::alloc::Global;
 use syntax_tree::Text;
 
 /// What is wrong, by the fault's number.
@@ -28,7 +29,7 @@ fn sentence(number: u8) -> &'static [u8]
 }
 
 /// Puts the place of a fault.
-fn add_place(text: &mut Text, offset: usize) -> Result<(), AllocError>
+fn add_place(text: &mut Text, offset: usize) -> Result<(), OutOfMemory>
     ensures { OnOk result (text.new ≡ text.old ++ place offset) }
 {
     text.extend(b"at byte ")?;
@@ -39,7 +40,12 @@ fn add_place(text: &mut Text, offset: usize) -> Result<(), AllocError>
 /// The message for bytes that are no image: the file, the number of the fault, its place from 0,
 /// and what is wrong there.
 #[tactic(auto, unfolding(crate::specs::Image::image_message))]
-pub fn image_message(alloc: Global, file: &str, number: u8, offset: u32) -> Result<Text, AllocError>
+pub fn image_message(
+    alloc: Global,
+    file: &str,
+    number: u8,
+    offset: u32,
+) -> Result<Text, OutOfMemory>
     ensures { IfOk result (λ message. message ≡ image_message file.now number offset) }
 {
     let mut message = Text::new(alloc);

@@ -10,8 +10,8 @@ ghost use Rattle.message_log.specs.Refused.{behind};
 use image::{ConditionName, DeviceName, ImageNames};
 use itoa::Buffer;
 use message_text::add_number;
+use out_of_memory::OutOfMemory;
 use replay_reason_spec::{SourceAct, SourceEvent};
-use std::alloc::AllocError;
 use syntax_tree::{Name, Text};
 
 /// The name of this number, nothing where there is none.
@@ -74,7 +74,7 @@ fn truth_of(answer: bool) -> &'static [u8]
 }
 
 /// Puts a blank and a word.
-fn add_word(text: &mut Text, word: &[u8]) -> Result<(), AllocError>
+fn add_word(text: &mut Text, word: &[u8]) -> Result<(), OutOfMemory>
     ensures { OnOk result (text.new ≡ text.old ++ 32 ∷ word.now) }
 {
     text.extend(b" ")?;
@@ -82,7 +82,7 @@ fn add_word(text: &mut Text, word: &[u8]) -> Result<(), AllocError>
 }
 
 /// Puts a blank and a number.
-fn add_count(text: &mut Text, number: usize) -> Result<(), AllocError>
+fn add_count(text: &mut Text, number: usize) -> Result<(), OutOfMemory>
     ensures { OnOk result (text.new ≡ text.old ++ 32 ∷ decimal number) }
 {
     text.extend(b" ")?;
@@ -90,7 +90,7 @@ fn add_count(text: &mut Text, number: usize) -> Result<(), AllocError>
 }
 
 /// Puts a blank and a value.
-fn add_value(text: &mut Text, value: i64) -> Result<(), AllocError>
+fn add_value(text: &mut Text, value: i64) -> Result<(), OutOfMemory>
     ensures { OnOk result (text.new ≡ text.old ++ 32 ∷ signed_decimal value) }
 {
     let mut digits = Buffer::new();
@@ -102,7 +102,7 @@ fn add_qualified(
     text: &mut Text,
     names: &ImageNames,
     condition: &ConditionName,
-) -> Result<(), AllocError>
+) -> Result<(), OutOfMemory>
     ensures { OnOk result
         (text.new ≡ text.old ++ 32 ∷ qualified names.now (Some condition.now)) }
 {
@@ -111,7 +111,7 @@ fn add_qualified(
 }
 
 /// Puts a blank and the name of the condition of this number.
-fn add_condition(text: &mut Text, names: &ImageNames, number: usize) -> Result<(), AllocError>
+fn add_condition(text: &mut Text, names: &ImageNames, number: usize) -> Result<(), OutOfMemory>
     ensures { OnOk result (text.new ≡ text.old ++ 32 ∷ condition_name names.now number) }
 {
     match names.conditions.as_slice().get(number) {
@@ -126,7 +126,7 @@ fn add_asked(
     names: &ImageNames,
     condition: usize,
     word: &[u8],
-) -> Result<(), AllocError>
+) -> Result<(), OutOfMemory>
     ensures { OnOk result
         (text.new ≡ text.old ++ 32 ∷ (condition_name names.now condition ++ 32 ∷ word.now)) }
 {
@@ -140,7 +140,7 @@ fn add_counted(
     names: &ImageNames,
     condition: usize,
     number: usize,
-) -> Result<(), AllocError>
+) -> Result<(), OutOfMemory>
     ensures { OnOk result
         (text.new ≡ text.old ++ 32 ∷ (condition_name names.now condition ++ 32 ∷ decimal number)) }
 {
@@ -154,7 +154,7 @@ fn add_transfer(
     names: &ImageNames,
     device: usize,
     value: i64,
-) -> Result<(), AllocError>
+) -> Result<(), OutOfMemory>
     ensures { OnOk result
         (text.new ≡ text.old ++ 32 ∷ (device_name names.now device ++ 32 ∷ signed_decimal value)) }
 {
@@ -183,7 +183,7 @@ fn verb(act: SourceAct) -> &'static [u8]
 }
 
 /// Puts what stands behind the word of what is done.
-fn add_args(text: &mut Text, names: &ImageNames, act: SourceAct) -> Result<(), AllocError>
+fn add_args(text: &mut Text, names: &ImageNames, act: SourceAct) -> Result<(), OutOfMemory>
     ensures { OnOk result (text.new ≡ text.old ++ behind (args_text names.now (act_of act))) }
 {
     match act {
@@ -207,7 +207,7 @@ pub(crate) fn add_event(
     text: &mut Text,
     names: &ImageNames,
     event: &SourceEvent,
-) -> Result<(), AllocError>
+) -> Result<(), OutOfMemory>
     ensures { OnOk result (text.new ≡ text.old ++ spelled names.now (event_of event.now)) }
 {
     add_number(text, event.tick as usize)?;

@@ -8,7 +8,8 @@ use crate::reasons::reason;
 use event_log::LogFault;
 use image::ImageNames;
 use message_text::{add_head, add_note, add_plain, add_show, is_ended, line};
-use std::alloc::{AllocError, Global};
+use out_of_memory::OutOfMemory;
+use std::alloc::Global;
 use syntax_tree::{Name, Text};
 
 /// The most bytes of a log.
@@ -16,7 +17,7 @@ const LONGEST: usize = 67_108_864;
 
 /// The message for a log that has too many bytes.
 #[tactic(auto, unfolding(crate::specs::Log::long_message))]
-pub fn long_message(alloc: Global, file: &str) -> Result<Text, AllocError>
+pub fn long_message(alloc: Global, file: &str) -> Result<Text, OutOfMemory>
     ensures { IfOk result (λ message. message ≡ long_message file.now) }
 {
     let mut message = Text::new(alloc);
@@ -33,7 +34,7 @@ pub(crate) fn told_line(
     number: usize,
     code: &[u8],
     sentence: &[u8],
-) -> Result<Text, AllocError>
+) -> Result<Text, OutOfMemory>
     ensures { IfOk result (λ message.
         message ≡ told_line file.now source.now number code.now sentence.now) }
 {
@@ -50,7 +51,7 @@ fn line_message(
     source: &[u8],
     processes: &[Name],
     number: usize,
-) -> Result<Text, AllocError>
+) -> Result<Text, OutOfMemory>
     ensures { IfOk result (λ message.
         message ≡ line_message file.now source.now processes.now number) }
 {
@@ -69,7 +70,7 @@ fn fault_message(
     text: &[u8],
     names: &ImageNames,
     fault: &LogFault,
-) -> Result<Text, AllocError>
+) -> Result<Text, OutOfMemory>
     ensures { IfOk result (λ message.
         message ≡ fault_message file.now text.now names.now fault.now) }
 {
@@ -79,7 +80,7 @@ fn fault_message(
             line_message(alloc, file, text, processes, *number as usize)
         }
         LogFault::Long => long_message(alloc, file),
-        LogFault::Memory => Ok(Text::new(alloc)),
+        LogFault::Memory(_) => Ok(Text::new(alloc)),
     }
 }
 
@@ -92,7 +93,7 @@ pub fn log_message(
     text: &[u8],
     names: &ImageNames,
     fault: &LogFault,
-) -> Result<Text, AllocError>
+) -> Result<Text, OutOfMemory>
     ensures { IfOk result (λ message.
         message ≡ log_message file.now text.now names.now fault.now) }
 {

@@ -4,7 +4,7 @@ ghost use Rattle.std.specs.Prelude.{◌≡◌, ◌++◌, OnOk};
 ghost use Rattle.message_log.specs.Image.{opening};
 
 use message_text::{add_number, add_parts, add_plain};
-use std::alloc::AllocError;
+use out_of_memory::OutOfMemory;
 use syntax_tree::Text;
 
 /// Puts the file and the fault, by its letter and number.
@@ -13,7 +13,7 @@ pub(crate) fn add_opening(
     file: &[u8],
     letter: &[u8],
     number: u8,
-) -> Result<(), AllocError>
+) -> Result<(), OutOfMemory>
     ensures { OnOk result (text.new ≡ text.old ++ opening file.now letter.now number) }
 {
     add_plain(text, file)?;

@@ -9,32 +9,32 @@ use crate::event_line::{monitor_of, process_of};
 use faulty_part::FaultyPart;
 use image::{ImageNames, RawImage, RawRoutine};
 use message_text::{add_number, add_parts};
-use std::alloc::AllocError;
+use out_of_memory::OutOfMemory;
 use syntax_tree::Text;
 
 /// Puts a kind and a name.
-fn add_called(text: &mut Text, kind: &[u8], name: &[u8]) -> Result<(), AllocError>
+fn add_called(text: &mut Text, kind: &[u8], name: &[u8]) -> Result<(), OutOfMemory>
     ensures { OnOk result (text.new ≡ text.old ++ called kind.now name.now) }
 {
     add_parts(text, &[kind, b" `", name, b"`"])
 }
 
 /// Puts a process.
-fn add_process(text: &mut Text, names: &ImageNames, number: usize) -> Result<(), AllocError>
+fn add_process(text: &mut Text, names: &ImageNames, number: usize) -> Result<(), OutOfMemory>
     ensures { OnOk result (text.new ≡ text.old ++ process_called names.now number) }
 {
     add_called(text, b"process", process_of(names, number))
 }
 
 /// Puts a monitor.
-fn add_monitor(text: &mut Text, names: &ImageNames, number: usize) -> Result<(), AllocError>
+fn add_monitor(text: &mut Text, names: &ImageNames, number: usize) -> Result<(), OutOfMemory>
     ensures { OnOk result (text.new ≡ text.old ++ monitor_called names.now number) }
 {
     add_called(text, b"monitor", monitor_of(names, number))
 }
 
 /// Puts whose routine it is.
-fn add_owner(text: &mut Text, names: &ImageNames, routine: &RawRoutine) -> Result<(), AllocError>
+fn add_owner(text: &mut Text, names: &ImageNames, routine: &RawRoutine) -> Result<(), OutOfMemory>
     ensures { OnOk result (text.new ≡ text.old ++ owner_called names.now (routine_of routine.now)) }
 {
     match routine.kind {
@@ -71,7 +71,7 @@ fn add_numbered(
     raw: &RawImage,
     number: usize,
     routine: &RawRoutine,
-) -> Result<(), AllocError>
+) -> Result<(), OutOfMemory>
     requires { number < length raw.now.routines }
     ensures { OnOk result (text.new ≡ text.old ++
         routine_called (named_of raw.now) number (Some (routine_of routine.now))) }
@@ -84,7 +84,7 @@ fn add_numbered(
 }
 
 /// Puts a routine, where there is one of this number.
-fn add_routine(text: &mut Text, raw: &RawImage, number: usize) -> Result<(), AllocError>
+fn add_routine(text: &mut Text, raw: &RawImage, number: usize) -> Result<(), OutOfMemory>
     ensures { OnOk result (text.new ≡ text.old ++ routine_called (named_of raw.now) number
         (slice_get (named_of raw.now).image.routines number)) }
 {
@@ -95,7 +95,7 @@ fn add_routine(text: &mut Text, raw: &RawImage, number: usize) -> Result<(), All
 }
 
 /// Puts what a part of an image is called.
-pub(crate) fn add_part(text: &mut Text, raw: &RawImage, part: FaultyPart) -> Result<(), AllocError>
+pub(crate) fn add_part(text: &mut Text, raw: &RawImage, part: FaultyPart) -> Result<(), OutOfMemory>
     ensures { OnOk result (text.new ≡ text.old ++ part_called (named_of raw.now) part) }
 {
     match part {

@@ -12,11 +12,12 @@ ghost use Rattle.message_log.specs.Seen.{form_of};
 use crate::table::{Form, event_form, event_words};
 use crate::ticks::is_tick;
 use message_text::{add_parts, add_plain, add_quoted, cut, has_return, nearest};
-use std::alloc::{AllocError, Global};
+use out_of_memory::OutOfMemory;
+use std::alloc::Global;
 use syntax_tree::{Name, Text};
 
 /// Puts the nearest name, if there is one.
-fn add_hint(text: &mut Text, near: Option<&[u8]>) -> Result<(), AllocError>
+fn add_hint(text: &mut Text, near: Option<&[u8]>) -> Result<(), OutOfMemory>
     ensures { OnOk result
         (text.new ≡ text.old ++ hint (option_map (λ name. name.now) near.entry)) }
 {
@@ -37,7 +38,7 @@ fn add_unknown(
     word: &[u8],
     what: &[u8],
     near: Option<&[u8]>,
-) -> Result<(), AllocError>
+) -> Result<(), OutOfMemory>
     ensures { OnOk result (text.new ≡ text.old ++
         unknown word.now what.now (option_map (λ name. name.now) near.entry)) }
 {
@@ -47,7 +48,7 @@ fn add_unknown(
 }
 
 /// The nearest event's word, if one is near.
-fn nearest_event(alloc: Global, word: &[u8]) -> Result<Option<&'static [u8]>, AllocError>
+fn nearest_event(alloc: Global, word: &[u8]) -> Result<Option<&'static [u8]>, OutOfMemory>
     ensures { IfOk result (λ found.
         option_map (λ name. name.now) found ≡ nearest word.now event_words) }
 {
@@ -56,7 +57,7 @@ fn nearest_event(alloc: Global, word: &[u8]) -> Result<Option<&'static [u8]>, Al
 }
 
 /// Puts what a line of this event looks like.
-fn add_form(text: &mut Text, form: &Form) -> Result<(), AllocError>
+fn add_form(text: &mut Text, form: &Form) -> Result<(), OutOfMemory>
     ensures { OnOk result (text.new ≡ text.old ++ form_reason (form_of form.now)) }
 {
     add_parts(
@@ -72,7 +73,7 @@ fn add_form(text: &mut Text, form: &Form) -> Result<(), AllocError>
 
 /// Puts what is wrong with a line from its third word on.
 #[tactic(auto, unfolding(crate::specs::Log::event_told))]
-fn add_event_reason(alloc: Global, text: &mut Text, word: &[u8]) -> Result<(), AllocError>
+fn add_event_reason(alloc: Global, text: &mut Text, word: &[u8]) -> Result<(), OutOfMemory>
     ensures { OnOk result (text.new ≡ text.old ++ event_told word.now) }
 {
     match event_form(word) {
@@ -85,7 +86,7 @@ fn add_event_reason(alloc: Global, text: &mut Text, word: &[u8]) -> Result<(), A
 }
 
 /// The names of these processes.
-fn names_of(alloc: Global, processes: &[Name]) -> Result<Vec<&[u8]>, AllocError>
+fn names_of(alloc: Global, processes: &[Name]) -> Result<Vec<&[u8]>, OutOfMemory>
     ensures { IfOk result (λ all. map (λ name. name.now) all.items ≡ processes.now) }
 {
     let mut all = Vec::new(alloc);
@@ -100,7 +101,7 @@ fn nearest_process<'a>(
     alloc: Global,
     word: &[u8],
     processes: &'a [Name],
-) -> Result<Option<&'a [u8]>, AllocError>
+) -> Result<Option<&'a [u8]>, OutOfMemory>
     ensures { IfOk result (λ found.
         option_map (λ name. name.now) found ≡ nearest word.now processes.now) }
 {
@@ -121,7 +122,7 @@ fn add_no_process(
     text: &mut Text,
     processes: &[Name],
     process: &[u8],
-) -> Result<(), AllocError>
+) -> Result<(), OutOfMemory>
     ensures { OnOk result (text.new ≡ text.old ++
         unknown process.now (codes " is no process") (nearest process.now processes.now)) }
 {
@@ -137,7 +138,7 @@ fn add_process_reason(
     processes: &[Name],
     process: &[u8],
     event: &[u8],
-) -> Result<(), AllocError>
+) -> Result<(), OutOfMemory>
     ensures { OnOk result
         (text.new ≡ text.old ++ process_reason processes.now process.now event.now) }
 {
@@ -155,7 +156,7 @@ fn add_tick_reason(
     tick: &[u8],
     process: &[u8],
     event: &[u8],
-) -> Result<(), AllocError>
+) -> Result<(), OutOfMemory>
     ensures { OnOk result
         (text.new ≡ text.old ++ tick_reason processes.now tick.now process.now event.now) }
 {
@@ -178,7 +179,7 @@ fn add_words_reason(
     text: &mut Text,
     processes: &[Name],
     line: &[u8],
-) -> Result<(), AllocError>
+) -> Result<(), OutOfMemory>
     ensures { OnOk result
         (text.new ≡ text.old ++ words_reason processes.now (words line.now)) }
 {
@@ -197,7 +198,7 @@ fn add_reason(
     processes: &[Name],
     line: &[u8],
     is_ended: bool,
-) -> Result<(), AllocError>
+) -> Result<(), OutOfMemory>
     ensures { OnOk result (text.new ≡ text.old ++ reason processes.now line.now is_ended) }
 {
     if !is_ended {
@@ -215,7 +216,7 @@ pub(crate) fn reason(
     processes: &[Name],
     line: &[u8],
     is_ended: bool,
-) -> Result<Text, AllocError>
+) -> Result<Text, OutOfMemory>
     ensures { IfOk result (λ text. text ≡ reason processes.now line.now is_ended) }
 {
     let mut text = Text::new(alloc);

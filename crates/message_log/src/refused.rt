@@ -10,15 +10,16 @@ use crate::event_line::{add_event, process_of};
 use crate::messages::told_line;
 use image::ImageNames;
 use message_text::{add_note, add_number};
+use out_of_memory::OutOfMemory;
 use replay_reason_spec::{Reason, SourceEvent};
-use std::alloc::{AllocError, Global};
+use std::alloc::Global;
 use syntax_tree::Text;
 
 /// So many events of a list are shown.
 const SHOWN: usize = 8;
 
 /// Puts a number behind some words.
-fn add_behind(text: &mut Text, words: &[u8], number: u64) -> Result<(), AllocError>
+fn add_behind(text: &mut Text, words: &[u8], number: u64) -> Result<(), OutOfMemory>
     ensures { OnOk result (text.new ≡ text.old ++ (words.now ++ decimal number)) }
 {
     text.extend(words)?;
@@ -26,7 +27,7 @@ fn add_behind(text: &mut Text, words: &[u8], number: u64) -> Result<(), AllocErr
 }
 
 /// Puts a number between some words.
-fn add_between(text: &mut Text, front: &[u8], number: u64, back: &[u8]) -> Result<(), AllocError>
+fn add_between(text: &mut Text, front: &[u8], number: u64, back: &[u8]) -> Result<(), OutOfMemory>
     ensures { OnOk result (text.new ≡ text.old ++ (front.now ++ (decimal number ++ back.now))) }
 {
     add_behind(text, front, number)?;
@@ -40,7 +41,7 @@ fn add_both(
     number: u64,
     middle: &[u8],
     other: u64,
-) -> Result<(), AllocError>
+) -> Result<(), OutOfMemory>
     ensures { OnOk result (text.new ≡ text.old ++
         (words.now ++ (decimal number ++ (middle.now ++ decimal other)))) }
 {
@@ -49,7 +50,7 @@ fn add_both(
 }
 
 /// Puts that a tick is past.
-fn add_past(text: &mut Text, tick: u64, reached: u64) -> Result<(), AllocError>
+fn add_past(text: &mut Text, tick: u64, reached: u64) -> Result<(), OutOfMemory>
     ensures { OnOk result (text.new ≡ text.old ++ (codes "tick " ++ (decimal tick ++
         (codes " is below tick " ++
         (decimal reached ++ codes ", which the log has reached"))))) }
@@ -64,7 +65,7 @@ fn add_past(text: &mut Text, tick: u64, reached: u64) -> Result<(), AllocError>
 }
 
 /// Puts that a release finds its process unfinished.
-fn add_unfinished(text: &mut Text, name: &[u8]) -> Result<(), AllocError>
+fn add_unfinished(text: &mut Text, name: &[u8]) -> Result<(), OutOfMemory>
     ensures { OnOk result (text.new ≡ text.old ++
         (codes "this release finds the process `" ++ (name.now ++ codes "` unfinished"))) }
 {
@@ -74,7 +75,7 @@ fn add_unfinished(text: &mut Text, name: &[u8]) -> Result<(), AllocError>
 }
 
 /// Puts what is wrong.
-fn add_sentence(text: &mut Text, names: &ImageNames, why: &Reason) -> Result<(), AllocError>
+fn add_sentence(text: &mut Text, names: &ImageNames, why: &Reason) -> Result<(), OutOfMemory>
     ensures { OnOk result (text.new ≡ text.old ++ sentence names.now why.now) }
 {
     match why {
@@ -106,7 +107,7 @@ fn add_sentence(text: &mut Text, names: &ImageNames, why: &Reason) -> Result<(),
 }
 
 /// What is wrong.
-fn sentence(alloc: Global, names: &ImageNames, why: &Reason) -> Result<Text, AllocError>
+fn sentence(alloc: Global, names: &ImageNames, why: &Reason) -> Result<Text, OutOfMemory>
     ensures { IfOk result (λ text. text ≡ sentence names.now why.now) }
 {
     let mut text = Text::new(alloc);
@@ -115,7 +116,7 @@ fn sentence(alloc: Global, names: &ImageNames, why: &Reason) -> Result<Text, All
 }
 
 /// Puts the event in a line of a list.
-fn add_listed(text: &mut Text, names: &ImageNames, event: &SourceEvent) -> Result<(), AllocError>
+fn add_listed(text: &mut Text, names: &ImageNames, event: &SourceEvent) -> Result<(), OutOfMemory>
     ensures { OnOk result
         (text.new ≡ text.old ++ listed (spelled names.now (event_of event.now))) }
 {
@@ -125,7 +126,11 @@ fn add_listed(text: &mut Text, names: &ImageNames, event: &SourceEvent) -> Resul
 }
 
 /// Puts each of the events in a line of a list.
-fn add_events(text: &mut Text, names: &ImageNames, events: &[SourceEvent]) -> Result<(), AllocError>
+fn add_events(
+    text: &mut Text,
+    names: &ImageNames,
+    events: &[SourceEvent],
+) -> Result<(), OutOfMemory>
     ensures { OnOk result (text.new ≡ text.old ++ list_lines names.now (events_of events.now)) }
 {
     for event in events {
@@ -146,7 +151,7 @@ fn shown(events: &[SourceEvent]) -> &[SourceEvent]
 }
 
 /// Puts whether a list of so many events has more than are shown.
-fn add_more(text: &mut Text, count: usize) -> Result<(), AllocError>
+fn add_more(text: &mut Text, count: usize) -> Result<(), OutOfMemory>
     ensures { OnOk result (text.new ≡ text.old ++ more count) }
 {
     if count > SHOWN {
@@ -157,7 +162,7 @@ fn add_more(text: &mut Text, count: usize) -> Result<(), AllocError>
 }
 
 /// Puts the list of the start events that are missing.
-fn add_list(text: &mut Text, names: &ImageNames, events: &[SourceEvent]) -> Result<(), AllocError>
+fn add_list(text: &mut Text, names: &ImageNames, events: &[SourceEvent]) -> Result<(), OutOfMemory>
     ensures { OnOk result (text.new ≡ text.old ++ list names.now (events_of events.now)) }
 {
     add_note(text, &[b"due, and not come:"])?;
@@ -171,7 +176,7 @@ fn add_quoting(
     names: &ImageNames,
     words: &[u8],
     event: &SourceEvent,
-) -> Result<(), AllocError>
+) -> Result<(), OutOfMemory>
     ensures { OnOk result
         (text.new ≡ text.old ++ quoting names.now words.now (event_of event.now)) }
 {
@@ -189,7 +194,7 @@ fn add_next(
     words: &[u8],
     none: &[u8],
     event: Option<SourceEvent>,
-) -> Result<(), AllocError>
+) -> Result<(), OutOfMemory>
     ensures { OnOk result (text.new ≡ text.old ++ next_note names.now words.now none.now event) }
 {
     match event {
@@ -199,7 +204,7 @@ fn add_next(
 }
 
 /// Puts what is noted.
-fn add_notes(text: &mut Text, names: &ImageNames, why: &Reason) -> Result<(), AllocError>
+fn add_notes(text: &mut Text, names: &ImageNames, why: &Reason) -> Result<(), OutOfMemory>
     ensures { OnOk result (text.new ≡ text.old ++ notes names.now why.now) }
 {
     match why {
@@ -236,7 +241,7 @@ pub fn refused_message(
     line: u32,
     names: &ImageNames,
     why: &Reason,
-) -> Result<Text, AllocError>
+) -> Result<Text, OutOfMemory>
     ensures { IfOk result (λ message.
         message ≡ refused_message file.now text.now line names.now why.now) }
 {

@@ -4,7 +4,8 @@ ghost use Rattle.std.specs.Prelude.{◌≡◌, IfOk, bytes_eq, find, map, option
 ghost use Rattle.message_log.specs.Log.{event_words as all_words, forms};
 ghost use Rattle.message_log.specs.Seen.{form_of};
 
-use std::alloc::{AllocError, Global};
+use out_of_memory::OutOfMemory;
+use std::alloc::Global;
 
 /// The word of an event, and what stands behind it in a line.
 #[derive(Clone, Copy)]
@@ -74,7 +75,7 @@ fn forms() -> &'static [Form]
 }
 
 /// The words of these forms.
-fn words_of(alloc: Global, forms: &[Form]) -> Result<Vec<&'static [u8]>, AllocError>
+fn words_of(alloc: Global, forms: &[Form]) -> Result<Vec<&'static [u8]>, OutOfMemory>
     ensures { IfOk result (λ all.
         map (λ word. word.now) all.items ≡ map (λ form. form.word) (map form_of forms.now)) }
 {
@@ -86,7 +87,7 @@ fn words_of(alloc: Global, forms: &[Form]) -> Result<Vec<&'static [u8]>, AllocEr
 }
 
 /// The words of all events.
-pub(crate) fn event_words(alloc: Global) -> Result<Vec<&'static [u8]>, AllocError>
+pub(crate) fn event_words(alloc: Global) -> Result<Vec<&'static [u8]>, OutOfMemory>
     ensures { IfOk result (λ all. map (λ word. word.now) all.items ≡ all_words) }
 {
     words_of(alloc, forms())

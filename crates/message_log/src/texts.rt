@@ -6,7 +6,8 @@ ghost use Rattle.message_log.specs.Image.{open_note, text_note, text_sentence};
 
 use crate::openings::add_opening;
 use message_text::{add_head, add_note, add_number, add_show, has_return, is_ended, line};
-use std::alloc::{AllocError, Global};
+use out_of_memory::OutOfMemory;
+use std::alloc::Global;
 use syntax_tree::Text;
 
 /// The most bytes of a text.
@@ -25,7 +26,7 @@ fn sentence(number: u8) -> &'static [u8]
 }
 
 /// The code of a fault.
-fn code(alloc: Global, number: u8) -> Result<Text, AllocError>
+fn code(alloc: Global, number: u8) -> Result<Text, OutOfMemory>
     ensures { IfOk result (λ code. code ≡ codes "A" ++ decimal number) }
 {
     let mut code = Text::from_bytes(alloc, b"A")?;
@@ -34,7 +35,7 @@ fn code(alloc: Global, number: u8) -> Result<Text, AllocError>
 }
 
 /// Puts the note on a line that no LF ends.
-fn add_open_note(text: &mut Text, shown: &[u8]) -> Result<(), AllocError>
+fn add_open_note(text: &mut Text, shown: &[u8]) -> Result<(), OutOfMemory>
     ensures { OnOk result (text.new ≡ text.old ++ open_note shown.now) }
 {
     match shown {
@@ -44,7 +45,7 @@ fn add_open_note(text: &mut Text, shown: &[u8]) -> Result<(), AllocError>
 }
 
 /// Puts what may have led to the fault, the first that applies.
-fn add_text_note(text: &mut Text, shown: &[u8], is_ended: bool) -> Result<(), AllocError>
+fn add_text_note(text: &mut Text, shown: &[u8], is_ended: bool) -> Result<(), OutOfMemory>
     ensures { OnOk result (text.new ≡ text.old ++ text_note shown.now is_ended) }
 {
     if has_return(shown) {
@@ -67,7 +68,7 @@ fn add_line_message(
     source: &[u8],
     fault: u8,
     number: usize,
-) -> Result<(), AllocError>
+) -> Result<(), OutOfMemory>
     ensures { OnOk result
         (text.new ≡ text.old ++ line_message file.now source.now fault number) }
 {
@@ -79,7 +80,7 @@ fn add_line_message(
 
 /// The message for a text that has too many bytes.
 #[tactic(auto, unfolding(crate::specs::Image::long_text_message))]
-pub fn long_text_message(alloc: Global, file: &str) -> Result<Text, AllocError>
+pub fn long_text_message(alloc: Global, file: &str) -> Result<Text, OutOfMemory>
     ensures { IfOk result (λ message. message ≡ long_text_message file.now) }
 {
     let mut message = Text::new(alloc);
@@ -97,7 +98,7 @@ pub fn image_text_message(
     text: &[u8],
     number: u8,
     line: u32,
-) -> Result<Text, AllocError>
+) -> Result<Text, OutOfMemory>
     ensures { IfOk result (λ message.
         message ≡ image_text_message file.now text.now number line) }
 {

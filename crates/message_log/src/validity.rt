@@ -13,11 +13,12 @@ use crate::parts::add_part;
 use faulty_part::{FaultyPart, PartFault, Subject};
 use image::RawImage;
 use message_text::{add_number, add_parts};
-use std::alloc::{AllocError, Global};
+use out_of_memory::OutOfMemory;
+use std::alloc::Global;
 use syntax_tree::Text;
 
 /// Puts what is declared and what is needed.
-fn add_declared(text: &mut Text, what: &[u8], a: usize, b: usize) -> Result<(), AllocError>
+fn add_declared(text: &mut Text, what: &[u8], a: usize, b: usize) -> Result<(), OutOfMemory>
     ensures { OnOk result (text.new ≡ text.old ++ declared what.now a b) }
 {
     add_parts(text, &[what, b": declared "])?;
@@ -27,7 +28,7 @@ fn add_declared(text: &mut Text, what: &[u8], a: usize, b: usize) -> Result<(), 
 }
 
 /// Puts a number of 32 bits with its sign.
-fn add_signed(text: &mut Text, number: usize) -> Result<(), AllocError>
+fn add_signed(text: &mut Text, number: usize) -> Result<(), OutOfMemory>
     ensures { OnOk result (text.new ≡ text.old ++ signed number) }
 {
     match number {
@@ -40,7 +41,7 @@ fn add_signed(text: &mut Text, number: usize) -> Result<(), AllocError>
 }
 
 /// Puts a number behind some words and before others.
-fn add_around(text: &mut Text, before: &[u8], a: usize, behind: &[u8]) -> Result<(), AllocError>
+fn add_around(text: &mut Text, before: &[u8], a: usize, behind: &[u8]) -> Result<(), OutOfMemory>
     ensures { OnOk result (text.new ≡ text.old ++ around before.now a behind.now) }
 {
     text.extend(before)?;
@@ -56,7 +57,7 @@ fn add_both(
     middle: &[u8],
     b: usize,
     behind: &[u8],
-) -> Result<(), AllocError>
+) -> Result<(), OutOfMemory>
     ensures { OnOk result
         (text.new ≡ text.old ++ both before.now a middle.now b behind.now) }
 {
@@ -73,7 +74,7 @@ fn add_among(
     middle: &[u8],
     b: usize,
     behind: &[u8],
-) -> Result<(), AllocError>
+) -> Result<(), OutOfMemory>
     ensures { OnOk result
         (text.new ≡ text.old ++ among before.now a middle.now b behind.now) }
 {
@@ -83,7 +84,7 @@ fn add_among(
 }
 
 /// Puts a ceiling, which is none where no process enters.
-fn add_ceiling(text: &mut Text, number: usize) -> Result<(), AllocError>
+fn add_ceiling(text: &mut Text, number: usize) -> Result<(), OutOfMemory>
     ensures { OnOk result (text.new ≡ text.old ++ ceiling number) }
 {
     match number {
@@ -93,7 +94,7 @@ fn add_ceiling(text: &mut Text, number: usize) -> Result<(), AllocError>
 }
 
 /// Puts the ceiling that is declared and the one that is needed.
-fn add_ceilings(text: &mut Text, a: usize, b: usize) -> Result<(), AllocError>
+fn add_ceilings(text: &mut Text, a: usize, b: usize) -> Result<(), OutOfMemory>
     ensures { OnOk result (text.new ≡ text.old ++ ceilings a b) }
 {
     text.extend(b"ceiling: declared ")?;
@@ -122,7 +123,7 @@ fn quantity(subject: Subject) -> &'static [u8]
 }
 
 /// Puts the instruction and its operand.
-fn add_operand(text: &mut Text, a: usize, b: usize) -> Result<(), AllocError>
+fn add_operand(text: &mut Text, a: usize, b: usize) -> Result<(), OutOfMemory>
     ensures { OnOk result (text.new ≡ text.old ++ part_sentence subject.Operand a b) }
 {
     add_among(
@@ -136,7 +137,7 @@ fn add_operand(text: &mut Text, a: usize, b: usize) -> Result<(), AllocError>
 }
 
 /// Puts a bound above the deadline.
-fn add_late(text: &mut Text, a: usize, b: usize) -> Result<(), AllocError>
+fn add_late(text: &mut Text, a: usize, b: usize) -> Result<(), OutOfMemory>
     ensures { OnOk result (text.new ≡ text.old ++ part_sentence subject.Deadline a b) }
 {
     add_both(
@@ -150,7 +151,7 @@ fn add_late(text: &mut Text, a: usize, b: usize) -> Result<(), AllocError>
 }
 
 /// Puts what is wrong with a part.
-fn add_wrong(text: &mut Text, subject: Subject, a: usize, b: usize) -> Result<(), AllocError>
+fn add_wrong(text: &mut Text, subject: Subject, a: usize, b: usize) -> Result<(), OutOfMemory>
     ensures { OnOk result (text.new ≡ text.old ++ part_sentence subject a b) }
 {
     match subject {
@@ -171,7 +172,7 @@ fn add_wrong(text: &mut Text, subject: Subject, a: usize, b: usize) -> Result<()
 }
 
 /// Puts what is wrong with the image as a whole.
-fn add_whole(text: &mut Text, subject: Subject, a: usize, b: usize) -> Result<(), AllocError>
+fn add_whole(text: &mut Text, subject: Subject, a: usize, b: usize) -> Result<(), OutOfMemory>
     ensures { OnOk result (text.new ≡ text.old ++ whole_sentence subject a b) }
 {
     match subject {
@@ -191,7 +192,7 @@ fn add_whole(text: &mut Text, subject: Subject, a: usize, b: usize) -> Result<()
 }
 
 /// Puts a part, and what is wrong with it.
-fn add_part_sentence(text: &mut Text, raw: &RawImage, fault: PartFault) -> Result<(), AllocError>
+fn add_part_sentence(text: &mut Text, raw: &RawImage, fault: PartFault) -> Result<(), OutOfMemory>
     ensures { OnOk result (text.new ≡ text.old ++ (part_called (named_of raw.now) fault.part ++
         (codes ": " ++ part_sentence fault.subject fault.a fault.b))) }
 {
@@ -201,7 +202,7 @@ fn add_part_sentence(text: &mut Text, raw: &RawImage, fault: PartFault) -> Resul
 }
 
 /// Puts what is wrong, and where.
-fn add_sentence(text: &mut Text, raw: &RawImage, fault: PartFault) -> Result<(), AllocError>
+fn add_sentence(text: &mut Text, raw: &RawImage, fault: PartFault) -> Result<(), OutOfMemory>
     ensures { OnOk result (text.new ≡ text.old ++
         valid_sentence (named_of raw.now) fault.part fault.subject fault.a fault.b) }
 {
@@ -234,7 +235,7 @@ pub fn valid_message(
     file: &str,
     raw: &RawImage,
     fault: PartFault,
-) -> Result<Text, AllocError>
+) -> Result<Text, OutOfMemory>
     ensures { IfOk result (λ message. message ≡
         valid_message file.now (named_of raw.now) fault) }
 {

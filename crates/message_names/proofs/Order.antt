@@ -1,22 +1,18 @@
 -- Places along a text: which of two stands before the other, and the places of tokens, which rise.
-use Rattle.std.proofs.Common.{◌≡◌, ℕ, zero, suc, ◌+◌, ◌-◌, ◌<◌, ◌≤◌, Bool, true, false, not, List, [], ◌∷◌, length, take, get_or, slice_index_or, ◌⊎◌, inl, inr, refl, ap, sym, ◌∙◌, subst, arith, eqb, eqb-true}
-use Rattle.std.specs.Prelude.{count_by, nat_lt, nat_eq, ◌&&◌, ◌||◌}
-use Rattle.std.specs.List.{suffix_len}
-use Rattle.std.proofs.lemmas.List.Sums.{count_by_more_yes, count_by_more_no, suffix_len-take_yes}
+use Rattle.std.proofs.Common.{◌≡◌, ℕ, zero, suc, ◌<◌, Bool, true, false, List, [], ◌∷◌, length, slice_index_or, ◌⊎◌, inl, inr, refl, ◌∙◌, subst, arith, eqb, eqb-true}
+use Rattle.std.specs.Prelude.{nat_lt, nat_eq, ◌&&◌, ◌||◌}
 use Rattle.std.proofs.lemmas.Bool.{and_parts, and_from, or_left, or_right, ltb-true, lt-ltb, eq-eqb, false_from_ne_true}
 use Rattle.syntax_tree.specs.Parts.{same_place}
 use Rattle.syntax_tree.specs.declared.place.Place.{Place}
 use Rattle.syntax.specs.declared.token.Token.{Token}
-use Rattle.syntax.specs.Tokens.{is_line_feed, is_in_line, StandsIn}
+use Rattle.syntax.specs.Tokens.{StandsIn}
 use Rattle.syntax.specs.Lex.{HasSpan, IsBefore, StandInOrder}
 use Rattle.syntax.specs.Words.{Tok, tok, toks_of}
+use Rattle.syntax.proofs.Places.{Lower, lower-trans, tokens-rise}
 use Rattle.message_names.specs.Reach.{before}
 use Rattle.message_names.proofs.Spots.{Sub}
 
 -- ---- one place before another
-
-abbrev pub Lower : (l m c d : ℕ) → Type 0
-Lower l m c d = (l < m) ⊎ ((l ≡ m) × (c < d))
 
 abbrev pub Ahead : Place → Place → Type 0
 Ahead p q = before p q ≡ true
@@ -31,12 +27,6 @@ ahead-to p q h = by (nat_lt p.line q.line) refl h
     by : (b : Bool) → nat_lt p.line q.line ≡ b → (b || (nat_eq p.line q.line && nat_lt p.col q.col)) ≡ true → Lower p.line q.line p.col q.col
     by true e t = inl (ltb-true p.line q.line e)
     by false e t = let both = and_parts (nat_eq p.line q.line) (nat_lt p.col q.col) t in inr (eqb-true p.line q.line both.0, ltb-true p.col q.col both.1)
-
-lower-trans : (k l m b c d : ℕ) → Lower k l b c → Lower l m c d → Lower k m b d
-lower-trans k l m b c d (inl g) (inl h) = inl (omega arith)
-lower-trans k l m b c d (inl g) (inr h) = let x = h.0 in inl (omega arith)
-lower-trans k l m b c d (inr g) (inl h) = let x = g.0 in inl (omega arith)
-lower-trans k l m b c d (inr g) (inr h) = let v = g.0 in let w = g.1 in let x = h.0 in let y = h.1 in inr (omega arith, omega arith)
 
 lower-not : (l m b c : ℕ) → Lower l m b c → Lower m l c b → ⊥
 lower-not l m b c (inl g) (inl h) = omega arith
@@ -74,55 +64,13 @@ abbrev pub Rising : List Place → Type 0
 Rising [] = Unit {0}
 Rising (p ∷ ps) = ((q : Place) → Mem q ps → Ahead p q) × Rising ps
 
--- ---- places along a text
-
-abbrev ended : List ℕ → ℕ → ℕ
-ended text n = count_by is_line_feed (take n text)
-
-abbrev past : List ℕ → ℕ → ℕ
-past text n = suffix_len is_in_line (take n text)
-
-past-more : (text : List ℕ) (n : ℕ) → n < length text → is_line_feed (get_or text n 0) ≡ false → past text (n + 1) ≡ 1 + past text n
-past-more text n below h =
-    let e : (n + 1) - 1 ≡ n = omega arith in
-    subst (λ k. is_in_line (get_or text k 0) ≡ true → past text (n + 1) ≡ 1 + past text k) e
-    (suffix_len-take_yes is_in_line text (n + 1) 0 (omega arith) (omega arith)) (ap not h)
-
-abbrev Further : List ℕ → ℕ → ℕ → Type 0
-Further text m n = Lower (ended text m) (ended text n) (past text m) (past text n)
-
-step : (text : List ℕ) (n : ℕ) → n < length text → Further text n (n + 1)
-step text n below = by (is_line_feed (get_or text n 0)) refl
-  where
-    by : (b : Bool) → is_line_feed (get_or text n 0) ≡ b → Further text n (n + 1)
-    by true e = let x = count_by_more_yes is_line_feed text n 0 below e in inl (omega arith)
-    by false e = let x = count_by_more_no is_line_feed text n 0 below e in let y = past-more text n below e in inr (omega arith, omega arith)
-
-further : (text : List ℕ) (k m n : ℕ) → n ≡ m + suc k → n ≤ length text → Further text m n
-further text zero m n is below =
-    let e : m + 1 ≡ n = omega arith in subst (Further text m) e (step text m (omega arith))
-further text (suc k) m n is below =
-    let e : (m + suc k) + 1 ≡ n = omega arith in
-    subst (Further text m) e
-    (lower-trans (ended text m) (ended text (m + suc k)) (ended text ((m + suc k) + 1)) (past text m) (past text (m + suc k)) (past text ((m + suc k) + 1))
-    (further text k m (m + suc k) refl (omega arith)) (step text (m + suc k) (omega arith)))
-
-lower-on : (l m b c : ℕ) → Lower l m b c → Lower (1 + l) (1 + m) (1 + b) (1 + c)
-lower-on l m b c (inl h) = inl (omega arith)
-lower-on l m b c (inr h) = let x = h.0 in let y = h.1 in inr (omega arith, omega arith)
+-- ---- tokens
 
 abbrev spot : Token → Place
 spot t = record { line = t.line; col = t.col }
 
 two-tokens : (text : List ℕ) (t u : Token) → StandsIn text t → HasSpan text t → StandsIn text u → HasSpan text u → IsBefore t u → Ahead (spot t) (spot u)
-two-tokens text t u st pt su pu order =
-    let low : Lower (1 + ended text t.start) (1 + ended text u.start) (1 + past text t.start) (1 + past text u.start) =
-    lower-on (ended text t.start) (ended text u.start) (past text t.start) (past text u.start)
-    (further text (u.start - t.start - 1) t.start u.start (omega (arith, pt.some, order)) (omega (arith, pu.within))) in
-    ahead-from (spot t) (spot u)
-    (subst (λ l. Lower l u.line t.col u.col) (sym st.line) (subst (λ m. Lower (1 + ended text t.start) m t.col u.col) (sym su.line)
-    (subst (λ b. Lower (1 + ended text t.start) (1 + ended text u.start) b u.col) (sym st.col)
-    (subst (λ c. Lower (1 + ended text t.start) (1 + ended text u.start) (1 + past text t.start) c) (sym su.col) low))))
+two-tokens text t u st pt su pu order = ahead-from (spot t) (spot u) (tokens-rise text t u st pt su pu order)
 
 -- each token stands before those behind it
 abbrev Climbs : List (Tok Place) → Type 0

@@ -22,7 +22,8 @@ use Rattle.message_names.specs.Mentions.{Mention, before_all, value_place}
 use Rattle.message_names.specs.Reach.{before, declared, innermost, reaches, sees, sight_behind}
 use Rattle.message_names.proofs.Bodies.{UnderAll, only}
 use Rattle.message_names.proofs.Closing.{Each, Within, each, rising}
-use Rattle.message_names.proofs.Order.{Ahead, Lower, Mem, Rising, ahead-from, ahead-to, not-ahead, not-itself}
+use Rattle.syntax.proofs.Places.{Lower}
+use Rattle.message_names.proofs.Order.{Ahead, Mem, Rising, ahead-from, ahead-to, not-ahead, not-itself}
 use Rattle.message_names.proofs.Others.{counted, counts, first-not, kept-append, others-view, some-seen, taken-as}
 use Rattle.message_names.proofs.Parts.{Part, part-behind, mem-left, mem-right, mem-place, part-mem, part-rises, part-flat, part-value, part-decl, part-program, found-there}
 use Rattle.message_names.proofs.Processes.{process_inner, enclosed-process, of-process}

@@ -10,7 +10,8 @@ use crate::expressions::{constant, expr, kind, scalar};
 use crate::mentions::Mentions;
 use crate::role::{BEFORE_ALL, Reach, Role, Scope, Wanted, What, scope_from};
 use crate::statements::stmts;
-use std::alloc::{AllocError, Global};
+use out_of_memory::OutOfMemory;
+use std::alloc::Global;
 use syntax_tree::{
     Constant, Declaration, Expr, Handler, Member, Monitor, Name, Param, Place, Process, Program,
     Routine, RoutineKind, Scalar, Trigger, Var,
@@ -22,14 +23,14 @@ fn closes<'a>(
     name: &'a Name,
     place: Place,
     opening: Place,
-) -> Result<(), AllocError>
+) -> Result<(), OutOfMemory>
     ensures { OnOk result (mentions.new ≡ mentions.old ++
         listed.closes name.now place opening ∷ []) }
 {
     mentions.add(name, place, Role::Closes(opening))
 }
 
-fn var<'a>(mentions: &mut Mentions<'a>, scope: Scope, var: &'a Var) -> Result<(), AllocError>
+fn var<'a>(mentions: &mut Mentions<'a>, scope: Scope, var: &'a Var) -> Result<(), OutOfMemory>
     ensures { OnOk result (mentions.new ≡ mentions.old ++
         listed.var_mentions scope (placed_var var.now)) }
 {
@@ -37,7 +38,7 @@ fn var<'a>(mentions: &mut Mentions<'a>, scope: Scope, var: &'a Var) -> Result<()
     kind(mentions, &var.kind)
 }
 
-fn vars<'a>(mentions: &mut Mentions<'a>, scope: Scope, list: &'a [Var]) -> Result<(), AllocError>
+fn vars<'a>(mentions: &mut Mentions<'a>, scope: Scope, list: &'a [Var]) -> Result<(), OutOfMemory>
     ensures { OnOk result (mentions.new ≡ mentions.old ++
         flat_map (listed.var_mentions scope) (map placed_var list.now)) }
 {
@@ -47,7 +48,7 @@ fn vars<'a>(mentions: &mut Mentions<'a>, scope: Scope, list: &'a [Var]) -> Resul
     Ok(())
 }
 
-fn param<'a>(mentions: &mut Mentions<'a>, scope: Scope, param: &'a Param) -> Result<(), AllocError>
+fn param<'a>(mentions: &mut Mentions<'a>, scope: Scope, param: &'a Param) -> Result<(), OutOfMemory>
     ensures { OnOk result (mentions.new ≡ mentions.old ++
         listed.param_mentions scope (placed_param param.now)) }
 {
@@ -59,7 +60,7 @@ fn params<'a>(
     mentions: &mut Mentions<'a>,
     scope: Scope,
     list: &'a [Param],
-) -> Result<(), AllocError>
+) -> Result<(), OutOfMemory>
     ensures { OnOk result (mentions.new ≡ mentions.old ++
         flat_map (listed.param_mentions scope) (map placed_param list.now)) }
 {
@@ -73,7 +74,7 @@ fn member<'a>(
     mentions: &mut Mentions<'a>,
     scope: Scope,
     member: &'a Member,
-) -> Result<(), AllocError>
+) -> Result<(), OutOfMemory>
     ensures { OnOk result (mentions.new ≡ mentions.old ++
         listed.member_mentions scope (placed_member member.now)) }
 {
@@ -89,7 +90,7 @@ fn members<'a>(
     mentions: &mut Mentions<'a>,
     scope: Scope,
     list: &'a [Member],
-) -> Result<(), AllocError>
+) -> Result<(), OutOfMemory>
     ensures { OnOk result (mentions.new ≡ mentions.old ++
         flat_map (listed.member_mentions scope) (map placed_member list.now)) }
 {
@@ -100,7 +101,7 @@ fn members<'a>(
 }
 
 /// The type of a result.
-fn result<'a>(mentions: &mut Mentions<'a>, kind: &'a Option<Scalar>) -> Result<(), AllocError>
+fn result<'a>(mentions: &mut Mentions<'a>, kind: &'a Option<Scalar>) -> Result<(), OutOfMemory>
     ensures { OnOk result (mentions.new ≡ mentions.old ++
         option_map_or listed.scalar_mentions (optional placed_scalar kind.now) []) }
 {
@@ -111,7 +112,7 @@ fn result<'a>(mentions: &mut Mentions<'a>, kind: &'a Option<Scalar>) -> Result<(
 }
 
 /// The expression of a result.
-fn value<'a>(mentions: &mut Mentions<'a>, value: &'a Option<Expr>) -> Result<(), AllocError>
+fn value<'a>(mentions: &mut Mentions<'a>, value: &'a Option<Expr>) -> Result<(), OutOfMemory>
     ensures { OnOk result (mentions.new ≡ mentions.old ++
         option_map_or listed.expr_mentions (optional placed_expr value.now) []) }
 {
@@ -122,7 +123,7 @@ fn value<'a>(mentions: &mut Mentions<'a>, value: &'a Option<Expr>) -> Result<(),
 }
 
 /// All of a routine behind its name.
-fn routine_inner<'a>(mentions: &mut Mentions<'a>, routine: &'a Routine) -> Result<(), AllocError>
+fn routine_inner<'a>(mentions: &mut Mentions<'a>, routine: &'a Routine) -> Result<(), OutOfMemory>
     ensures { OnOk result (mentions.new ≡ mentions.old ++
         listed.routine_inner (placed_routine routine.now)) }
 {
@@ -153,7 +154,7 @@ fn routine<'a>(
     is_entry: bool,
     scope: Scope,
     routine: &'a Routine,
-) -> Result<(), AllocError>
+) -> Result<(), OutOfMemory>
     ensures { OnOk result (mentions.new ≡ mentions.old ++
         listed.routine_mentions is_entry scope (placed_routine routine.now)) }
 {
@@ -167,7 +168,7 @@ fn routines<'a>(
     is_entry: bool,
     scope: Scope,
     list: &'a [Routine],
-) -> Result<(), AllocError>
+) -> Result<(), OutOfMemory>
     ensures { OnOk result (mentions.new ≡ mentions.old ++
         flat_map (listed.routine_mentions is_entry scope) (map placed_routine list.now)) }
 {
@@ -181,7 +182,7 @@ fn monitor<'a>(
     mentions: &mut Mentions<'a>,
     outer: Scope,
     monitor: &'a Monitor,
-) -> Result<(), AllocError>
+) -> Result<(), OutOfMemory>
     ensures { OnOk result (mentions.new ≡ mentions.old ++
         listed.monitor_mentions outer (placed_monitor monitor.now)) }
 {
@@ -196,7 +197,7 @@ fn monitor<'a>(
 fn optional_constant<'a>(
     mentions: &mut Mentions<'a>,
     number: &'a Option<Constant>,
-) -> Result<(), AllocError>
+) -> Result<(), OutOfMemory>
     ensures { OnOk result (mentions.new ≡ mentions.old ++
         option_map_or listed.constant_mentions (optional placed_constant number.now) []) }
 {
@@ -207,7 +208,7 @@ fn optional_constant<'a>(
 }
 
 /// When a process is released.
-fn activation<'a>(mentions: &mut Mentions<'a>, activation: &'a Trigger) -> Result<(), AllocError>
+fn activation<'a>(mentions: &mut Mentions<'a>, activation: &'a Trigger) -> Result<(), OutOfMemory>
     ensures { OnOk result (mentions.new ≡ mentions.old ++
         listed.activation_mentions (placed_activation activation.now)) }
 {
@@ -235,7 +236,7 @@ fn activation<'a>(mentions: &mut Mentions<'a>, activation: &'a Trigger) -> Resul
 }
 
 /// Constants.
-fn constants<'a>(mentions: &mut Mentions<'a>, list: &'a [Constant]) -> Result<(), AllocError>
+fn constants<'a>(mentions: &mut Mentions<'a>, list: &'a [Constant]) -> Result<(), OutOfMemory>
     ensures { OnOk result (mentions.new ≡ mentions.old ++
         flat_map listed.constant_mentions (map placed_constant list.now)) }
 {
@@ -245,7 +246,7 @@ fn constants<'a>(mentions: &mut Mentions<'a>, list: &'a [Constant]) -> Result<()
     Ok(())
 }
 
-fn handler<'a>(mentions: &mut Mentions<'a>, handler: &'a Option<Handler>) -> Result<(), AllocError>
+fn handler<'a>(mentions: &mut Mentions<'a>, handler: &'a Option<Handler>) -> Result<(), OutOfMemory>
     ensures { OnOk result (mentions.new ≡ mentions.old ++
         option_map_or listed.handler_mentions (optional placed_handler handler.now) []) }
 {
@@ -262,7 +263,7 @@ fn process<'a>(
     mentions: &mut Mentions<'a>,
     outer: Scope,
     process: &'a Process,
-) -> Result<(), AllocError>
+) -> Result<(), OutOfMemory>
     ensures { OnOk result (mentions.new ≡ mentions.old ++
         listed.process_mentions outer (placed_process process.now)) }
 {
@@ -283,7 +284,7 @@ fn named_constant<'a>(
     name: &'a Name,
     place: Place,
     value: &'a Constant,
-) -> Result<(), AllocError>
+) -> Result<(), OutOfMemory>
     ensures { let c = placed_constant value.now in OnOk result (mentions.new ≡ mentions.old ++
         listed.constant_declares scope name.now place (listed.value_place c) ∷
         listed.constant_mentions c) }
@@ -301,7 +302,7 @@ fn decl<'a>(
     mentions: &mut Mentions<'a>,
     scope: Scope,
     decl: &'a Declaration,
-) -> Result<(), AllocError>
+) -> Result<(), OutOfMemory>
     ensures { OnOk result (mentions.new ≡ mentions.old ++
         listed.decl_mentions scope (placed_decl decl.now)) }
 {
@@ -323,7 +324,7 @@ fn decls<'a>(
     mentions: &mut Mentions<'a>,
     scope: Scope,
     list: &'a [Declaration],
-) -> Result<(), AllocError>
+) -> Result<(), OutOfMemory>
     ensures { OnOk result (mentions.new ≡ mentions.old ++
         flat_map (listed.decl_mentions scope) (map placed_decl list.now)) }
 {
@@ -334,7 +335,7 @@ fn decls<'a>(
 }
 
 /// Puts the names of a program.
-fn add_program<'a>(mentions: &mut Mentions<'a>, program: &'a Program) -> Result<(), AllocError>
+fn add_program<'a>(mentions: &mut Mentions<'a>, program: &'a Program) -> Result<(), OutOfMemory>
     ensures { OnOk result (mentions.new ≡ mentions.old ++ listed.mentions (placed program.now)) }
 {
     let scope = scope_from(BEFORE_ALL, program.close_place);
@@ -344,7 +345,7 @@ fn add_program<'a>(mentions: &mut Mentions<'a>, program: &'a Program) -> Result<
 }
 
 /// The names of a program, in the order of the text.
-pub(crate) fn mentions(alloc: Global, program: &Program) -> Result<Mentions<'_>, AllocError>
+pub(crate) fn mentions(alloc: Global, program: &Program) -> Result<Mentions<'_>, OutOfMemory>
     ensures { IfOk result (λ ms. ms ≡ listed.mentions (placed program.now)) }
 {
     let mut found = Mentions::new(alloc);

@@ -7,14 +7,14 @@ ghost use Rattle.message_names.specs.Mentions.{bounds_mentions, constant_mention
 use crate::errors::tri;
 use crate::mentions::Mentions;
 use crate::role::Wanted;
-use std::alloc::AllocError;
+use out_of_memory::OutOfMemory;
 use syntax_tree::{Constant, Expr, Op, Ref, Scalar, Type, Value};
 
 /// The name of a constant.
 pub(crate) fn constant<'a>(
     mentions: &mut Mentions<'a>,
     constant: &'a Constant,
-) -> Result<(), AllocError>
+) -> Result<(), OutOfMemory>
     ensures { OnOk result (mentions.new ≡ mentions.old ++
         constant_mentions (placed_constant constant.now)) }
 {
@@ -29,7 +29,7 @@ pub(crate) fn bounds<'a>(
     mentions: &mut Mentions<'a>,
     low: &'a Constant,
     high: &'a Constant,
-) -> Result<(), AllocError>
+) -> Result<(), OutOfMemory>
     ensures { OnOk result (mentions.new ≡ mentions.old ++
         bounds_mentions (placed_constant low.now) (placed_constant high.now)) }
 {
@@ -38,7 +38,7 @@ pub(crate) fn bounds<'a>(
 }
 
 /// The type of a word.
-pub(crate) fn scalar<'a>(mentions: &mut Mentions<'a>, kind: &'a Scalar) -> Result<(), AllocError>
+pub(crate) fn scalar<'a>(mentions: &mut Mentions<'a>, kind: &'a Scalar) -> Result<(), OutOfMemory>
     ensures { OnOk result (mentions.new ≡ mentions.old ++
         scalar_mentions (placed_scalar kind.now)) }
 {
@@ -49,7 +49,7 @@ pub(crate) fn scalar<'a>(mentions: &mut Mentions<'a>, kind: &'a Scalar) -> Resul
 }
 
 /// The type of a variable.
-pub(crate) fn kind<'a>(mentions: &mut Mentions<'a>, kind: &'a Type) -> Result<(), AllocError>
+pub(crate) fn kind<'a>(mentions: &mut Mentions<'a>, kind: &'a Type) -> Result<(), OutOfMemory>
     ensures { OnOk result (mentions.new ≡ mentions.old ++ kind_mentions (placed_kind kind.now)) }
 {
     match kind {
@@ -63,7 +63,7 @@ pub(crate) fn kind<'a>(mentions: &mut Mentions<'a>, kind: &'a Type) -> Result<()
 
 /// An expression.
 #[cycle(expr)]
-pub(crate) fn expr<'a>(mentions: &mut Mentions<'a>, e: &'a Expr) -> Result<(), AllocError>
+pub(crate) fn expr<'a>(mentions: &mut Mentions<'a>, e: &'a Expr) -> Result<(), OutOfMemory>
     ensures { OnOk result (mentions.new ≡ mentions.old ++ expr_mentions (placed_expr e.now)) }
 {
     match e {
@@ -88,7 +88,7 @@ pub(crate) fn expr<'a>(mentions: &mut Mentions<'a>, e: &'a Expr) -> Result<(), A
 
 /// The right operands of a row of operators.
 #[cycle(expr)]
-fn operands<'a>(mentions: &mut Mentions<'a>, list: &'a [(Op, Expr)]) -> Result<(), AllocError>
+fn operands<'a>(mentions: &mut Mentions<'a>, list: &'a [(Op, Expr)]) -> Result<(), OutOfMemory>
     ensures { OnOk result (mentions.new ≡ mentions.old ++
         operands_mentions (placed_operands list.now)) }
 {
@@ -100,7 +100,7 @@ fn operands<'a>(mentions: &mut Mentions<'a>, list: &'a [(Op, Expr)]) -> Result<(
 
 /// Expressions.
 #[cycle(expr)]
-pub(crate) fn exprs<'a>(mentions: &mut Mentions<'a>, list: &'a [Expr]) -> Result<(), AllocError>
+pub(crate) fn exprs<'a>(mentions: &mut Mentions<'a>, list: &'a [Expr]) -> Result<(), OutOfMemory>
     ensures { OnOk result (mentions.new ≡ mentions.old ++ exprs_mentions (placed_exprs list.now)) }
 {
     for e in list {
@@ -110,7 +110,7 @@ pub(crate) fn exprs<'a>(mentions: &mut Mentions<'a>, list: &'a [Expr]) -> Result
 }
 
 /// What is assigned to.
-pub(crate) fn target<'a>(mentions: &mut Mentions<'a>, target: &'a Ref) -> Result<(), AllocError>
+pub(crate) fn target<'a>(mentions: &mut Mentions<'a>, target: &'a Ref) -> Result<(), OutOfMemory>
     ensures { OnOk result (mentions.new ≡ mentions.old ++ ref_mentions (placed_ref target.now)) }
 {
     tri!(mentions.uses(Wanted::Target, &target.name, target.place));

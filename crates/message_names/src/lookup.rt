@@ -10,7 +10,8 @@ use crate::mentions::{Mention, Mentions};
 use crate::role::{Role, What, declared, monitor_before, scope_begin};
 use crate::sight::{Sight, before, is_seen};
 use message_text::nearest;
-use std::alloc::{AllocError, Global};
+use out_of_memory::OutOfMemory;
+use std::alloc::Global;
 use syntax_tree::Place;
 
 /// Whether a name declares what is in reach at the place.
@@ -177,7 +178,7 @@ fn add_offered<'a>(
     mentions: &Mentions<'a>,
     sight: Sight,
     place: Place,
-) -> Result<(), AllocError>
+) -> Result<(), OutOfMemory>
     ensures { OnOk result (offers.new ≡ offers.old ++
         filter (is_offered sight place) mentions.now) }
 {
@@ -194,7 +195,7 @@ pub(crate) fn offered<'a>(
     alloc: Global,
     mentions: &Mentions<'a>,
     mention: &Mention<'_>,
-) -> Result<Mentions<'a>, AllocError>
+) -> Result<Mentions<'a>, OutOfMemory>
     ensures { IfOk result (λ offers. offers ≡ offered mentions.now (mention_of mention.now)) }
 {
     let mut offers = Mentions::new(alloc);
@@ -204,7 +205,7 @@ pub(crate) fn offered<'a>(
 }
 
 /// The bytes of names.
-fn names<'a>(alloc: Global, mentions: &Mentions<'a>) -> Result<Vec<&'a [u8]>, AllocError>
+fn names<'a>(alloc: Global, mentions: &Mentions<'a>) -> Result<Vec<&'a [u8]>, OutOfMemory>
     ensures { IfOk result (λ names.
         map (λ name. name.now) names.items ≡ map (λ m. m.name) mentions.now) }
 {
@@ -235,7 +236,7 @@ pub(crate) fn nearest_of<'a>(
     alloc: Global,
     word: &[u8],
     mentions: &Mentions<'a>,
-) -> Result<Option<Mention<'a>>, AllocError>
+) -> Result<Option<Mention<'a>>, OutOfMemory>
     ensures { IfOk result (λ near. found near ≡ nearest_of word.now mentions.now) }
 {
     let names = tri!(names(alloc, mentions));

@@ -5,7 +5,8 @@ ghost use Rattle.message_names.specs.Mentions.{declares, last_place, mention, us
 ghost use Rattle.message_names.specs.Seen.{mention_of, mentions_of};
 
 use crate::role::{Reach, Role, Scope, Wanted, What};
-use std::alloc::{AllocError, Global};
+use out_of_memory::OutOfMemory;
+use std::alloc::Global;
 use std::marker::Model;
 use syntax_tree::{Name, Place};
 
@@ -58,7 +59,7 @@ impl<'a> Mentions<'a> {
     }
 
     /// Puts a name at the end.
-    pub fn push(&mut self, mention: Mention<'a>) -> Result<(), AllocError>
+    pub fn push(&mut self, mention: Mention<'a>) -> Result<(), OutOfMemory>
         ensures { OnOk result (self.new ≡ self.old ++ mention_of mention.entry ∷ []) }
     {
         self.items.push(mention)?;
@@ -66,7 +67,7 @@ impl<'a> Mentions<'a> {
     }
 
     /// Puts a name at the end, by its parts.
-    pub fn add(&mut self, name: &'a Name, place: Place, role: Role) -> Result<(), AllocError>
+    pub fn add(&mut self, name: &'a Name, place: Place, role: Role) -> Result<(), OutOfMemory>
         ensures { OnOk result (self.new ≡ self.old ++ mention name.now place role ∷ []) }
     {
         let name = name.as_bytes();
@@ -74,7 +75,7 @@ impl<'a> Mentions<'a> {
     }
 
     /// Puts a name that is used.
-    pub fn uses(&mut self, wanted: Wanted, name: &'a Name, place: Place) -> Result<(), AllocError>
+    pub fn uses(&mut self, wanted: Wanted, name: &'a Name, place: Place) -> Result<(), OutOfMemory>
         ensures { OnOk result (self.new ≡ self.old ++ uses wanted name.now place ∷ []) }
     {
         self.add(name, place, Role::Uses(wanted))
@@ -87,7 +88,7 @@ impl<'a> Mentions<'a> {
         scope: Scope,
         name: &'a Name,
         place: Place,
-    ) -> Result<(), AllocError>
+    ) -> Result<(), OutOfMemory>
         ensures { OnOk result (self.new ≡ self.old ++ declares what scope name.now place ∷ []) }
     {
         let from = scope.begin;

@@ -10,7 +10,8 @@ use crate::mentions::{Mention, Mentions};
 use crate::role::{Role, declared, is_entry, monitor_before, scope_begin};
 use crate::words::{role_words, wants_constant, words_of};
 use message_text::{add_note, add_show};
-use std::alloc::{AllocError, Global};
+use out_of_memory::OutOfMemory;
+use std::alloc::Global;
 use syntax_tree::Text;
 
 /// Puts a note of these parts, with the line of a name.
@@ -19,7 +20,7 @@ fn add_pointed(
     source: &[u8],
     parts: &[&[u8]],
     mention: &Mention<'_>,
-) -> Result<(), AllocError>
+) -> Result<(), OutOfMemory>
     ensures { OnOk result (text.new ≡ text.old ++
         pointed source.now (map (λ part. part.now) parts.now) (mention_of mention.now)) }
 {
@@ -39,7 +40,7 @@ fn add_pointed_if(
     source: &[u8],
     parts: &[&[u8]],
     mention: Option<Mention<'_>>,
-) -> Result<(), AllocError>
+) -> Result<(), OutOfMemory>
     ensures { OnOk result (text.new ≡ text.old ++
         pointed_if source.now (map (λ part. part.now) parts.now) (found mention.entry)) }
 {
@@ -66,7 +67,7 @@ fn add_elsewhere(
     mentions: &Mentions<'_>,
     written: Role,
     declaration: &Mention<'_>,
-) -> Result<(), AllocError>
+) -> Result<(), OutOfMemory>
     ensures { let d = mention_of declaration.now in OnOk result (text.new ≡ text.old ++
         pointed source.now (elsewhere mentions.now written d) d) }
 {
@@ -89,7 +90,7 @@ fn add_elsewhere(
 }
 
 /// Puts which name is the nearest, or what can be done.
-fn add_nearest(text: &mut Text, source: &[u8], near: Option<Mention<'_>>) -> Result<(), AllocError>
+fn add_nearest(text: &mut Text, source: &[u8], near: Option<Mention<'_>>) -> Result<(), OutOfMemory>
     ensures { OnOk result (text.new ≡ text.old ++ nearest_note source.now (found near.entry)) }
 {
     match near {
@@ -109,7 +110,7 @@ fn add_undeclared(
     mentions: &Mentions<'_>,
     mention: &Mention<'_>,
     first: Option<Mention<'_>>,
-) -> Result<(), AllocError>
+) -> Result<(), OutOfMemory>
     ensures { OnOk result (text.new ≡ text.old ++
         undeclared_notes source.now mentions.now (mention_of mention.now) (found first.entry)) }
 {
@@ -124,7 +125,7 @@ fn add_undeclared(
 }
 
 /// Puts which other declaration a name has.
-fn add_taken(text: &mut Text, source: &[u8], other: Option<Mention<'_>>) -> Result<(), AllocError>
+fn add_taken(text: &mut Text, source: &[u8], other: Option<Mention<'_>>) -> Result<(), OutOfMemory>
     ensures { OnOk result (text.new ≡ text.old ++ taken_notes source.now (found other.entry)) }
 {
     let parts: [&[u8]; 3] = [
@@ -136,7 +137,7 @@ fn add_taken(text: &mut Text, source: &[u8], other: Option<Mention<'_>>) -> Resu
 }
 
 /// Puts how a number is to be written, where a constant is wanted.
-fn add_constant_note(text: &mut Text, role: Role) -> Result<(), AllocError>
+fn add_constant_note(text: &mut Text, role: Role) -> Result<(), OutOfMemory>
     ensures { OnOk result (text.new ≡ text.old ++ constant_note role) }
 {
     if wants_constant(role) {
@@ -154,7 +155,7 @@ fn add_misused(
     source: &[u8],
     role: Role,
     declaration: Option<Mention<'_>>,
-) -> Result<(), AllocError>
+) -> Result<(), OutOfMemory>
     ensures { OnOk result (text.new ≡ text.old ++
         misused_notes source.now role (found declaration.entry)) }
 {
@@ -171,7 +172,7 @@ pub(crate) fn add_notes(
     number: u8,
     mentions: &Mentions<'_>,
     mention: &Mention<'_>,
-) -> Result<(), AllocError>
+) -> Result<(), OutOfMemory>
     ensures { OnOk result (text.new ≡ text.old ++
         notes_of source.now number mentions.now (mention_of mention.now)) }
 {

@@ -9,7 +9,7 @@ use crate::mentions::{Mention, Mentions};
 use crate::role::monitor_before;
 use crate::words::{wanted_at, words_of};
 use message_text::add_quoted;
-use std::alloc::AllocError;
+use out_of_memory::OutOfMemory;
 use syntax_tree::{Place, Text};
 
 /// Puts that a name is declared nowhere in reach, or that the monitor has no entry of that name.
@@ -18,7 +18,7 @@ fn add_undeclared_behind(
     mentions: &Mentions<'_>,
     name: &[u8],
     monitor: Option<Place>,
-) -> Result<(), AllocError>
+) -> Result<(), OutOfMemory>
     ensures { OnOk result (text.new ≡ text.old ++
         undeclared_behind mentions.now name.now monitor) }
 {
@@ -37,7 +37,7 @@ fn add_undeclared_behind(
 }
 
 /// Puts that a name is declared already.
-fn add_taken(text: &mut Text, name: &[u8]) -> Result<(), AllocError>
+fn add_taken(text: &mut Text, name: &[u8]) -> Result<(), OutOfMemory>
     ensures { OnOk result (text.new ≡ text.old ++ taken name.now) }
 {
     add_quoted(text, name)?;
@@ -45,7 +45,7 @@ fn add_taken(text: &mut Text, name: &[u8]) -> Result<(), AllocError>
 }
 
 /// Puts what a name is, and what is wanted.
-fn add_misused(text: &mut Text, name: &[u8], what: &[u8], wanted: &[u8]) -> Result<(), AllocError>
+fn add_misused(text: &mut Text, name: &[u8], what: &[u8], wanted: &[u8]) -> Result<(), OutOfMemory>
     ensures { OnOk result (text.new ≡ text.old ++ misused name.now what.now wanted.now) }
 {
     add_quoted(text, name)?;
@@ -56,7 +56,7 @@ fn add_misused(text: &mut Text, name: &[u8], what: &[u8], wanted: &[u8]) -> Resu
 }
 
 /// Puts that a name closes nothing, and which is wanted.
-fn add_misclosed(text: &mut Text, name: &[u8], wanted: &[u8]) -> Result<(), AllocError>
+fn add_misclosed(text: &mut Text, name: &[u8], wanted: &[u8]) -> Result<(), OutOfMemory>
     ensures { OnOk result (text.new ≡ text.old ++ misclosed name.now wanted.now) }
 {
     add_quoted(text, name)?;
@@ -69,7 +69,7 @@ fn add_closing(
     text: &mut Text,
     mentions: &Mentions<'_>,
     mention: &Mention<'_>,
-) -> Result<(), AllocError>
+) -> Result<(), OutOfMemory>
     ensures { let m = mention_of mention.now in OnOk result (text.new ≡ text.old ++
         misclosed m.name (name_of (closed mentions.now m.role))) }
 {
@@ -83,7 +83,7 @@ pub(crate) fn add_sentence(
     number: u8,
     mentions: &Mentions<'_>,
     mention: &Mention<'_>,
-) -> Result<(), AllocError>
+) -> Result<(), OutOfMemory>
     ensures { OnOk result (text.new ≡ text.old ++
         sentence_of number mentions.now (mention_of mention.now)) }
 {

@@ -10,7 +10,7 @@ use crate::errors::tri;
 use crate::expressions::{bounds, constant, expr, exprs, target};
 use crate::mentions::{Mention, Mentions};
 use crate::role::{Reach, Role, Scope, Wanted, What};
-use std::alloc::AllocError;
+use out_of_memory::OutOfMemory;
 use syntax_tree::{Constant, Expr, Name, Place, Stmt};
 
 /// The variable of a loop, which reaches behind one place, up to another.
@@ -39,7 +39,7 @@ fn entry_call<'a>(
     entry: &'a Name,
     entry_place: Place,
     args: &'a [Expr],
-) -> Result<(), AllocError>
+) -> Result<(), OutOfMemory>
     ensures { OnOk result (mentions.new ≡ mentions.old ++ entry_mentions monitor.now monitor_place
         entry.now entry_place (placed_exprs args.now)) }
 {
@@ -49,7 +49,7 @@ fn entry_call<'a>(
 }
 
 /// A statement that is an assignment or a call.
-fn change<'a>(mentions: &mut Mentions<'a>, s: &'a Stmt) -> Result<(), AllocError>
+fn change<'a>(mentions: &mut Mentions<'a>, s: &'a Stmt) -> Result<(), OutOfMemory>
     ensures { OnOk result (mentions.new ≡ mentions.old ++
         mentions_if is_change (placed_stmt s.now)) }
 {
@@ -100,7 +100,7 @@ fn change<'a>(mentions: &mut Mentions<'a>, s: &'a Stmt) -> Result<(), AllocError
 }
 
 /// A statement in which no others stand.
-fn plain<'a>(mentions: &mut Mentions<'a>, s: &'a Stmt) -> Result<(), AllocError>
+fn plain<'a>(mentions: &mut Mentions<'a>, s: &'a Stmt) -> Result<(), OutOfMemory>
     ensures { OnOk result (mentions.new ≡ mentions.old ++
         mentions_if is_plain (placed_stmt s.now)) }
 {
@@ -156,7 +156,7 @@ fn plain<'a>(mentions: &mut Mentions<'a>, s: &'a Stmt) -> Result<(), AllocError>
 
 /// Statements.
 #[cycle(stmt)]
-pub(crate) fn stmts<'a>(mentions: &mut Mentions<'a>, list: &'a [Stmt]) -> Result<(), AllocError>
+pub(crate) fn stmts<'a>(mentions: &mut Mentions<'a>, list: &'a [Stmt]) -> Result<(), OutOfMemory>
     ensures { OnOk result (mentions.new ≡ mentions.old ++ stmts_mentions (placed_stmts list.now)) }
 {
     for s in list {
@@ -173,7 +173,7 @@ fn for_loop<'a>(
     low: &'a Constant,
     high: &'a Constant,
     body: &'a [Stmt],
-) -> Result<(), AllocError>
+) -> Result<(), OutOfMemory>
     ensures { OnOk result (mentions.new ≡ mentions.old ++ loop_mentions variable.entry.0.now
         variable.entry.1 (placed_constant high.now)
         (bounds_mentions (placed_constant low.now) (placed_constant high.now) ++
@@ -190,7 +190,7 @@ fn for_loop<'a>(
 
 /// A statement, and those in it.
 #[cycle(stmt)]
-fn stmt<'a>(mentions: &mut Mentions<'a>, s: &'a Stmt) -> Result<(), AllocError>
+fn stmt<'a>(mentions: &mut Mentions<'a>, s: &'a Stmt) -> Result<(), OutOfMemory>
     ensures { OnOk result (mentions.new ≡ mentions.old ++ stmt_mentions (placed_stmt s.now)) }
 {
     match s {

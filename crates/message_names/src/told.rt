@@ -9,7 +9,8 @@ use crate::errors::tri;
 use crate::lookup::mention_at;
 use crate::notes::add_notes;
 use crate::sentences::add_sentence;
-use std::alloc::{AllocError, Global};
+use out_of_memory::OutOfMemory;
+use std::alloc::Global;
 use syntax_tree::{Place, Program, Text};
 
 /// The sentence that tells what is wrong with the name at this place by the rule of this number;
@@ -22,7 +23,7 @@ pub fn name_sentence(
     program: &Program,
     number: u8,
     place: Place,
-) -> Result<Option<Text>, AllocError>
+) -> Result<Option<Text>, OutOfMemory>
     ensures { IfOk result (λ told. told ≡ name_sentence (placed program.now) number place) }
 {
     let mentions = tri!(mentions(alloc, program));
@@ -44,7 +45,7 @@ pub fn name_notes(
     program: &Program,
     number: u8,
     place: Place,
-) -> Result<Text, AllocError>
+) -> Result<Text, OutOfMemory>
     ensures { IfOk result (λ notes.
         notes ≡ name_notes text.now (placed program.now) number place) }
 {

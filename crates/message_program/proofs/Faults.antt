@@ -1,5 +1,6 @@
 -- Texts that have no tree, and trees whose names fail a rule.
 use Rattle.std.proofs.Common.{◌≡◌, ℕ, List, subst}
+use Rattle.out_of_memory.specs.Refused.{refused}
 use Rattle.front_end.specs.Source.{IsTreeOf}
 use Rattle.front_end.specs.declared.fault.SourceFault.{SourceFault}
 use Rattle.front_end.specs.declared.fault.SourceFault.TheVariants as fault
@@ -11,11 +12,11 @@ use Rattle.syntax_tree.specs.Placed.{Prog}
 use Rattle.syntax_tree.specs.declared.place.Place.{Place}
 
 -- a fault is no want of memory
-differs : (f : SourceFault) (number : ℕ) (place : Place) → f ≡ fault.Fault number place → f ≡ fault.Memory → ⊥
+differs : (f : SourceFault) (number : ℕ) (place : Place) → f ≡ fault.Fault number place → f ≡ fault.Memory refused → ⊥
 differs f number place one other = cc
 
 -- where only want of memory keeps a tree from being read, and that is not it, there is none
-pub no_tree : (text : List ℕ) (f : SourceFault) (number : ℕ) (place : Place) → f ≡ fault.Fault number place → ((g : Prog Place) → IsTreeOf text g → f ≡ fault.Memory) → (g : Prog Place) → IsTreeOf text g → ⊥
+pub no_tree : (text : List ℕ) (f : SourceFault) (number : ℕ) (place : Place) → f ≡ fault.Fault number place → ((g : Prog Place) → IsTreeOf text g → f ≡ fault.Memory refused) → (g : Prog Place) → IsTreeOf text g → ⊥
 no_tree text f number place one only g is = differs f number place one (only g is)
 
 -- where a rule for names fails, not all names keep to the rules

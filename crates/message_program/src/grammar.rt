@@ -5,11 +5,12 @@ ghost use Rattle.message_program.specs.Program.{IsUnexpectedTold, begun, word_se
 
 use crate::messages::{begun, word_sentence};
 use message_unexpected::add_unexpected_notes;
-use std::alloc::{AllocError, Global};
+use out_of_memory::OutOfMemory;
+use std::alloc::Global;
 use syntax_tree::{Place, Text};
 
 /// The message up to its notes.
-fn unexpected(alloc: Global, file: &[u8], text: &[u8], place: Place) -> Result<Text, AllocError>
+fn unexpected(alloc: Global, file: &[u8], text: &[u8], place: Place) -> Result<Text, OutOfMemory>
     ensures { IfOk result (λ message. message ≡ begun file.now text.now 10 place
         (word_sentence text.now 10 place)) }
 {
@@ -23,7 +24,7 @@ pub(crate) fn grammar_message(
     file: &[u8],
     text: &[u8],
     place: Place,
-) -> Result<Text, AllocError>
+) -> Result<Text, OutOfMemory>
     ensures { IfOk result (λ message. IsUnexpectedTold file.now text.now place message) }
 {
     let mut message = unexpected(alloc, file, text, place)?;

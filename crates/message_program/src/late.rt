@@ -8,12 +8,13 @@ use crate::process::{LateProcess, late_process};
 use crate::ticks::add_between;
 use image::ImageNames;
 use message_text::{add_number, add_parts, add_plain, add_quoted};
+use out_of_memory::OutOfMemory;
 use sched_table::Table;
-use std::alloc::{AllocError, Global};
+use std::alloc::Global;
 use syntax_tree::Text;
 
 /// Puts the overhead as the last word of a call, if there is one.
-fn add_overhead(text: &mut Text, over: u16) -> Result<(), AllocError>
+fn add_overhead(text: &mut Text, over: u16) -> Result<(), OutOfMemory>
     ensures { OnOk result (text.new ≡ text.old ++ overhead over) }
 {
     if over == 0 {
@@ -24,7 +25,7 @@ fn add_overhead(text: &mut Text, over: u16) -> Result<(), AllocError>
 }
 
 /// The file and the overhead, as the words of a call.
-fn call_words(alloc: Global, file: &[u8], over: u16) -> Result<Text, AllocError>
+fn call_words(alloc: Global, file: &[u8], over: u16) -> Result<Text, OutOfMemory>
     ensures { IfOk result (λ words. words ≡ call_words file.now over) }
 {
     let mut words = Text::new(alloc);
@@ -34,7 +35,7 @@ fn call_words(alloc: Global, file: &[u8], over: u16) -> Result<Text, AllocError>
 }
 
 /// Puts within how many ticks there is no bound.
-fn add_deadline(text: &mut Text, deadline: u64) -> Result<(), AllocError>
+fn add_deadline(text: &mut Text, deadline: u64) -> Result<(), OutOfMemory>
     ensures { OnOk result (text.new ≡ text.old ++ deadline_words deadline) }
 {
     add_between(
@@ -46,7 +47,7 @@ fn add_deadline(text: &mut Text, deadline: u64) -> Result<(), AllocError>
 }
 
 /// Puts that a process has no bound within its deadline.
-fn add_untimely(text: &mut Text, file: &[u8], name: &[u8], deadline: u64) -> Result<(), AllocError>
+fn add_untimely(text: &mut Text, file: &[u8], name: &[u8], deadline: u64) -> Result<(), OutOfMemory>
     ensures { OnOk result (text.new ≡ text.old ++ untimely_line file.now name.now deadline) }
 {
     add_plain(text, file)?;
@@ -56,7 +57,7 @@ fn add_untimely(text: &mut Text, file: &[u8], name: &[u8], deadline: u64) -> Res
 }
 
 /// Puts that a process has no bound, and names none.
-fn add_unnamed(text: &mut Text, file: &[u8]) -> Result<(), AllocError>
+fn add_unnamed(text: &mut Text, file: &[u8]) -> Result<(), OutOfMemory>
     ensures { OnOk result (text.new ≡ text.old ++ unnamed_line file.now) }
 {
     add_plain(text, file)?;
@@ -64,7 +65,7 @@ fn add_unnamed(text: &mut Text, file: &[u8]) -> Result<(), AllocError>
 }
 
 /// Puts which calls tell more.
-fn add_advice(text: &mut Text, words: &[u8]) -> Result<(), AllocError>
+fn add_advice(text: &mut Text, words: &[u8]) -> Result<(), OutOfMemory>
     ensures { OnOk result (text.new ≡ text.old ++ advice_line words.now) }
 {
     add_parts(
@@ -80,7 +81,7 @@ fn add_advice(text: &mut Text, words: &[u8]) -> Result<(), AllocError>
 }
 
 /// Tells that a process has no bound, and names none.
-fn tell_unnamed(alloc: Global, file: &[u8], over: u16) -> Result<Text, AllocError>
+fn tell_unnamed(alloc: Global, file: &[u8], over: u16) -> Result<Text, OutOfMemory>
     ensures { IfOk result (λ text. text ≡
         unnamed_line file.now ++ advice_line (call_words file.now over)) }
 {
@@ -97,7 +98,7 @@ fn tell_late(
     file: &[u8],
     over: u16,
     process: LateProcess<'_>,
-) -> Result<Text, AllocError>
+) -> Result<Text, OutOfMemory>
     ensures { IfOk result (λ text. text ≡
         untimely_line file.now process.entry.name.now process.entry.row.now.deadline
         ++ advice_line (call_words file.now over)) }
@@ -124,7 +125,7 @@ pub fn late_message(
     over: u16,
     names: &ImageNames,
     table: &Table,
-) -> Result<Text, AllocError>
+) -> Result<Text, OutOfMemory>
     ensures { IfOk result (λ message. message ≡ late_message file.now over names.now table.now) }
 {
     match late_process(names.processes.as_slice(), table.rows.as_slice()) {

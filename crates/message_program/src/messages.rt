@@ -10,7 +10,8 @@ use crate::notes::{add_remark, remark};
 use crate::place_words::{bytes_at, word_at};
 use crate::sentences::add_sentence;
 use message_text::{add_head, add_number, add_show};
-use std::alloc::{AllocError, Global};
+use out_of_memory::OutOfMemory;
+use std::alloc::Global;
 use syntax_tree::{Place, Text};
 
 /// The word that a fault is told at: one byte of a byte that begins no word.
@@ -24,7 +25,7 @@ fn word_of(number: u8, bytes: &[u8]) -> &[u8]
 }
 
 /// The code of a fault.
-fn code(alloc: Global, number: u8) -> Result<Text, AllocError>
+fn code(alloc: Global, number: u8) -> Result<Text, OutOfMemory>
     ensures { IfOk result (λ code. code ≡ codes "E" ++ decimal number) }
 {
     let mut code = Text::from_bytes(alloc, b"E")?;
@@ -38,7 +39,7 @@ pub(crate) fn word_sentence(
     source: &[u8],
     number: u8,
     place: Place,
-) -> Result<Text, AllocError>
+) -> Result<Text, OutOfMemory>
     ensures { IfOk result (λ told. told ≡ word_sentence source.now number place) }
 {
     let mut sentence = Text::new(alloc);
@@ -58,7 +59,7 @@ fn add_first_line(
     number: u8,
     place: Place,
     sentence: &[u8],
-) -> Result<(), AllocError>
+) -> Result<(), OutOfMemory>
     ensures { OnOk result (text.new ≡ text.old ++ first_line file.now number place sentence.now) }
 {
     let code = code(alloc, number)?;
@@ -73,7 +74,7 @@ fn add_first_line(
 }
 
 /// Puts the line of the place, with carets below the word.
-fn add_word(text: &mut Text, source: &[u8], place: Place, word: &[u8]) -> Result<(), AllocError>
+fn add_word(text: &mut Text, source: &[u8], place: Place, word: &[u8]) -> Result<(), OutOfMemory>
     ensures { OnOk result (text.new ≡ text.old ++ show_word source.now place word.now) }
 {
     add_show(
@@ -93,7 +94,7 @@ pub(crate) fn begun(
     number: u8,
     place: Place,
     sentence: &[u8],
-) -> Result<Text, AllocError>
+) -> Result<Text, OutOfMemory>
     ensures { IfOk result (λ message.
         message ≡ begun file.now source.now number place sentence.now) }
 {
@@ -112,7 +113,7 @@ pub(crate) fn told(
     number: u8,
     place: Place,
     sentence: &[u8],
-) -> Result<Text, AllocError>
+) -> Result<Text, OutOfMemory>
     ensures { IfOk result (λ message.
         message ≡ told file.now source.now number place sentence.now) }
 {
@@ -128,7 +129,7 @@ pub(crate) fn word_message(
     source: &[u8],
     number: u8,
     place: Place,
-) -> Result<Text, AllocError>
+) -> Result<Text, OutOfMemory>
     ensures { IfOk result (λ message. message ≡ word_message file.now source.now number place) }
 {
     let sentence = word_sentence(alloc, source, number, place)?;
@@ -137,7 +138,7 @@ pub(crate) fn word_message(
 
 /// The message for a text that is too long.
 #[tactic(auto, unfolding(crate::specs::Program::long_message))]
-pub fn long_message(alloc: Global, file: &str) -> Result<Text, AllocError>
+pub fn long_message(alloc: Global, file: &str) -> Result<Text, OutOfMemory>
     ensures { IfOk result (λ message. message ≡ long_message file.now) }
 {
     let mut message = Text::new(alloc);

@@ -10,7 +10,8 @@ use crate::messages::{begun, word_message};
 use crate::rules::tree;
 use front_end::one_tree;
 use message_names::{name_notes, name_sentence};
-use std::alloc::{AllocError, Global};
+use out_of_memory::OutOfMemory;
+use std::alloc::Global;
 use syntax_tree::{Place, Program, Text};
 
 /// The message with this sentence, if there is one, and with the notes on the name at the place.
@@ -22,7 +23,7 @@ fn with_notes(
     place: Place,
     said: Option<Text>,
     notes: Text,
-) -> Result<Text, AllocError>
+) -> Result<Text, OutOfMemory>
     ensures { IfOk result (λ message. message ≡
         name_message file.now text.now number place said notes) }
 {
@@ -42,7 +43,7 @@ fn told_of_tree(
     number: u8,
     place: Place,
     tree: &Program,
-) -> Result<Text, AllocError>
+) -> Result<Text, OutOfMemory>
     ensures { IfOk result (λ message. message ≡
         tree_name_message file.now text.now number place (placed tree.now)) }
 {
@@ -58,7 +59,7 @@ pub(crate) fn name_message(
     text: &[u8],
     number: u8,
     place: Place,
-) -> Result<Text, AllocError>
+) -> Result<Text, OutOfMemory>
     ensures { IfOk result (λ message. (g : SpecProg SpecPlace) → IsTreeOf text.now g →
         message ≡ tree_name_message file.now text.now number place g) }
 {

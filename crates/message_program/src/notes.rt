@@ -10,7 +10,7 @@ ghost use Rattle.message_program.specs.Seen.{hint_of};
 use crate::hint_rows::{Hint, beginnings};
 use crate::rule_rows::numbered;
 use message_text::add_note;
-use std::alloc::AllocError;
+use out_of_memory::OutOfMemory;
 use syntax_tree::Text;
 
 /// Whether the byte is seen as it is.
@@ -82,7 +82,7 @@ pub(crate) fn remark(number: u8, bytes: &[u8]) -> &'static str
 }
 
 /// Puts a note, where there is something to say.
-pub(crate) fn add_remark(text: &mut Text, remark: &str) -> Result<(), AllocError>
+pub(crate) fn add_remark(text: &mut Text, remark: &str) -> Result<(), OutOfMemory>
     ensures { OnOk result (text.new ≡ text.old ++ note_of remark.now) }
 {
     if remark.is_empty() {

@@ -12,38 +12,39 @@ use crate::notes::{add_remark, remark};
 use crate::place_words::bytes_at;
 use crate::said::said;
 use front_end::{SourceFault, one_tree, read_tree};
+use out_of_memory::OutOfMemory;
 use static_names::{NameFault, ResolvedProgram, name};
-use std::alloc::{AllocError, Global};
+use std::alloc::Global;
 use syntax_tree::{Place, Program, Text};
 
 /// The tree of the text, if it has one.
-pub(crate) fn tree(alloc: Global, text: &[u8]) -> Result<Option<Program>, AllocError>
+pub(crate) fn tree(alloc: Global, text: &[u8]) -> Result<Option<Program>, OutOfMemory>
     ensures some { IfOk result (λ found. IfSome found (λ g. IsTreeOf text.now (placed g))) }
     ensures none { IfOk result (λ found. found ≡ None →
         (g : SpecProg SpecPlace) → IsTreeOf text.now g → ⊥) }
 {
     match read_tree(alloc, text) {
         Ok(tree) => Ok(Some(tree)),
-        Err(SourceFault::Memory) => Err(AllocError),
+        Err(SourceFault::Memory(error)) => Err(error),
         Err(SourceFault::Fault { .. }) => Ok(None),
     }
 }
 
 /// The program with its names, if no rule for names fails.
-fn resolved(alloc: Global, tree: Program) -> Result<Option<ResolvedProgram>, AllocError>
+fn resolved(alloc: Global, tree: Program) -> Result<Option<ResolvedProgram>, OutOfMemory>
     requires read { IsRead (placed tree) }
     ensures some { IfOk result (λ found. IfSome found (λ program. program ≡ tree)) }
     ensures none { IfOk result (λ found. found ≡ None → IsNamed (placed tree) → ⊥) }
 {
     match name(alloc, tree) {
         Ok(program) => Ok(Some(program)),
-        Err(NameFault::Memory) => Err(AllocError),
+        Err(NameFault::Memory(error)) => Err(error),
         Err(NameFault::Rule { .. }) => Ok(None),
     }
 }
 
 /// The program of the text with its names, if it has a tree and no rule for names fails.
-fn program(alloc: Global, text: &[u8]) -> Result<Option<ResolvedProgram>, AllocError>
+fn program(alloc: Global, text: &[u8]) -> Result<Option<ResolvedProgram>, OutOfMemory>
     ensures some { IfOk result (λ found. IfSome found (λ program. IsTreeOf text.now (placed program))) }
     ensures none { IfOk result (λ found. found ≡ None →
         (g : SpecProg SpecPlace) → IsTreeOf text.now g → IsNamed g → ⊥) }
@@ -79,7 +80,7 @@ fn sentence_of(
     number: u8,
     place: Place,
     said: Option<Text>,
-) -> Result<Text, AllocError>
+) -> Result<Text, OutOfMemory>
     ensures { IfOk result (λ sentence. sentence ≡
         unwrap_or said (word_sentence text.now number place)) }
 {
@@ -97,7 +98,7 @@ fn with_sentence(
     number: u8,
     place: Place,
     said: Option<Text>,
-) -> Result<Text, AllocError>
+) -> Result<Text, OutOfMemory>
     ensures { IfOk result (λ message. message ≡ rule_message file.now text.now number place said) }
 {
     let remark = rule_remark(number, &said, bytes_at(text, place));
@@ -115,7 +116,7 @@ pub(crate) fn rule_message(
     text: &[u8],
     number: u8,
     place: Place,
-) -> Result<Text, AllocError>
+) -> Result<Text, OutOfMemory>
     ensures { IfOk result (λ message. (g : SpecProg SpecPlace) → IsTreeOf text.now g → IsNamed g →
         IsRuleTold file.now text.now number place g message) }
 {

@@ -10,9 +10,10 @@ ghost use Rattle.syntax_tree.specs.Placed.{placed};
 use message_conduct::{call_sentence, conduct_sentence};
 use message_rules::rule_sentence;
 use message_types::type_sentence;
+use out_of_memory::OutOfMemory;
 use static_declarations::Declarations;
 use static_names::ResolvedProgram;
-use std::alloc::{AllocError, Global};
+use std::alloc::Global;
 use syntax_tree::{Place, Text};
 
 /// What is said of what stands where it may not, and else of a call.
@@ -21,7 +22,7 @@ fn said_of_statements(
     declarations: &Declarations<'_>,
     number: u8,
     place: Place,
-) -> Result<Option<Text>, AllocError>
+) -> Result<Option<Text>, OutOfMemory>
     ensures { IfOk result (λ said. OrElse (conduct_sentence (placed declarations.now) number place)
         (IsCallTold (placed declarations.now) number place) said) }
 {
@@ -37,7 +38,7 @@ fn said_of_types(
     declarations: &Declarations<'_>,
     number: u8,
     place: Place,
-) -> Result<Option<Text>, AllocError>
+) -> Result<Option<Text>, OutOfMemory>
     ensures { IfOk result (λ said. OrElse (type_sentence (placed declarations.now) number place)
         (OrElse (conduct_sentence (placed declarations.now) number place)
         (IsCallTold (placed declarations.now) number place)) said) }
@@ -54,7 +55,7 @@ pub(crate) fn said(
     program: &ResolvedProgram,
     number: u8,
     place: Place,
-) -> Result<Option<Text>, AllocError>
+) -> Result<Option<Text>, OutOfMemory>
     ensures { IfOk result (λ said. IsSaid (placed program.now) number place said) }
 {
     if let Some(sentence) = rule_sentence(alloc, program, number, place)? {

@@ -9,11 +9,11 @@ ghost use Rattle.message_program.specs.Seen.{rule_of};
 use crate::notes::{first_byte, is_visible};
 use crate::rule_rows::{Rule, numbered};
 use message_text::{add_number, add_quoted};
-use std::alloc::AllocError;
+use out_of_memory::OutOfMemory;
 use syntax_tree::Text;
 
 /// Puts a byte, by itself where it is visible, else by its number.
-fn add_byte(text: &mut Text, byte: u8) -> Result<(), AllocError>
+fn add_byte(text: &mut Text, byte: u8) -> Result<(), OutOfMemory>
     ensures { OnOk result (text.new ≡ text.old ++ byte_name byte) }
 {
     if is_visible(byte) {
@@ -24,7 +24,7 @@ fn add_byte(text: &mut Text, byte: u8) -> Result<(), AllocError>
 }
 
 /// Puts that a byte begins no word.
-fn add_begins_no_word(text: &mut Text, byte: u8) -> Result<(), AllocError>
+fn add_begins_no_word(text: &mut Text, byte: u8) -> Result<(), OutOfMemory>
     ensures { OnOk result (text.new ≡ text.old ++ begins_no_word byte) }
 {
     add_byte(text, byte)?;
@@ -32,7 +32,7 @@ fn add_begins_no_word(text: &mut Text, byte: u8) -> Result<(), AllocError>
 }
 
 /// Puts that a name is too long.
-fn add_too_long(text: &mut Text, word: &[u8]) -> Result<(), AllocError>
+fn add_too_long(text: &mut Text, word: &[u8]) -> Result<(), OutOfMemory>
     ensures { OnOk result (text.new ≡ text.old ++ too_long word.now) }
 {
     text.extend(b"the name ")?;
@@ -43,7 +43,7 @@ fn add_too_long(text: &mut Text, word: &[u8]) -> Result<(), AllocError>
 }
 
 /// Puts that no program goes on with this word.
-fn add_unexpected_word(text: &mut Text, word: &[u8]) -> Result<(), AllocError>
+fn add_unexpected_word(text: &mut Text, word: &[u8]) -> Result<(), OutOfMemory>
     ensures { OnOk result (text.new ≡ text.old ++ unexpected_word word.now) }
 {
     text.extend(b"unexpected ")?;
@@ -51,7 +51,7 @@ fn add_unexpected_word(text: &mut Text, word: &[u8]) -> Result<(), AllocError>
 }
 
 /// Puts that no program goes on with this word, or ends where there is none.
-fn add_unexpected(text: &mut Text, word: &[u8]) -> Result<(), AllocError>
+fn add_unexpected(text: &mut Text, word: &[u8]) -> Result<(), OutOfMemory>
     ensures { OnOk result (text.new ≡ text.old ++ unexpected word.now) }
 {
     if word.is_empty() {
@@ -61,7 +61,7 @@ fn add_unexpected(text: &mut Text, word: &[u8]) -> Result<(), AllocError>
 }
 
 /// Puts the word and what stands behind it, where something does.
-fn add_naming(text: &mut Text, word: &[u8], behind: &str) -> Result<(), AllocError>
+fn add_naming(text: &mut Text, word: &[u8], behind: &str) -> Result<(), OutOfMemory>
     ensures { OnOk result (text.new ≡ text.old ++ naming word.now behind.now) }
 {
     if behind.is_empty() {
@@ -72,7 +72,7 @@ fn add_naming(text: &mut Text, word: &[u8], behind: &str) -> Result<(), AllocErr
 }
 
 /// Puts what is said of a word that fails the rule.
-fn add_rule(text: &mut Text, rule: &Rule, word: &[u8]) -> Result<(), AllocError>
+fn add_rule(text: &mut Text, rule: &Rule, word: &[u8]) -> Result<(), OutOfMemory>
     ensures { OnOk result (text.new ≡ text.old ++ rule_sentence (rule_of rule.now) word.now) }
 {
     text.extend(rule.before.as_bytes())?;
@@ -80,7 +80,7 @@ fn add_rule(text: &mut Text, rule: &Rule, word: &[u8]) -> Result<(), AllocError>
 }
 
 /// Puts what is wrong with the word where a fault of this number is.
-pub(crate) fn add_sentence(text: &mut Text, number: u8, word: &[u8]) -> Result<(), AllocError>
+pub(crate) fn add_sentence(text: &mut Text, number: u8, word: &[u8]) -> Result<(), OutOfMemory>
     ensures { OnOk result (text.new ≡ text.old ++ sentence number word.now) }
 {
     match number {

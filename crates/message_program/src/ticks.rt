@@ -3,11 +3,11 @@
 ghost use Rattle.std.specs.Prelude.{◌≡◌, ◌++◌, OnOk, decimal};
 
 use itoa::Buffer;
-use std::alloc::AllocError;
+use out_of_memory::OutOfMemory;
 use syntax_tree::Text;
 
 /// Puts so many ticks, in decimal.
-fn add_ticks(text: &mut Text, ticks: u64) -> Result<(), AllocError>
+fn add_ticks(text: &mut Text, ticks: u64) -> Result<(), OutOfMemory>
     ensures { OnOk result (text.new ≡ text.old ++ decimal ticks) }
 {
     let mut digits = Buffer::new();
@@ -20,7 +20,7 @@ pub(crate) fn add_between(
     before: &[u8],
     ticks: u64,
     behind: &[u8],
-) -> Result<(), AllocError>
+) -> Result<(), OutOfMemory>
     ensures { OnOk result (text.new ≡ text.old ++ (before.now ++ (decimal ticks ++ behind.now))) }
 {
     text.extend(before)?;

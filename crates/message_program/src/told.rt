@@ -7,7 +7,8 @@ use crate::grammar::grammar_message;
 use crate::messages::{long_message, word_message};
 use crate::names::name_message;
 use crate::rules::rule_message;
-use std::alloc::{AllocError, Global};
+use out_of_memory::OutOfMemory;
+use std::alloc::Global;
 use syntax_tree::{Place, Text};
 
 /// The most bytes of a text.
@@ -20,7 +21,7 @@ fn fault_message(
     text: &[u8],
     number: u8,
     place: Place,
-) -> Result<Text, AllocError>
+) -> Result<Text, OutOfMemory>
     ensures { IfOk result (λ message. IsFaultTold file.now text.now number place message) }
 {
     match number {
@@ -42,7 +43,7 @@ pub fn program_message(
     text: &[u8],
     number: u8,
     place: Place,
-) -> Result<Text, AllocError>
+) -> Result<Text, OutOfMemory>
     ensures { IfOk result (λ message.
         IsProgramMessage file.now text.now number place message) }
 {

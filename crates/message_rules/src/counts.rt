@@ -11,9 +11,10 @@ ghost use Rattle.message_rules.specs.declared.fault.Fault.TheVariants as fault_i
 use crate::fault::{Counted, Fault, note};
 use crate::places::NamePlaces;
 use crate::words::words;
+use out_of_memory::OutOfMemory;
 use static_declarations::Declarations;
 use static_rule::{Violation, rule};
-use std::alloc::{AllocError, Global};
+use std::alloc::Global;
 use syntax_tree::Place;
 
 /// A program has at most so many processes, monitors, devices and events, each.
@@ -139,7 +140,7 @@ pub(crate) fn look(
     known: &mut Option<Fault>,
     declarations: &Declarations<'_>,
     broken: Violation,
-) -> Result<(), AllocError>
+) -> Result<(), OutOfMemory>
     ensures { OnOk result
         (known.new ≡ after broken known.old (count_findings (placed declarations.now))) }
 {

@@ -6,7 +6,8 @@ ghost use Rattle.syntax_tree.specs.declared.place.Place.{Place as SpecPlace};
 ghost use Rattle.static_numbers.specs.Counts.{member_conditions};
 ghost use Rattle.static_numbers.specs.Places.{with_decls, places_of};
 
-use std::alloc::{AllocError, Global};
+use out_of_memory::OutOfMemory;
+use std::alloc::Global;
 use std::marker::Model;
 use syntax_tree::{Declaration, Member, Place, Program, Routine};
 
@@ -30,7 +31,7 @@ impl Model for NamePlaces {
     ghost view = { λ p. record { processes = p.processes.items; monitors = p.monitors.items; devices = p.devices.items; events = p.events.items; conditions = p.conditions.items; routines = p.routines.items } };
 }
 
-fn members(conditions: &mut Vec<Place>, list: &[Member]) -> Result<(), AllocError>
+fn members(conditions: &mut Vec<Place>, list: &[Member]) -> Result<(), OutOfMemory>
     ensures { OnOk result (conditions.new.items ≡ conditions.old.items ++
         member_conditions (map placed_member list.now)) }
 {
@@ -42,7 +43,7 @@ fn members(conditions: &mut Vec<Place>, list: &[Member]) -> Result<(), AllocErro
     Ok(())
 }
 
-fn routines(routines: &mut Vec<Place>, list: &[Routine]) -> Result<(), AllocError>
+fn routines(routines: &mut Vec<Place>, list: &[Routine]) -> Result<(), OutOfMemory>
     ensures { OnOk result (routines.new.items ≡ routines.old.items ++
         map (λ r. r.place) (map placed_routine list.now)) }
 {
@@ -73,7 +74,7 @@ impl NamePlaces {
         }
     }
 
-    fn decl(&mut self, decl: &Declaration) -> Result<(), AllocError>
+    fn decl(&mut self, decl: &Declaration) -> Result<(), OutOfMemory>
         ensures { OnOk result ((rest : List (SpecDecl SpecPlace)) → with_decls self.new rest ≡
             with_decls self.old (placed_decl decl.now ∷ rest)) }
     {
@@ -96,7 +97,7 @@ impl NamePlaces {
     }
 
     /// Goes once through the declarations of a program.
-    pub fn of(alloc: Global, program: &Program) -> Result<NamePlaces, AllocError>
+    pub fn of(alloc: Global, program: &Program) -> Result<NamePlaces, OutOfMemory>
         ensures { IfOk result (λ places. places ≡ places_of (placed program.now)) }
     {
         let mut places = NamePlaces::new(alloc);

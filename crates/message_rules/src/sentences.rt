@@ -8,7 +8,7 @@ ghost use Rattle.message_rules.specs.Sentences.{around, count_among, crossed_bou
 use crate::fault::{Counted, Fault, Quantity};
 use itoa::Buffer;
 use message_text::{add_number, add_quoted};
-use std::alloc::AllocError;
+use out_of_memory::OutOfMemory;
 use syntax_tree::{Declaration, Place, Text};
 
 /// The name of the event that is declared at the place, nothing where there is none.
@@ -26,7 +26,7 @@ fn event_name(place: Place, list: &[Declaration]) -> &[u8]
 }
 
 /// Puts a number in decimal, behind `-` where it is negative.
-fn add_signed(text: &mut Text, number: i64) -> Result<(), AllocError>
+fn add_signed(text: &mut Text, number: i64) -> Result<(), OutOfMemory>
     ensures { OnOk result (text.new ≡ text.old ++ signed_decimal number) }
 {
     let mut digits = Buffer::new();
@@ -34,7 +34,7 @@ fn add_signed(text: &mut Text, number: i64) -> Result<(), AllocError>
 }
 
 /// Puts a number among some words.
-fn add_among(text: &mut Text, before: &[u8], number: i64, behind: &[u8]) -> Result<(), AllocError>
+fn add_among(text: &mut Text, before: &[u8], number: i64, behind: &[u8]) -> Result<(), OutOfMemory>
     ensures { OnOk result (text.new ≡ text.old ++ number_among before.now number behind.now) }
 {
     text.extend(before)?;
@@ -50,7 +50,7 @@ fn add_both(
     middle: &[u8],
     other: i64,
     behind: &[u8],
-) -> Result<(), AllocError>
+) -> Result<(), OutOfMemory>
     ensures { OnOk result
         (text.new ≡ text.old ++ numbers_among before.now one middle.now other behind.now) }
 {
@@ -60,7 +60,7 @@ fn add_both(
 }
 
 /// Puts a count among some words.
-fn add_count(text: &mut Text, before: &[u8], count: usize, behind: &[u8]) -> Result<(), AllocError>
+fn add_count(text: &mut Text, before: &[u8], count: usize, behind: &[u8]) -> Result<(), OutOfMemory>
     ensures { OnOk result (text.new ≡ text.old ++ count_among before.now count behind.now) }
 {
     text.extend(before)?;
@@ -76,7 +76,7 @@ fn add_name(
     middle: &[u8],
     count: usize,
     behind: &[u8],
-) -> Result<(), AllocError>
+) -> Result<(), OutOfMemory>
     ensures { OnOk result
         (text.new ≡ text.old ++ name_among before.now name.now middle.now count behind.now) }
 {
@@ -132,7 +132,7 @@ fn words_behind(of: Quantity) -> &'static [u8]
 }
 
 /// Puts that a lower bound is above its upper bound.
-fn add_crossed(text: &mut Text, low: i64, high: i64) -> Result<(), AllocError>
+fn add_crossed(text: &mut Text, low: i64, high: i64) -> Result<(), OutOfMemory>
     ensures { OnOk result (text.new ≡ text.old ++ crossed_bounds low high) }
 {
     add_both(
@@ -146,7 +146,7 @@ fn add_crossed(text: &mut Text, low: i64, high: i64) -> Result<(), AllocError>
 }
 
 /// Puts that a deadline is below its range, or above its frame.
-fn add_deadline(text: &mut Text, ticks: i64, frame: i64) -> Result<(), AllocError>
+fn add_deadline(text: &mut Text, ticks: i64, frame: i64) -> Result<(), OutOfMemory>
     ensures { OnOk result (text.new ≡ text.old ++ wrong_deadline ticks frame) }
 {
     add_both(
@@ -164,7 +164,7 @@ pub(crate) fn add_sentence(
     text: &mut Text,
     list: &[Declaration],
     fault: Fault,
-) -> Result<(), AllocError>
+) -> Result<(), OutOfMemory>
     ensures { OnOk result (text.new ≡ text.old ++ sentence (map placed_decl list.now) fault) }
 {
     match fault {

@@ -7,10 +7,11 @@ ghost use Rattle.message_rules.specs.Findings.{findings, first_wrong, rule_sente
 use crate::fault::Fault;
 use crate::sentences::add_sentence;
 use crate::{activations, bounds, counts, events, handlers, statements};
+use out_of_memory::OutOfMemory;
 use static_declarations::Declarations;
 use static_names::ResolvedProgram;
 use static_rule::Violation;
-use std::alloc::{AllocError, Global};
+use std::alloc::Global;
 use syntax_tree::{Place, Text};
 
 /// What is wrong by the rule with that number at that place, if it fails there.
@@ -18,7 +19,7 @@ fn fault_at(
     alloc: Global,
     declarations: &Declarations<'_>,
     broken: Violation,
-) -> Result<Option<Fault>, AllocError>
+) -> Result<Option<Fault>, OutOfMemory>
     ensures { IfOk result (λ fault. fault ≡ first_wrong broken (findings (placed declarations.now))) }
 {
     let mut known = None;
@@ -43,7 +44,7 @@ pub fn rule_sentence(
     program: &ResolvedProgram,
     number: u8,
     place: Place,
-) -> Result<Option<Text>, AllocError>
+) -> Result<Option<Text>, OutOfMemory>
     ensures { IfOk result (λ told. told ≡ rule_sentence (placed program.now) number place) }
 {
     let declarations = Declarations::new(alloc, program)?;

@@ -74,7 +74,7 @@ spelled file text number at told =
 
 -- the message of a fault of a text that is not too long
 unfoldable pub fault_message : (file text : List ℕ) → ImageNames → ScriptFault → List ℕ
-fault_message file text names Memory = []
+fault_message file text names (Memory _) = []
 fault_message file text names (Bad number at a b) = spelled file text number at (told names text number at (b - a))
 
 -- the message for a text that is no script

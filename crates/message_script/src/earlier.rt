@@ -13,7 +13,8 @@ use crate::telling::{Note, Told, at_word, with_line};
 use crate::words::{Word, first_word, is_end, is_word, word_at};
 use image::{EventName, ImageNames};
 use message_text::{add_number, add_plain, add_quoted, cut, line};
-use std::alloc::{AllocError, Global};
+use out_of_memory::OutOfMemory;
+use std::alloc::Global;
 use syntax_tree::Text;
 
 /// What an earlier line is to be: one with a tick, or one in which this event occurs.
@@ -87,7 +88,7 @@ fn tick_word(line: &[u8]) -> Option<Word<'_>>
 
 /// Puts these words and a number behind them.
 #[tactic(auto, unfolding(crate::specs::Earlier::counted))]
-fn add_counted(text: &mut Text, words: &[u8], number: usize) -> Result<(), AllocError>
+fn add_counted(text: &mut Text, words: &[u8], number: usize) -> Result<(), OutOfMemory>
     ensures { OnOk result (text.new ≡ text.old ++ counted words.now number) }
 {
     text.extend(words)?;
@@ -114,7 +115,7 @@ fn early_sentence(
     tick: &[u8],
     last: &[u8],
     earlier: usize,
-) -> Result<Text, AllocError>
+) -> Result<Text, OutOfMemory>
     ensures { IfOk result (λ text. text ≡ early_sentence is_end tick.now last.now earlier) }
 {
     let mut text = Text::from_bytes(alloc, b"tick ")?;
@@ -133,7 +134,7 @@ fn early_tick(
     is_end: bool,
     tick: Word<'_>,
     earlier: Option<usize>,
-) -> Result<Option<Told>, AllocError>
+) -> Result<Option<Told>, OutOfMemory>
     ensures { IfOk result (λ told. told ≡ early_tick text.now is_end (seen tick.entry) earlier) }
 {
     match earlier {
@@ -148,7 +149,7 @@ fn early_tick(
 
 /// Tells what is wrong with the line of this number, whose tick is too low.
 #[tactic(auto, unfolding(crate::specs::Earlier::early))]
-pub(crate) fn early(alloc: Global, text: &[u8], number: usize) -> Result<Option<Told>, AllocError>
+pub(crate) fn early(alloc: Global, text: &[u8], number: usize) -> Result<Option<Told>, OutOfMemory>
     ensures { IfOk result (λ told. told ≡ early text.now number) }
 {
     let line = line(text, number);
@@ -190,7 +191,7 @@ fn soon_sentence(
     ticks: usize,
     earlier: usize,
     frame: usize,
-) -> Result<Text, AllocError>
+) -> Result<Text, OutOfMemory>
     ensures { IfOk result (λ text. text ≡ soon_sentence name.now ticks earlier frame) }
 {
     let mut text = Text::new(alloc);
@@ -211,7 +212,7 @@ fn soon_event(
     tick: Word<'_>,
     name: &[u8],
     earlier: Option<usize>,
-) -> Result<Option<Told>, AllocError>
+) -> Result<Option<Told>, OutOfMemory>
     ensures { IfOk result (λ told. told ≡
         soon_event names.now ticks (seen tick.entry) name.now earlier) }
 {
@@ -233,7 +234,7 @@ pub(crate) fn soon(
     text: &[u8],
     number: usize,
     ticks: usize,
-) -> Result<Option<Told>, AllocError>
+) -> Result<Option<Told>, OutOfMemory>
     ensures { IfOk result (λ told. told ≡ soon names.now text.now number ticks) }
 {
     let line = line(text, number);

@@ -14,12 +14,13 @@ use crate::numbers::{Sort, flaw_sentence, number_flaw};
 use crate::telling::{Note, Told, at_byte, at_word, behind, of_word};
 use crate::words::{Word, begins, first_word, is_end, word_at};
 use message_text::return_place;
-use std::alloc::{AllocError, Global};
+use out_of_memory::OutOfMemory;
+use std::alloc::Global;
 use text_fields::is_digit;
 
 /// Tells of the first CR of a line.
 #[tactic(auto, unfolding(crate::specs::Forms::carriage_return))]
-fn carriage_return(alloc: Global, line: &[u8]) -> Result<Option<Told>, AllocError>
+fn carriage_return(alloc: Global, line: &[u8]) -> Result<Option<Told>, OutOfMemory>
     ensures { IfOk result (λ told. told ≡ carriage_return line.now) }
 {
     match return_place(line) {
@@ -60,7 +61,7 @@ fn has_word(bytes: &[u8]) -> bool
 }
 
 /// Tells of the second of two blanks that stand before another word.
-fn two_blanks(alloc: Global, line: &[u8]) -> Result<Option<Told>, AllocError>
+fn two_blanks(alloc: Global, line: &[u8]) -> Result<Option<Told>, OutOfMemory>
     ensures { IfOk result (λ told. told ≡ blanks_before line.now (behind_blanks line.now)) }
 {
     match behind_blanks(line) {
@@ -88,7 +89,7 @@ fn ends_in_blank(line: &[u8]) -> bool
 
 /// Tells of the blanks of a line.
 #[tactic(auto, unfolding(crate::specs::Forms::blanks_flaw))]
-fn blanks_flaw(alloc: Global, line: &[u8]) -> Result<Option<Told>, AllocError>
+fn blanks_flaw(alloc: Global, line: &[u8]) -> Result<Option<Told>, OutOfMemory>
     ensures { IfOk result (λ told. told ≡ blanks_flaw line.now) }
 {
     if begins(b' ', line) {
@@ -105,7 +106,7 @@ fn blanks_flaw(alloc: Global, line: &[u8]) -> Result<Option<Told>, AllocError>
 
 /// Tells of a word that a form does not have.
 #[tactic(auto, unfolding(crate::specs::Forms::surplus))]
-fn surplus(alloc: Global, word: Option<Word<'_>>, form: Note) -> Result<Option<Told>, AllocError>
+fn surplus(alloc: Global, word: Option<Word<'_>>, form: Note) -> Result<Option<Told>, OutOfMemory>
     ensures { IfOk result (λ told. told ≡ surplus (option_map seen word.entry) form) }
 {
     match word {
@@ -116,7 +117,7 @@ fn surplus(alloc: Global, word: Option<Word<'_>>, form: Note) -> Result<Option<T
 
 /// Tells that a word is missing behind a line.
 #[tactic(auto, unfolding(crate::specs::Forms::missing))]
-fn missing(alloc: Global, line: &[u8], form: Note) -> Result<Option<Told>, AllocError>
+fn missing(alloc: Global, line: &[u8], form: Note) -> Result<Option<Told>, OutOfMemory>
     ensures { IfOk result (λ told. told ≡ missing line.now form) }
 {
     Ok(Some(behind(alloc, line, b"a word is missing", Some(form))?))
@@ -124,7 +125,7 @@ fn missing(alloc: Global, line: &[u8], form: Note) -> Result<Option<Told>, Alloc
 
 /// Tells of a number.
 #[tactic(auto, unfolding(crate::specs::Forms::number))]
-fn number(alloc: Global, sort: Sort, word: Word<'_>) -> Result<Option<Told>, AllocError>
+fn number(alloc: Global, sort: Sort, word: Word<'_>) -> Result<Option<Told>, OutOfMemory>
     ensures { IfOk result (λ told. told ≡ number sort (seen word.entry)) }
 {
     match number_flaw(sort, word.bytes) {
@@ -143,7 +144,7 @@ fn behind_end(
     line: &[u8],
     tick: Option<Word<'_>>,
     more: Option<Word<'_>>,
-) -> Result<Option<Told>, AllocError>
+) -> Result<Option<Told>, OutOfMemory>
     ensures { IfOk result (λ told. told ≡
         behind_end line.now (option_map seen tick.entry) (option_map seen more.entry)) }
 {
@@ -165,7 +166,7 @@ fn behind_set(
     line: &[u8],
     value: Option<Word<'_>>,
     more: Option<Word<'_>>,
-) -> Result<Option<Told>, AllocError>
+) -> Result<Option<Told>, OutOfMemory>
     ensures { IfOk result (λ told. told ≡
         behind_set line.now (option_map seen value.entry) (option_map seen more.entry)) }
 {
@@ -187,7 +188,7 @@ fn behind_event(
     line: &[u8],
     name: Option<Word<'_>>,
     more: Option<Word<'_>>,
-) -> Result<Option<Told>, AllocError>
+) -> Result<Option<Told>, OutOfMemory>
     ensures { IfOk result (λ told. told ≡
         behind_event line.now (option_map seen name.entry) (option_map seen more.entry)) }
 {
@@ -203,7 +204,7 @@ fn behind_tick(
     alloc: Global,
     line: &[u8],
     command: Option<Word<'_>>,
-) -> Result<Option<Told>, AllocError>
+) -> Result<Option<Told>, OutOfMemory>
     ensures { IfOk result (λ told. told ≡ behind_tick line.now (option_map seen command.entry)) }
 {
     match command {
@@ -237,7 +238,7 @@ fn has_digit(word: &[u8]) -> bool
 
 /// Tells of a first word without a digit.
 #[tactic(auto, unfolding(crate::specs::Forms::no_beginning))]
-fn no_beginning(alloc: Global, word: Word<'_>) -> Result<Option<Told>, AllocError>
+fn no_beginning(alloc: Global, word: Word<'_>) -> Result<Option<Told>, OutOfMemory>
     ensures { IfOk result (λ told. told ≡ no_beginning (seen word.entry)) }
 {
     if has_digit(word.bytes) {
@@ -253,7 +254,7 @@ fn no_beginning(alloc: Global, word: Word<'_>) -> Result<Option<Told>, AllocErro
 
 /// Tells of a line that begins with a tick, or is to.
 #[tactic(auto, unfolding(crate::specs::Forms::timed_flaw))]
-fn timed_flaw(alloc: Global, line: &[u8]) -> Result<Option<Told>, AllocError>
+fn timed_flaw(alloc: Global, line: &[u8]) -> Result<Option<Told>, OutOfMemory>
     ensures { IfOk result (λ told. told ≡ timed_flaw line.now) }
 {
     let first = first_word(line);
@@ -268,7 +269,7 @@ fn timed_flaw(alloc: Global, line: &[u8]) -> Result<Option<Told>, AllocError>
 
 /// Tells of the words of a line.
 #[tactic(auto, unfolding(crate::specs::Forms::words_flaw))]
-fn words_flaw(alloc: Global, line: &[u8]) -> Result<Option<Told>, AllocError>
+fn words_flaw(alloc: Global, line: &[u8]) -> Result<Option<Told>, OutOfMemory>
     ensures { IfOk result (λ told. told ≡ words_flaw line.now) }
 {
     if is_end(line) {
@@ -279,7 +280,7 @@ fn words_flaw(alloc: Global, line: &[u8]) -> Result<Option<Told>, AllocError>
 
 /// Tells of bytes that stand in no line.
 #[tactic(auto, unfolding(crate::specs::Forms::bytes_flaw))]
-fn bytes_flaw(alloc: Global, line: &[u8], is_ended: bool) -> Result<Option<Told>, AllocError>
+fn bytes_flaw(alloc: Global, line: &[u8], is_ended: bool) -> Result<Option<Told>, OutOfMemory>
     ensures { IfOk result (λ told. told ≡ bytes_flaw line.now is_ended) }
 {
     if !is_ended {
@@ -301,7 +302,7 @@ pub(crate) fn line_flaw(
     alloc: Global,
     line: &[u8],
     is_ended: bool,
-) -> Result<Option<Told>, AllocError>
+) -> Result<Option<Told>, OutOfMemory>
     ensures { IfOk result (λ told. told ≡ line_flaw line.now is_ended) }
 {
     if let Some(told) = bytes_flaw(alloc, line, is_ended)? {

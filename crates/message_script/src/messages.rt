@@ -11,8 +11,9 @@ use crate::telling::{Note, Told, at_byte, remark};
 use crate::unknown::unknown;
 use image::ImageNames;
 use message_text::{add_head, add_note, add_number, add_plain, add_show, is_ended, line};
+use out_of_memory::OutOfMemory;
 use script::{ScriptFault, refusal};
-use std::alloc::{AllocError, Global};
+use std::alloc::Global;
 use syntax_tree::Text;
 
 /// How many bytes a script has at most.
@@ -32,7 +33,7 @@ fn end_sentence(is_ended: bool) -> &'static [u8]
 
 /// Tells something of a whole line.
 #[tactic(auto, unfolding(crate::specs::Message::of_line))]
-fn of_line(alloc: Global, line: &[u8], sentence: &[u8]) -> Result<Told, AllocError>
+fn of_line(alloc: Global, line: &[u8], sentence: &[u8]) -> Result<Told, OutOfMemory>
     ensures { IfOk result (λ told. told ≡ of_line line.now sentence.now) }
 {
     Ok(Told {
@@ -46,7 +47,7 @@ fn of_line(alloc: Global, line: &[u8], sentence: &[u8]) -> Result<Told, AllocErr
 
 /// Tells that a line is one too many.
 #[tactic(auto, unfolding(crate::specs::Message::too_many))]
-fn too_many(alloc: Global) -> Result<Told, AllocError>
+fn too_many(alloc: Global) -> Result<Told, OutOfMemory>
     ensures { IfOk result (λ told. told ≡ too_many) }
 {
     at_byte(alloc, 1, b"line 1000001; 1000000 lines are the most", None)
@@ -58,7 +59,7 @@ fn or_line(
     row: Option<Told>,
     line: &[u8],
     sentence: &[u8],
-) -> Result<Told, AllocError>
+) -> Result<Told, OutOfMemory>
     ensures { IfOk result (λ told. told ≡ or_line row line.now sentence.now) }
 {
     match row {
@@ -68,7 +69,7 @@ fn or_line(
 }
 
 /// Tells of a line in no form.
-fn no_form(alloc: Global, line: &[u8], is_ended: bool) -> Result<Told, AllocError>
+fn no_form(alloc: Global, line: &[u8], is_ended: bool) -> Result<Told, OutOfMemory>
     ensures { IfOk result (λ told. told ≡ no_form line.now is_ended) }
 {
     let row = line_flaw(alloc, line, is_ended)?;
@@ -76,7 +77,7 @@ fn no_form(alloc: Global, line: &[u8], is_ended: bool) -> Result<Told, AllocErro
 }
 
 /// Tells of a line with a name that is not known.
-fn no_name(alloc: Global, names: &ImageNames, line: &[u8]) -> Result<Told, AllocError>
+fn no_name(alloc: Global, names: &ImageNames, line: &[u8]) -> Result<Told, OutOfMemory>
     ensures { IfOk result (λ told. told ≡ no_name names.now line.now) }
 {
     let row = unknown(alloc, names, line)?;
@@ -84,7 +85,7 @@ fn no_name(alloc: Global, names: &ImageNames, line: &[u8]) -> Result<Told, Alloc
 }
 
 /// Tells of the line of this number, whose tick is too low.
-fn too_low(alloc: Global, text: &[u8], number: usize, line: &[u8]) -> Result<Told, AllocError>
+fn too_low(alloc: Global, text: &[u8], number: usize, line: &[u8]) -> Result<Told, OutOfMemory>
     ensures { IfOk result (λ told. told ≡ too_low text.now number line.now) }
 {
     let row = early(alloc, text, number)?;
@@ -99,7 +100,7 @@ fn too_soon(
     number: usize,
     ticks: usize,
     line: &[u8],
-) -> Result<Told, AllocError>
+) -> Result<Told, OutOfMemory>
     ensures { IfOk result (λ told. told ≡ too_soon names.now text.now number ticks line.now) }
 {
     let row = soon(alloc, names, text, number, ticks)?;
@@ -115,7 +116,7 @@ fn told(
     number: u8,
     at: usize,
     ticks: usize,
-) -> Result<Told, AllocError>
+) -> Result<Told, OutOfMemory>
     ensures { IfOk result (λ found. found ≡ told names.now text.now number at ticks) }
 {
     let line = line(text, at);
@@ -130,7 +131,7 @@ fn told(
 }
 
 /// Puts an earlier line, if there is one.
-fn add_earlier(message: &mut Text, text: &[u8], earlier: Option<usize>) -> Result<(), AllocError>
+fn add_earlier(message: &mut Text, text: &[u8], earlier: Option<usize>) -> Result<(), OutOfMemory>
     ensures { OnOk result (message.new ≡ message.old ++ shown_line text.now earlier) }
 {
     match earlier {
@@ -140,7 +141,7 @@ fn add_earlier(message: &mut Text, text: &[u8], earlier: Option<usize>) -> Resul
 }
 
 /// Puts a remark, if there is one.
-fn add_remark(message: &mut Text, note: Option<Note>) -> Result<(), AllocError>
+fn add_remark(message: &mut Text, note: Option<Note>) -> Result<(), OutOfMemory>
     ensures { OnOk result (message.new ≡ message.old ++ remarked note) }
 {
     match note {
@@ -150,7 +151,7 @@ fn add_remark(message: &mut Text, note: Option<Note>) -> Result<(), AllocError>
 }
 
 /// The code of a fault.
-fn code(alloc: Global, number: u8) -> Result<Text, AllocError>
+fn code(alloc: Global, number: u8) -> Result<Text, OutOfMemory>
     ensures { IfOk result (λ text. text ≡ codes "S" ++ decimal number) }
 {
     let mut text = Text::from_bytes(alloc, b"S")?;
@@ -167,7 +168,7 @@ fn spelled(
     number: u8,
     at: usize,
     told: &Told,
-) -> Result<Text, AllocError>
+) -> Result<Text, OutOfMemory>
     ensures { IfOk result (λ message. message ≡ spelled file.now text.now number at told.now) }
 {
     let code = code(alloc, number)?;
@@ -195,12 +196,12 @@ fn fault_message(
     text: &[u8],
     names: &ImageNames,
     fault: &ScriptFault,
-) -> Result<Text, AllocError>
+) -> Result<Text, OutOfMemory>
     ensures { IfOk result (λ message. message ≡
         fault_message file.now text.now names.now fault.now) }
 {
     match fault {
-        ScriptFault::Memory => Ok(Text::new(alloc)),
+        ScriptFault::Memory(_) => Ok(Text::new(alloc)),
         ScriptFault::Bad { number, line, a, b } => {
             let ticks = b.saturating_sub(*a) as usize;
             let told = told(alloc, names, text, *number, *line as usize, ticks)?;
@@ -211,7 +212,7 @@ fn fault_message(
 
 /// The message for a script with too many bytes, by the name of its file as the call has it.
 #[tactic(auto, unfolding(crate::specs::Message::long_message))]
-pub fn long_message(alloc: Global, file: &str) -> Result<Text, AllocError>
+pub fn long_message(alloc: Global, file: &str) -> Result<Text, OutOfMemory>
     ensures { IfOk result (λ message. message ≡ long_message file.now) }
 {
     let mut text = Text::new(alloc);
@@ -231,7 +232,7 @@ pub fn script_message(
     text: &[u8],
     names: &ImageNames,
     fault: &ScriptFault,
-) -> Result<Text, AllocError>
+) -> Result<Text, OutOfMemory>
     ensures { IfOk result (λ message. message ≡
         script_message file.now text.now names.now fault.now) }
 {

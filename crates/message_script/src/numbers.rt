@@ -10,7 +10,8 @@ ghost use Rattle.message_script.specs.Numbers.{most, not_in, number_flaw, range,
 use crate::telling::with_quoted;
 use crate::words::begins;
 use message_text::add_quoted;
-use std::alloc::{AllocError, Global};
+use out_of_memory::OutOfMemory;
+use std::alloc::Global;
 use syntax_tree::Text;
 use text_fields::is_digit;
 
@@ -195,7 +196,7 @@ fn range(sort: Sort) -> &'static [u8]
 }
 
 /// What a number is called, the number, and the range that it is outside of.
-fn not_in(alloc: Global, name: &[u8], word: &[u8], range: &[u8]) -> Result<Text, AllocError>
+fn not_in(alloc: Global, name: &[u8], word: &[u8], range: &[u8]) -> Result<Text, OutOfMemory>
     ensures { IfOk result (λ text. text ≡ not_in name.now word.now range.now) }
 {
     let mut text = Text::from_bytes(alloc, name)?;
@@ -212,7 +213,7 @@ pub(crate) fn flaw_sentence(
     sort: Sort,
     word: &[u8],
     flaw: Flaw,
-) -> Result<Text, AllocError>
+) -> Result<Text, OutOfMemory>
     ensures { IfOk result (λ text. text ≡ flaw_sentence sort word.now flaw) }
 {
     match flaw {

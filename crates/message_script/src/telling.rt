@@ -7,7 +7,8 @@ ghost use Rattle.message_script.specs.Words.{seen};
 
 use crate::words::Word;
 use message_text::add_quoted;
-use std::alloc::{AllocError, Global};
+use out_of_memory::OutOfMemory;
+use std::alloc::Global;
 use syntax_tree::Text;
 
 /// A remark on what is wrong.
@@ -62,7 +63,7 @@ pub(crate) fn at_byte(
     column: usize,
     sentence: &[u8],
     note: Option<Note>,
-) -> Result<Told, AllocError>
+) -> Result<Told, OutOfMemory>
     ensures { IfOk result (λ told. told ≡ at_byte column sentence.now note) }
 {
     Ok(Told {
@@ -81,7 +82,7 @@ pub(crate) fn behind(
     line: &[u8],
     sentence: &[u8],
     note: Option<Note>,
-) -> Result<Told, AllocError>
+) -> Result<Told, OutOfMemory>
     ensures { IfOk result (λ told. told ≡ behind line.now sentence.now note) }
 {
     Ok(Told {
@@ -108,7 +109,7 @@ pub(crate) fn at_word(word: Word<'_>, sentence: Text, note: Option<Note>) -> Tol
 }
 
 /// A word between backquotes, and what is wrong with it.
-pub(crate) fn with_quoted(alloc: Global, word: &[u8], wrong: &[u8]) -> Result<Text, AllocError>
+pub(crate) fn with_quoted(alloc: Global, word: &[u8], wrong: &[u8]) -> Result<Text, OutOfMemory>
     ensures { IfOk result (λ text. text ≡ quoted word.now ++ wrong.now) }
 {
     let mut text = Text::new(alloc);
@@ -124,7 +125,7 @@ pub(crate) fn of_word(
     word: Word<'_>,
     wrong: &[u8],
     note: Option<Note>,
-) -> Result<Told, AllocError>
+) -> Result<Told, OutOfMemory>
     ensures { IfOk result (λ told. told ≡ of_word (seen word.entry) wrong.now note) }
 {
     let sentence = with_quoted(alloc, word.bytes, wrong)?;

@@ -12,12 +12,13 @@ use crate::telling::{Note, Told, at_byte, at_word};
 use crate::words::{Word, is_word, word_at};
 use image::{DeviceName, ImageNames};
 use message_text::{add_hint, add_quoted, nearest, return_place};
-use std::alloc::{AllocError, Global};
+use out_of_memory::OutOfMemory;
+use std::alloc::Global;
 use syntax_tree::Text;
 
 /// The names of the in devices.
 #[tactic(auto, unfolding(crate::specs::Unknown::in_devices))]
-fn in_devices<'a>(alloc: Global, names: &'a ImageNames) -> Result<Vec<&'a [u8]>, AllocError>
+fn in_devices<'a>(alloc: Global, names: &'a ImageNames) -> Result<Vec<&'a [u8]>, OutOfMemory>
     ensures { IfOk result (λ all. map (λ name. name.now) all.items ≡ in_devices names.now) }
 {
     let devices = names.devices.as_slice();
@@ -32,7 +33,7 @@ fn in_devices<'a>(alloc: Global, names: &'a ImageNames) -> Result<Vec<&'a [u8]>,
 
 /// The names of the events.
 #[tactic(auto, unfolding(crate::specs::Unknown::events))]
-fn events<'a>(alloc: Global, names: &'a ImageNames) -> Result<Vec<&'a [u8]>, AllocError>
+fn events<'a>(alloc: Global, names: &'a ImageNames) -> Result<Vec<&'a [u8]>, OutOfMemory>
     ensures { IfOk result (λ all. map (λ name. name.now) all.items ≡ events names.now) }
 {
     let events = names.events.as_slice();
@@ -48,7 +49,7 @@ fn known<'a>(
     alloc: Global,
     names: &'a ImageNames,
     is_set: bool,
-) -> Result<Vec<&'a [u8]>, AllocError>
+) -> Result<Vec<&'a [u8]>, OutOfMemory>
     ensures { IfOk result (λ all. map (λ name. name.now) all.items ≡ known names.now is_set) }
 {
     if is_set {
@@ -64,7 +65,7 @@ fn nearest_known<'a>(
     names: &'a ImageNames,
     is_set: bool,
     name: &[u8],
-) -> Result<Option<&'a [u8]>, AllocError>
+) -> Result<Option<&'a [u8]>, OutOfMemory>
     ensures { IfOk result (λ found. option_map (λ it. it.now) found ≡
         nearest_of name.now (known names.now is_set)) }
 {
@@ -119,7 +120,7 @@ fn unknown_sentence(
     names: &ImageNames,
     is_set: bool,
     name: &[u8],
-) -> Result<Text, AllocError>
+) -> Result<Text, OutOfMemory>
     ensures { IfOk result (λ text. text ≡ unknown_sentence names.now is_set name.now) }
 {
     let near = nearest_known(alloc, names, is_set, name)?;
@@ -136,7 +137,7 @@ fn unknown_name(
     names: &ImageNames,
     is_set: bool,
     word: Word<'_>,
-) -> Result<Told, AllocError>
+) -> Result<Told, OutOfMemory>
     requires { word.column + length word.bytes.now < 2 ^ 64 }
     ensures { IfOk result (λ told. told ≡
         unknown_name names.now is_set (seen word.entry) (return_place word.entry.bytes.now)) }
@@ -159,7 +160,7 @@ pub(crate) fn unknown(
     alloc: Global,
     names: &ImageNames,
     line: &[u8],
-) -> Result<Option<Told>, AllocError>
+) -> Result<Option<Told>, OutOfMemory>
     ensures { IfOk result (λ told. told ≡ unknown names.now line.now) }
 {
     let is_set = is_word(word_at(line, 1), b"set");

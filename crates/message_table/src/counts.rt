@@ -12,7 +12,8 @@ ghost use Rattle.message_table.specs.Seen.{mark_of, room_of};
 use crate::fault::{CountFault, Fault, Found};
 use crate::mark::Marked;
 use crate::part::{Part, Role};
-use std::alloc::{AllocError, Global};
+use out_of_memory::OutOfMemory;
+use std::alloc::Global;
 
 /// How many more processes and stays may come, and the monitors so far, each once.
 #[derive(Drop)]
@@ -98,7 +99,7 @@ impl<'a> Room<'a> {
     }
 
     /// Takes the room of the name in a part.
-    fn add_name(&mut self, of: Part, word: &'a [u8]) -> Result<(), AllocError>
+    fn add_name(&mut self, of: Part, word: &'a [u8]) -> Result<(), OutOfMemory>
         ensures { OnOk result (room_of self.new ≡ with_name (room_of self.old) of word.entry.now) }
     {
         if of.is_stay() && !self.is_known(word) {
@@ -108,7 +109,7 @@ impl<'a> Room<'a> {
     }
 
     /// Takes the room of a word.
-    fn add_word(&mut self, role: Role, word: &'a [u8]) -> Result<(), AllocError>
+    fn add_word(&mut self, role: Role, word: &'a [u8]) -> Result<(), OutOfMemory>
         ensures { OnOk result
             (room_of self.new ≡ with_word (room_of self.old) role word.entry.now) }
     {
@@ -135,7 +136,7 @@ fn miscounted(mark: &Marked<'_>, fault: CountFault) -> Found
 }
 
 /// The first word that is too much.
-pub(crate) fn count_found(alloc: Global, marks: &[Marked<'_>]) -> Result<Option<Found>, AllocError>
+pub(crate) fn count_found(alloc: Global, marks: &[Marked<'_>]) -> Result<Option<Found>, OutOfMemory>
     ensures { IfOk result (λ found. found ≡ count_in (map mark_of marks.now)) }
 {
     let mut room = Room {

@@ -19,7 +19,8 @@ use crate::mark::{Marked, add_marks};
 use crate::numerals::{begins_with, numeral_fault};
 use crate::part::{Role, Wanted};
 use message_text::{is_ended, line, return_place};
-use std::alloc::{AllocError, Global};
+use out_of_memory::OutOfMemory;
+use std::alloc::Global;
 
 /// What is wrong with the form of a line, and where.
 fn form(column: usize, width: usize, fault: FormFault) -> Found
@@ -181,7 +182,7 @@ fn is_behind_end(text: &[u8], number: usize) -> bool
 }
 
 /// What is wrong with a line that an LF ends, by its words.
-fn ended(alloc: Global, bytes: &[u8], number: usize) -> Result<Found, AllocError>
+fn ended(alloc: Global, bytes: &[u8], number: usize) -> Result<Found, OutOfMemory>
     ensures { IfOk result (λ found. found ≡ ended_in bytes.now number) }
 {
     let mut marks = Vec::new(alloc);
@@ -191,7 +192,7 @@ fn ended(alloc: Global, bytes: &[u8], number: usize) -> Result<Found, AllocError
 
 /// What is wrong with the form of the line of this number.
 #[tactic(auto, unfolding(crate::specs::Form::form_found))]
-pub(crate) fn form_found(alloc: Global, text: &[u8], number: usize) -> Result<Found, AllocError>
+pub(crate) fn form_found(alloc: Global, text: &[u8], number: usize) -> Result<Found, OutOfMemory>
     ensures { IfOk result (λ found. found ≡ form_in text.now number) }
 {
     let bytes = line(text, number);

@@ -7,7 +7,8 @@ ghost use Rattle.message_table.specs.Seen.{mark_of};
 
 use crate::part::{Role, Wanted};
 use message_text::line;
-use std::alloc::{AllocError, Global};
+use out_of_memory::OutOfMemory;
+use std::alloc::Global;
 
 /// A word: its line and the column of its first byte, both from 1, and what it is there.
 #[derive(Clone, Copy)]
@@ -25,7 +26,7 @@ fn add_mark<'a>(
     column: usize,
     word: &'a [u8],
     wanted: Wanted,
-) -> Result<Wanted, AllocError>
+) -> Result<Wanted, OutOfMemory>
     ensures marks { OnOk result (map mark_of marks.new.items ≡
         map mark_of marks.old.items ++ marks_from line column wanted (word.entry.now ∷ [])) }
     ensures wanted { IfOk result (λ behind. behind ≡ wanted_behind wanted (word.entry.now ∷ [])) }
@@ -45,7 +46,7 @@ pub(crate) fn add_marks<'a>(
     marks: &mut Vec<Marked<'a>>,
     bytes: &'a [u8],
     number: usize,
-) -> Result<Wanted, AllocError>
+) -> Result<Wanted, OutOfMemory>
     ensures marks { OnOk result (map mark_of marks.new.items ≡ map mark_of marks.old.items
         ++ line_marks bytes.entry.now number) }
     ensures wanted { IfOk result (λ behind. behind ≡ line_wanted bytes.entry.now number) }
@@ -66,7 +67,7 @@ pub(crate) fn marks<'a>(
     alloc: Global,
     text: &'a [u8],
     number: usize,
-) -> Result<Vec<Marked<'a>>, AllocError>
+) -> Result<Vec<Marked<'a>>, OutOfMemory>
     ensures { IfOk result (λ marks. map mark_of marks.items ≡ marks_of text.entry.now number) }
 {
     let mut marks = Vec::new(alloc);
@@ -80,7 +81,7 @@ pub(crate) fn marks_to<'a>(
     alloc: Global,
     text: &'a [u8],
     count: usize,
-) -> Result<Vec<Marked<'a>>, AllocError>
+) -> Result<Vec<Marked<'a>>, OutOfMemory>
     ensures { IfOk result (λ marks. map mark_of marks.items ≡ marks_of_lines text.entry.now count) }
 {
     let mut marks = Vec::new(alloc);

@@ -22,7 +22,8 @@ use crate::remarks::remark;
 use crate::sentences::add_sentence;
 use crate::ticks::{range_found, unmet_found};
 use message_text::{add_head, add_note, add_number, add_plain, add_show, line};
-use std::alloc::{AllocError, Global};
+use out_of_memory::OutOfMemory;
+use std::alloc::Global;
 use syntax_tree::Text;
 
 /// The most bytes of a table.
@@ -51,7 +52,7 @@ fn known(found: Option<Found>) -> Found
 }
 
 /// The first word of a line that is no name.
-fn name_of_line(alloc: Global, text: &[u8], line: usize) -> Result<Found, AllocError>
+fn name_of_line(alloc: Global, text: &[u8], line: usize) -> Result<Found, OutOfMemory>
     ensures { IfOk result (λ found.
         found ≡ unwrap_or (name_in (marks_of text.now line)) unknown_fault) }
 {
@@ -60,7 +61,7 @@ fn name_of_line(alloc: Global, text: &[u8], line: usize) -> Result<Found, AllocE
 }
 
 /// The first name of these lines that is taken.
-fn taken_of_lines(alloc: Global, text: &[u8], line: usize) -> Result<Found, AllocError>
+fn taken_of_lines(alloc: Global, text: &[u8], line: usize) -> Result<Found, OutOfMemory>
     ensures { IfOk result (λ found.
         found ≡ unwrap_or (taken_in (marks_of_lines text.now line)) unknown_fault) }
 {
@@ -70,7 +71,7 @@ fn taken_of_lines(alloc: Global, text: &[u8], line: usize) -> Result<Found, Allo
 }
 
 /// The first ticks of a line outside their range.
-fn range_of_line(alloc: Global, text: &[u8], line: usize) -> Result<Found, AllocError>
+fn range_of_line(alloc: Global, text: &[u8], line: usize) -> Result<Found, OutOfMemory>
     ensures { IfOk result (λ found.
         found ≡ unwrap_or (range_in (marks_of text.now line)) unknown_fault) }
 {
@@ -79,7 +80,7 @@ fn range_of_line(alloc: Global, text: &[u8], line: usize) -> Result<Found, Alloc
 }
 
 /// The stay or the cost of a line that cannot be met.
-fn unmet_of_line(alloc: Global, text: &[u8], line: usize) -> Result<Found, AllocError>
+fn unmet_of_line(alloc: Global, text: &[u8], line: usize) -> Result<Found, OutOfMemory>
     ensures { IfOk result (λ found.
         found ≡ unwrap_or (unmet_in (marks_of text.now line)) unknown_fault) }
 {
@@ -88,7 +89,7 @@ fn unmet_of_line(alloc: Global, text: &[u8], line: usize) -> Result<Found, Alloc
 }
 
 /// The first word of these lines that is too much.
-fn count_of_lines(alloc: Global, text: &[u8], line: usize) -> Result<Found, AllocError>
+fn count_of_lines(alloc: Global, text: &[u8], line: usize) -> Result<Found, OutOfMemory>
     ensures { IfOk result (λ found.
         found ≡ unwrap_or (count_in (marks_of_lines text.now line)) unknown_fault) }
 {
@@ -98,7 +99,7 @@ fn count_of_lines(alloc: Global, text: &[u8], line: usize) -> Result<Found, Allo
 }
 
 /// What is wrong with the line of a fault, by the number of the fault.
-fn found_by(alloc: Global, text: &[u8], number: u8, line: usize) -> Result<Found, AllocError>
+fn found_by(alloc: Global, text: &[u8], number: u8, line: usize) -> Result<Found, OutOfMemory>
     ensures { IfOk result (λ found. found ≡ found_in text.now number line) }
 {
     match number {
@@ -122,7 +123,7 @@ fn word_at(bytes: &[u8], column: usize, width: usize) -> &[u8]
 }
 
 /// The code of a fault.
-fn code_of(alloc: Global, number: u8) -> Result<Text, AllocError>
+fn code_of(alloc: Global, number: u8) -> Result<Text, OutOfMemory>
     ensures { IfOk result (λ code. code ≡ code_of number) }
 {
     let mut code = Text::from_bytes(alloc, b"T")?;
@@ -131,7 +132,7 @@ fn code_of(alloc: Global, number: u8) -> Result<Text, AllocError>
 }
 
 /// Puts the line that has a taken name first.
-fn add_earlier(text: &mut Text, source: &[u8], fault: Fault) -> Result<(), AllocError>
+fn add_earlier(text: &mut Text, source: &[u8], fault: Fault) -> Result<(), OutOfMemory>
     ensures { OnOk result (text.new ≡ text.old ++ earlier source.now fault) }
 {
     match fault {
@@ -143,7 +144,7 @@ fn add_earlier(text: &mut Text, source: &[u8], fault: Fault) -> Result<(), Alloc
 }
 
 /// Puts a note, if there is one.
-fn add_remark(text: &mut Text, remark: Option<&'static [u8]>) -> Result<(), AllocError>
+fn add_remark(text: &mut Text, remark: Option<&'static [u8]>) -> Result<(), OutOfMemory>
     ensures { OnOk result
         (text.new ≡ text.old ++ note_of (option_map (λ remark. remark.now) remark.entry)) }
 {
@@ -160,7 +161,7 @@ fn add_first(
     found: Found,
     code: &[u8],
     sentence: &[u8],
-) -> Result<(), AllocError>
+) -> Result<(), OutOfMemory>
     ensures { OnOk result (text.new ≡ text.old ++
         head place.now.file.now place.now.line found.column code.now sentence.now) }
 {
@@ -180,7 +181,7 @@ fn add_shown(
     place: &Place<'_>,
     found: Found,
     word: &[u8],
-) -> Result<(), AllocError>
+) -> Result<(), OutOfMemory>
     ensures { OnOk result (text.new ≡ text.old ++
         shown place.now.source.now place.now.line found word.now) }
 {
@@ -196,7 +197,7 @@ fn tell_at(
     number: u8,
     found: Found,
     word: &[u8],
-) -> Result<Text, AllocError>
+) -> Result<Text, OutOfMemory>
     ensures { IfOk result (λ text. text ≡
         told_at place.now.file.now place.now.source.now number place.now.line found word.now) }
 {
@@ -216,7 +217,7 @@ fn tell_at(
 }
 
 /// Tells what is wrong with a line.
-fn tell(alloc: Global, place: &Place<'_>, number: u8, found: Found) -> Result<Text, AllocError>
+fn tell(alloc: Global, place: &Place<'_>, number: u8, found: Found) -> Result<Text, OutOfMemory>
     ensures { IfOk result (λ text. text ≡
         told place.now.file.now place.now.source.now number place.now.line found) }
 {
@@ -227,7 +228,7 @@ fn tell(alloc: Global, place: &Place<'_>, number: u8, found: Found) -> Result<Te
 
 /// The message for a table of too many bytes.
 #[tactic(auto, unfolding(crate::specs::Message::long_message))]
-pub fn long_message(alloc: Global, file: &str) -> Result<Text, AllocError>
+pub fn long_message(alloc: Global, file: &str) -> Result<Text, OutOfMemory>
     ensures { IfOk result (λ message. message ≡ long_message file.now) }
 {
     let mut text = Text::new(alloc);
@@ -245,7 +246,7 @@ pub fn table_message(
     text: &[u8],
     number: u8,
     line: u32,
-) -> Result<Text, AllocError>
+) -> Result<Text, OutOfMemory>
     ensures { IfOk result (λ message. message ≡ table_message file.now text.now number line) }
 {
     if text.len() > LONGEST {

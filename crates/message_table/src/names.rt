@@ -15,7 +15,8 @@ ghost use Rattle.message_table.specs.Seen.{mark_of, names_of};
 use crate::fault::{Fault, Found, NameFault};
 use crate::mark::Marked;
 use crate::part::{Part, Role};
-use std::alloc::{AllocError, Global};
+use out_of_memory::OutOfMemory;
+use std::alloc::Global;
 use syntax::keyword_at;
 
 /// How many bytes a name has at most.
@@ -137,7 +138,7 @@ impl<'a> Names<'a> {
     }
 
     /// Puts one more.
-    fn add(&mut self, of: Part, mark: &Marked<'a>) -> Result<(), AllocError>
+    fn add(&mut self, of: Part, mark: &Marked<'a>) -> Result<(), OutOfMemory>
         ensures { OnOk result
             (names_of self.new ≡ with_name (names_of self.old) of (mark_of mark.now)) }
     {
@@ -164,7 +165,7 @@ fn taken(mark: &Marked<'_>, by: &Marked<'_>) -> Found
 }
 
 /// The first name of which another one before it is the word already.
-pub(crate) fn taken_found(alloc: Global, marks: &[Marked<'_>]) -> Result<Option<Found>, AllocError>
+pub(crate) fn taken_found(alloc: Global, marks: &[Marked<'_>]) -> Result<Option<Found>, OutOfMemory>
     ensures { IfOk result (λ found. found ≡ taken_in (map mark_of marks.now)) }
 {
     let mut names = Names {

@@ -5,14 +5,14 @@ ghost use Rattle.message_text.specs.Words.{quoted, shortened as shortened_word};
 
 use itoa::Buffer;
 use message_text::{add_number, add_plain, add_quoted};
-use std::alloc::AllocError;
+use out_of_memory::OutOfMemory;
 use syntax_tree::Text;
 
 /// The most bytes of a word that are put as they are.
 const LONGEST: usize = 40;
 
 /// Puts a word; of more than 40 bytes the first 37 and three dots.
-pub(crate) fn add_shortened(text: &mut Text, word: &[u8]) -> Result<(), AllocError>
+pub(crate) fn add_shortened(text: &mut Text, word: &[u8]) -> Result<(), OutOfMemory>
     ensures { OnOk result (text.new ≡ text.old ++ shortened_word word.now) }
 {
     if word.len() <= LONGEST {
@@ -24,7 +24,7 @@ pub(crate) fn add_shortened(text: &mut Text, word: &[u8]) -> Result<(), AllocErr
 }
 
 /// Puts a word between backquotes, and these bytes behind it.
-pub(crate) fn add_told(text: &mut Text, word: &[u8], behind: &[u8]) -> Result<(), AllocError>
+pub(crate) fn add_told(text: &mut Text, word: &[u8], behind: &[u8]) -> Result<(), OutOfMemory>
     ensures { OnOk result (text.new ≡ text.old ++ (quoted word.now ++ behind.now)) }
 {
     add_quoted(text, word)?;
@@ -37,7 +37,7 @@ pub(crate) fn add_between(
     before: &[u8],
     word: &[u8],
     behind: &[u8],
-) -> Result<(), AllocError>
+) -> Result<(), OutOfMemory>
     ensures { OnOk result
         (text.new ≡ text.old ++ (before.now ++ (shortened_word word.now ++ behind.now))) }
 {
@@ -52,7 +52,7 @@ pub(crate) fn add_count(
     before: &[u8],
     number: usize,
     behind: &[u8],
-) -> Result<(), AllocError>
+) -> Result<(), OutOfMemory>
     ensures { OnOk result (text.new ≡ text.old ++ (before.now ++ (decimal number ++ behind.now))) }
 {
     text.extend(before)?;
@@ -66,7 +66,7 @@ pub(crate) fn add_ticks(
     before: &[u8],
     ticks: u128,
     behind: &[u8],
-) -> Result<(), AllocError>
+) -> Result<(), OutOfMemory>
     ensures { OnOk result (text.new ≡ text.old ++ (before.now ++ (decimal ticks ++ behind.now))) }
 {
     let mut digits = Buffer::new();

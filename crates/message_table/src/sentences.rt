@@ -14,11 +14,11 @@ use crate::fault::{CountFault, Fault, FormFault, NameFault, NumeralFault, TicksF
 use crate::part::Part;
 use crate::put::{add_between, add_count, add_ticks, add_told};
 use message_text::{add_either, add_quoted};
-use std::alloc::AllocError;
+use out_of_memory::OutOfMemory;
 use syntax_tree::Text;
 
 /// Puts why a word is no numeral.
-fn add_numeral(text: &mut Text, fault: NumeralFault, word: &[u8]) -> Result<(), AllocError>
+fn add_numeral(text: &mut Text, fault: NumeralFault, word: &[u8]) -> Result<(), OutOfMemory>
     ensures { OnOk result (text.new ≡ text.old ++ numeral_sentence fault word.now) }
 {
     match fault {
@@ -30,7 +30,7 @@ fn add_numeral(text: &mut Text, fault: NumeralFault, word: &[u8]) -> Result<(), 
 }
 
 /// Puts what may stand behind a part.
-fn add_choice(text: &mut Text, part: Part) -> Result<(), AllocError>
+fn add_choice(text: &mut Text, part: Part) -> Result<(), OutOfMemory>
     ensures { OnOk result (text.new ≡ text.old ++ choice part) }
 {
     match part {
@@ -48,7 +48,7 @@ fn add_choice(text: &mut Text, part: Part) -> Result<(), AllocError>
 }
 
 /// Puts that something else is wanted behind a part.
-fn add_wanted(text: &mut Text, part: Part) -> Result<(), AllocError>
+fn add_wanted(text: &mut Text, part: Part) -> Result<(), OutOfMemory>
     ensures { OnOk result (text.new ≡ text.old ++ wanted_behind part) }
 {
     text.extend(b" stands where ")?;
@@ -57,7 +57,7 @@ fn add_wanted(text: &mut Text, part: Part) -> Result<(), AllocError>
 }
 
 /// Puts what a word is that is no key of a part behind this one.
-fn add_key_problem(text: &mut Text, part: Part) -> Result<(), AllocError>
+fn add_key_problem(text: &mut Text, part: Part) -> Result<(), OutOfMemory>
     ensures { OnOk result (text.new ≡ text.old ++ key_problem part) }
 {
     match part {
@@ -68,7 +68,7 @@ fn add_key_problem(text: &mut Text, part: Part) -> Result<(), AllocError>
 }
 
 /// Puts that a word is no key of a part behind this one.
-fn add_no_key(text: &mut Text, part: Part, word: &[u8]) -> Result<(), AllocError>
+fn add_no_key(text: &mut Text, part: Part, word: &[u8]) -> Result<(), OutOfMemory>
     ensures { OnOk result (text.new ≡ text.old ++ (quoted word.now ++ key_problem part)) }
 {
     add_quoted(text, word)?;
@@ -94,7 +94,7 @@ fn form_words(fault: FormFault) -> &'static [u8]
 }
 
 /// Puts what is wrong with the form of a line.
-fn add_form(text: &mut Text, fault: FormFault, word: &[u8]) -> Result<(), AllocError>
+fn add_form(text: &mut Text, fault: FormFault, word: &[u8]) -> Result<(), OutOfMemory>
     ensures { OnOk result (text.new ≡ text.old ++ form_sentence fault word.now) }
 {
     match fault {
@@ -117,7 +117,7 @@ fn what(part: Part) -> &'static [u8]
 }
 
 /// Puts that a name has too many bytes.
-fn add_too_long(text: &mut Text, word: &[u8]) -> Result<(), AllocError>
+fn add_too_long(text: &mut Text, word: &[u8]) -> Result<(), OutOfMemory>
     ensures { OnOk result (text.new ≡ text.old ++ name_sentence TooLong word.now) }
 {
     text.extend(b"the name ")?;
@@ -126,7 +126,7 @@ fn add_too_long(text: &mut Text, word: &[u8]) -> Result<(), AllocError>
 }
 
 /// Puts that a part of a line has a name already.
-fn add_taken(text: &mut Text, word: &[u8], by: Part, line: usize) -> Result<(), AllocError>
+fn add_taken(text: &mut Text, word: &[u8], by: Part, line: usize) -> Result<(), OutOfMemory>
     ensures { OnOk result (text.new ≡ text.old ++ name_sentence (Taken by line) word.now) }
 {
     add_quoted(text, word)?;
@@ -136,7 +136,7 @@ fn add_taken(text: &mut Text, word: &[u8], by: Part, line: usize) -> Result<(), 
 }
 
 /// Puts what is wrong with a name.
-fn add_name(text: &mut Text, fault: NameFault, word: &[u8]) -> Result<(), AllocError>
+fn add_name(text: &mut Text, fault: NameFault, word: &[u8]) -> Result<(), OutOfMemory>
     ensures { OnOk result (text.new ≡ text.old ++ name_sentence fault word.now) }
 {
     match fault {
@@ -165,7 +165,7 @@ fn ticks_of(part: Part) -> &'static [u8]
 }
 
 /// Puts the range of a part's ticks, in a line with this frame.
-fn add_range(text: &mut Text, part: Part, frame: u64) -> Result<(), AllocError>
+fn add_range(text: &mut Text, part: Part, frame: u64) -> Result<(), OutOfMemory>
     ensures { OnOk result (text.new ≡ text.old ++ range_of part frame) }
 {
     match part {
@@ -185,7 +185,7 @@ fn add_range(text: &mut Text, part: Part, frame: u64) -> Result<(), AllocError>
 }
 
 /// Puts that ticks are outside their range.
-fn add_out_of_range(text: &mut Text, part: Part, frame: u64, word: &[u8]) -> Result<(), AllocError>
+fn add_out_of_range(text: &mut Text, part: Part, frame: u64, word: &[u8]) -> Result<(), OutOfMemory>
     ensures { OnOk result
         (text.new ≡ text.old ++ (ticks_words part ++ (shortened word.now ++ range_of part frame))) }
 {
@@ -194,7 +194,7 @@ fn add_out_of_range(text: &mut Text, part: Part, frame: u64, word: &[u8]) -> Res
 }
 
 /// Puts which costs can be met with the stays of a line.
-fn add_costs(text: &mut Text, least: u128, more: u128) -> Result<(), AllocError>
+fn add_costs(text: &mut Text, least: u128, more: u128) -> Result<(), OutOfMemory>
     ensures { OnOk result (text.new ≡ text.old ++ costs_with_stays least more) }
 {
     add_ticks(
@@ -207,7 +207,7 @@ fn add_costs(text: &mut Text, least: u128, more: u128) -> Result<(), AllocError>
 }
 
 /// Puts that a cost cannot be met with the stays of its line.
-fn add_cost(text: &mut Text, least: u128, more: u128, word: &[u8]) -> Result<(), AllocError>
+fn add_cost(text: &mut Text, least: u128, more: u128, word: &[u8]) -> Result<(), OutOfMemory>
     ensures { OnOk result
         (text.new ≡ text.old ++ (cost_word word.now ++ costs_with_stays least more)) }
 {
@@ -216,7 +216,7 @@ fn add_cost(text: &mut Text, least: u128, more: u128, word: &[u8]) -> Result<(),
 }
 
 /// Puts what is wrong with ticks.
-fn add_ticks_fault(text: &mut Text, fault: TicksFault, word: &[u8]) -> Result<(), AllocError>
+fn add_ticks_fault(text: &mut Text, fault: TicksFault, word: &[u8]) -> Result<(), OutOfMemory>
     ensures { OnOk result (text.new ≡ text.old ++ ticks_sentence fault word.now) }
 {
     match fault {
@@ -251,7 +251,7 @@ fn count_words(fault: CountFault) -> &'static [u8]
 
 /// Puts what is told of a fault at a word.
 #[tactic(auto, unfolding(crate::specs::Sentences::sentence))]
-pub(crate) fn add_sentence(text: &mut Text, fault: Fault, word: &[u8]) -> Result<(), AllocError>
+pub(crate) fn add_sentence(text: &mut Text, fault: Fault, word: &[u8]) -> Result<(), OutOfMemory>
     ensures { OnOk result (text.new ≡ text.old ++ sentence fault word.now) }
 {
     match fault {

@@ -4,11 +4,11 @@ ghost use Rattle.std.specs.Prelude.{◌≡◌, ◌++◌, OnOk, decimal, map, rep
 ghost use Rattle.std.specs.List.{concat};
 
 use itoa::Buffer;
-use std::alloc::AllocError;
+use out_of_memory::OutOfMemory;
 use syntax_tree::Text;
 
 /// Puts these bytes, part by part.
-pub fn add_parts(text: &mut Text, parts: &[&[u8]]) -> Result<(), AllocError>
+pub fn add_parts(text: &mut Text, parts: &[&[u8]]) -> Result<(), OutOfMemory>
     ensures { OnOk result (text.new ≡ text.old ++ concat (map (λ part. part.now) parts.now)) }
 {
     for part in parts {
@@ -19,7 +19,7 @@ pub fn add_parts(text: &mut Text, parts: &[&[u8]]) -> Result<(), AllocError>
 }
 
 /// Puts a number in decimal.
-pub fn add_number(text: &mut Text, number: usize) -> Result<(), AllocError>
+pub fn add_number(text: &mut Text, number: usize) -> Result<(), OutOfMemory>
     ensures { OnOk result (text.new ≡ text.old ++ decimal number) }
 {
     let mut digits = Buffer::new();
@@ -27,7 +27,7 @@ pub fn add_number(text: &mut Text, number: usize) -> Result<(), AllocError>
 }
 
 /// Puts a byte so many times.
-pub fn add_repeated(text: &mut Text, byte: u8, count: usize) -> Result<(), AllocError>
+pub fn add_repeated(text: &mut Text, byte: u8, count: usize) -> Result<(), OutOfMemory>
     ensures { OnOk result (text.new ≡ text.old ++ replicate count byte) }
 {
     let one = [byte];

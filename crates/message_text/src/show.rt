@@ -8,7 +8,7 @@ use crate::lines::line;
 use crate::put::add_repeated;
 use crate::words::add_plain;
 use itoa::Buffer;
-use std::alloc::AllocError;
+use out_of_memory::OutOfMemory;
 use syntax_tree::Text;
 
 /// The most bytes of a line that are shown.
@@ -23,7 +23,7 @@ fn left_out(size: usize, column: usize) -> usize
 }
 
 /// Puts a number, right-aligned in 7 places.
-fn add_aligned(text: &mut Text, number: usize) -> Result<(), AllocError>
+fn add_aligned(text: &mut Text, number: usize) -> Result<(), OutOfMemory>
     ensures { OnOk result (text.new ≡ text.old ++ aligned number) }
 {
     let mut buffer = Buffer::new();
@@ -33,7 +33,7 @@ fn add_aligned(text: &mut Text, number: usize) -> Result<(), AllocError>
 }
 
 /// Puts these bytes, with three dots in place of the first three where bytes are left out before.
-fn add_front(text: &mut Text, bytes: &[u8], is_cut: bool) -> Result<(), AllocError>
+fn add_front(text: &mut Text, bytes: &[u8], is_cut: bool) -> Result<(), OutOfMemory>
     requires { (is_cut ≡ true) → (3 ≤ length bytes.now) }
     ensures { OnOk result (text.new ≡ text.old ++ front bytes.now is_cut) }
 {
@@ -47,7 +47,7 @@ fn add_front(text: &mut Text, bytes: &[u8], is_cut: bool) -> Result<(), AllocErr
 
 /// Puts the first 160 of these bytes, with three dots in place of the last three where more stand
 /// there.
-fn add_window(text: &mut Text, bytes: &[u8], is_cut: bool) -> Result<(), AllocError>
+fn add_window(text: &mut Text, bytes: &[u8], is_cut: bool) -> Result<(), OutOfMemory>
     requires { (is_cut ≡ true) → (160 ≤ length bytes.now) }
     ensures { OnOk result (text.new ≡ text.old ++ window bytes.now is_cut) }
 {
@@ -60,7 +60,7 @@ fn add_window(text: &mut Text, bytes: &[u8], is_cut: bool) -> Result<(), AllocEr
 }
 
 /// Puts the bytes of a line that are shown.
-fn add_shown(text: &mut Text, bytes: &[u8], from: usize) -> Result<(), AllocError>
+fn add_shown(text: &mut Text, bytes: &[u8], from: usize) -> Result<(), OutOfMemory>
     requires { from ≤ length bytes.now - 160 }
     ensures { OnOk result (text.new ≡ text.old ++ shown bytes.now from) }
 {
@@ -69,7 +69,7 @@ fn add_shown(text: &mut Text, bytes: &[u8], from: usize) -> Result<(), AllocErro
 }
 
 /// Puts the carets below a line of which so many bytes are shown.
-fn add_carets(text: &mut Text, before: usize, shown: usize, width: usize) -> Result<(), AllocError>
+fn add_carets(text: &mut Text, before: usize, shown: usize, width: usize) -> Result<(), OutOfMemory>
     ensures { OnOk result (text.new ≡ text.old ++ carets before shown width) }
 {
     add_repeated(text, b' ', before)?;
@@ -82,7 +82,7 @@ fn add_caret_line(
     size: usize,
     column: usize,
     width: usize,
-) -> Result<(), AllocError>
+) -> Result<(), OutOfMemory>
     ensures { OnOk result (text.new ≡ text.old ++ caret_line size column width) }
 {
     if width == 0 {
@@ -103,7 +103,7 @@ fn add_line(
     number: usize,
     column: usize,
     width: usize,
-) -> Result<(), AllocError>
+) -> Result<(), OutOfMemory>
     ensures { OnOk result (text.new ≡ text.old ++ show_line bytes.now number column width) }
 {
     add_aligned(text, number)?;
@@ -122,7 +122,7 @@ pub fn add_show(
     number: usize,
     column: usize,
     width: usize,
-) -> Result<(), AllocError>
+) -> Result<(), OutOfMemory>
     ensures { OnOk result (text.new ≡ text.old ++ show source.now number column width) }
 {
     add_line(text, line(source, number), number, column, width)

@@ -5,7 +5,7 @@ ghost use Rattle.std.specs.List.{concat};
 ghost use Rattle.message_text.specs.Words.{head, note, place, plain, plain_byte, quoted, shortened};
 
 use crate::put::{add_number, add_parts};
-use std::alloc::AllocError;
+use out_of_memory::OutOfMemory;
 use syntax_tree::Text;
 
 /// The most bytes of a word that are put as they are.
@@ -23,7 +23,7 @@ fn plain_byte(byte: u8) -> u8
 }
 
 /// Puts bytes from outside: a blank for a tab or a CR, `?` for each other byte outside 32 to 126.
-pub fn add_plain(text: &mut Text, bytes: &[u8]) -> Result<(), AllocError>
+pub fn add_plain(text: &mut Text, bytes: &[u8]) -> Result<(), OutOfMemory>
     ensures { OnOk result (text.new ≡ text.old ++ plain bytes.now) }
 {
     for byte in bytes {
@@ -34,7 +34,7 @@ pub fn add_plain(text: &mut Text, bytes: &[u8]) -> Result<(), AllocError>
 }
 
 /// Puts a word from outside; of more than 40 bytes the first 37 and three dots.
-fn add_shortened(text: &mut Text, word: &[u8]) -> Result<(), AllocError>
+fn add_shortened(text: &mut Text, word: &[u8]) -> Result<(), OutOfMemory>
     ensures { OnOk result (text.new ≡ text.old ++ shortened word.now) }
 {
     if word.len() <= LONGEST {
@@ -46,7 +46,7 @@ fn add_shortened(text: &mut Text, word: &[u8]) -> Result<(), AllocError>
 }
 
 /// Puts a word from outside between backquotes; of more than 40 bytes the first 37 and three dots.
-pub fn add_quoted(text: &mut Text, word: &[u8]) -> Result<(), AllocError>
+pub fn add_quoted(text: &mut Text, word: &[u8]) -> Result<(), OutOfMemory>
     ensures { OnOk result (text.new ≡ text.old ++ quoted word.now) }
 {
     text.extend(b"`")?;
@@ -55,7 +55,7 @@ pub fn add_quoted(text: &mut Text, word: &[u8]) -> Result<(), AllocError>
 }
 
 /// Puts a note: a line of its own, of these parts.
-pub fn add_note(text: &mut Text, sentence: &[&[u8]]) -> Result<(), AllocError>
+pub fn add_note(text: &mut Text, sentence: &[&[u8]]) -> Result<(), OutOfMemory>
     ensures { OnOk result
         (text.new ≡ text.old ++ note (concat (map (λ part. part.now) sentence.now))) }
 {
@@ -65,7 +65,7 @@ pub fn add_note(text: &mut Text, sentence: &[&[u8]]) -> Result<(), AllocError>
 }
 
 /// Puts a place: the file's name as the call has it, the line and the column from 1.
-fn add_place(text: &mut Text, file: &[u8], line: usize, column: usize) -> Result<(), AllocError>
+fn add_place(text: &mut Text, file: &[u8], line: usize, column: usize) -> Result<(), OutOfMemory>
     ensures { OnOk result (text.new ≡ text.old ++ place file.now line column) }
 {
     add_plain(text, file)?;
@@ -84,7 +84,7 @@ pub fn add_head(
     column: usize,
     code: &[u8],
     sentence: &[&[u8]],
-) -> Result<(), AllocError>
+) -> Result<(), OutOfMemory>
     ensures { OnOk result (text.new ≡ text.old ++
         head file.now line column code.now (concat (map (λ part. part.now) sentence.now))) }
 {

@@ -9,8 +9,9 @@ ghost use Rattle.message_types.specs.Seen.{mismatch_of, spot_of};
 
 use crate::mismatch::{Mismatch, Spot};
 use message_text::{add_number, add_quoted};
+use out_of_memory::OutOfMemory;
 use static_declarations::Sort;
-use std::alloc::{AllocError, Global};
+use std::alloc::Global;
 use syntax::{keyword, keyword_spelling, sign, sign_spelling};
 use syntax_tree::{Op, Text};
 
@@ -45,7 +46,7 @@ fn sort_words(sort: Sort) -> &'static [u8]
 }
 
 /// Puts words, and a word from the program between backquotes.
-fn add_named(text: &mut Text, before: &[u8], name: &[u8]) -> Result<(), AllocError>
+fn add_named(text: &mut Text, before: &[u8], name: &[u8]) -> Result<(), OutOfMemory>
     ensures { OnOk result (text.new ≡ text.old ++ (before.now ++ quoted name.now)) }
 {
     text.extend(before)?;
@@ -53,7 +54,7 @@ fn add_named(text: &mut Text, before: &[u8], name: &[u8]) -> Result<(), AllocErr
 }
 
 /// Puts which argument of a routine it is.
-fn add_argument(text: &mut Text, number: usize, routine: &[u8]) -> Result<(), AllocError>
+fn add_argument(text: &mut Text, number: usize, routine: &[u8]) -> Result<(), OutOfMemory>
     ensures { OnOk result
         (text.new ≡ text.old ++ argument_words number routine.now) }
 {
@@ -63,7 +64,7 @@ fn add_argument(text: &mut Text, number: usize, routine: &[u8]) -> Result<(), Al
 }
 
 /// Puts where a value of a sort is wanted.
-fn add_spot(text: &mut Text, spot: Spot<'_>) -> Result<(), AllocError>
+fn add_spot(text: &mut Text, spot: Spot<'_>) -> Result<(), OutOfMemory>
     ensures { OnOk result (text.new ≡ text.old ++ spot_words (spot_of spot.entry)) }
 {
     match spot {
@@ -84,7 +85,7 @@ fn add_spot(text: &mut Text, spot: Spot<'_>) -> Result<(), AllocError>
 }
 
 /// Puts the sort that is wanted, and the one that is found.
-fn add_sorts(text: &mut Text, wanted: Sort, found: Sort) -> Result<(), AllocError>
+fn add_sorts(text: &mut Text, wanted: Sort, found: Sort) -> Result<(), OutOfMemory>
     ensures { OnOk result (text.new ≡ text.old ++
         wanted_found (words_of_sort wanted) (words_of_sort found)) }
 {
@@ -95,7 +96,7 @@ fn add_sorts(text: &mut Text, wanted: Sort, found: Sort) -> Result<(), AllocErro
 }
 
 /// Puts how many arguments are wanted, and how many are found.
-fn add_counts(text: &mut Text, wanted: usize, found: usize) -> Result<(), AllocError>
+fn add_counts(text: &mut Text, wanted: usize, found: usize) -> Result<(), OutOfMemory>
     ensures { OnOk result (text.new ≡ text.old ++ wanted_found (decimal wanted) (decimal found)) }
 {
     text.extend(b": wanted ")?;
@@ -105,7 +106,7 @@ fn add_counts(text: &mut Text, wanted: usize, found: usize) -> Result<(), AllocE
 }
 
 /// Puts an element of an array, as it is written.
-fn add_element(alloc: Global, text: &mut Text, array: &[u8]) -> Result<(), AllocError>
+fn add_element(alloc: Global, text: &mut Text, array: &[u8]) -> Result<(), OutOfMemory>
     ensures { OnOk result (text.new ≡ text.old ++ element_form array.now) }
 {
     let mut element = Text::from_bytes(alloc, array)?;
@@ -114,7 +115,7 @@ fn add_element(alloc: Global, text: &mut Text, array: &[u8]) -> Result<(), Alloc
 }
 
 /// Puts that an array stands without an index.
-fn add_whole(alloc: Global, text: &mut Text, array: &[u8]) -> Result<(), AllocError>
+fn add_whole(alloc: Global, text: &mut Text, array: &[u8]) -> Result<(), OutOfMemory>
     ensures { OnOk result (text.new ≡ text.old ++ without_index array.now) }
 {
     add_quoted(text, array)?;
@@ -127,7 +128,7 @@ pub(crate) fn add_sentence(
     alloc: Global,
     text: &mut Text,
     mismatch: Mismatch<'_>,
-) -> Result<(), AllocError>
+) -> Result<(), OutOfMemory>
     ensures { OnOk result (text.new ≡ text.old ++ sentence (mismatch_of mismatch.entry)) }
 {
     match mismatch {

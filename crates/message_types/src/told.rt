@@ -6,9 +6,10 @@ ghost use Rattle.message_types.specs.Told.{type_sentence};
 
 use crate::sentences::add_sentence;
 use crate::walk::first_mismatch;
+use out_of_memory::OutOfMemory;
 use static_declarations::Declarations;
 use static_rule::rule;
-use std::alloc::{AllocError, Global};
+use std::alloc::Global;
 use syntax_tree::{Place, Text};
 
 /// The sentence that tells what does not agree in the first statement or result at this place for
@@ -20,7 +21,7 @@ pub fn type_sentence(
     declarations: &Declarations<'_>,
     number: u8,
     place: Place,
-) -> Result<Option<Text>, AllocError>
+) -> Result<Option<Text>, OutOfMemory>
     ensures { IfOk result (λ told. told ≡ type_sentence (placed declarations.now) number place) }
 {
     if number != rule::WRONG_TYPE {

@@ -10,7 +10,8 @@ ghost use Rattle.message_unexpected.specs.Parts.{open_parts, openers, part_note,
 use crate::tokens::add_token;
 use message_expected::{Kind, bytes_of, has, is_same, kind_of, of_token};
 use message_text::add_note;
-use std::alloc::{AllocError, Global};
+use out_of_memory::OutOfMemory;
+use std::alloc::Global;
 use syntax::{Token, keyword, sign};
 use syntax_tree::Text;
 
@@ -149,7 +150,7 @@ fn is_ender(kind: Kind) -> bool
 
 /// Notes what the token opens or closes.
 #[tactic(auto, unfolding(crate::specs::Parts::turn))]
-fn turn(opened: &mut Vec<Token>, is_behind_end: bool, token: Token) -> Result<(), AllocError>
+fn turn(opened: &mut Vec<Token>, is_behind_end: bool, token: Token) -> Result<(), OutOfMemory>
     ensures { OnOk result (opened.new.items ≡ turn is_behind_end token opened.old.items) }
 {
     let kind = of_token(token);
@@ -164,7 +165,7 @@ fn turn(opened: &mut Vec<Token>, is_behind_end: bool, token: Token) -> Result<()
 }
 
 /// The tokens that opened what is open behind these, in their order.
-fn open_parts(alloc: Global, before: &[Token]) -> Result<Vec<Token>, AllocError>
+fn open_parts(alloc: Global, before: &[Token]) -> Result<Vec<Token>, OutOfMemory>
     ensures { IfOk result (λ opened. opened.items ≡ open_parts before.now) }
 {
     let mut opened = Vec::new(alloc);
@@ -178,7 +179,7 @@ fn open_parts(alloc: Global, before: &[Token]) -> Result<Vec<Token>, AllocError>
 }
 
 /// The token that opened the last part that is open behind these; none where none is open.
-pub(crate) fn last_open(alloc: Global, before: &[Token]) -> Result<Option<Token>, AllocError>
+pub(crate) fn last_open(alloc: Global, before: &[Token]) -> Result<Option<Token>, OutOfMemory>
     ensures { IfOk result (λ opener. opener ≡ last (open_parts before.now)) }
 {
     let opened = open_parts(alloc, before)?;
@@ -203,7 +204,7 @@ fn next(before: &[Token], opener: Token) -> Option<Token>
 }
 
 /// Puts the name behind the word that opens a part.
-fn add_name(message: &mut Text, text: &[u8], token: Option<Token>) -> Result<(), AllocError>
+fn add_name(message: &mut Text, text: &[u8], token: Option<Token>) -> Result<(), OutOfMemory>
     ensures { OnOk result (message.new ≡ message.old ++ name_behind text.now token) }
 {
     match token {
@@ -222,7 +223,7 @@ fn add_closer(
     text: &[u8],
     before: &[Token],
     opener: Token,
-) -> Result<(), AllocError>
+) -> Result<(), OutOfMemory>
     ensures { OnOk result (message.new ≡ message.old ++ closer text.now before.now opener) }
 {
     let kind = of_token(opener);
@@ -248,7 +249,7 @@ fn add_part_sentence(
     text: &[u8],
     before: &[Token],
     opener: Token,
-) -> Result<(), AllocError>
+) -> Result<(), OutOfMemory>
     ensures { OnOk result
         (message.new ≡ message.old ++ part_sentence text.now before.now opener) }
 {
@@ -264,7 +265,7 @@ fn add_part(
     text: &[u8],
     before: &[Token],
     opener: Token,
-) -> Result<(), AllocError>
+) -> Result<(), OutOfMemory>
     ensures { OnOk result (message.new ≡ message.old ++ part_note text.now before.now opener) }
 {
     let mut told = Text::new(alloc);
@@ -282,7 +283,7 @@ fn add_part_note(
     word: Kind,
     found: &[Kind],
     opener: Option<Token>,
-) -> Result<(), AllocError>
+) -> Result<(), OutOfMemory>
     ensures { OnOk result (message.new ≡
         message.old ++ note_of_part text.now before.now word found.now opener) }
 {
@@ -308,7 +309,7 @@ pub fn add_open_note(
     before: &[Token],
     word: Option<Token>,
     found: &[Kind],
-) -> Result<(), AllocError>
+) -> Result<(), OutOfMemory>
     ensures { OnOk result (message.new ≡
         message.old ++ open_note text.now before.now (kind_of_word word) found.now) }
 {

@@ -13,7 +13,8 @@ use crate::foreign::word_note;
 use crate::tokens::{first_on, line_of, word_of};
 use message_expected::{KEYWORDS, Kind, has, is_same, kind_of, spelling};
 use message_text::{add_number, nearest};
-use std::alloc::{AllocError, Global};
+use out_of_memory::OutOfMemory;
+use std::alloc::Global;
 use syntax::{Token, keyword, keyword_spelling};
 use syntax_tree::Text;
 
@@ -58,7 +59,7 @@ fn is_cut_off(text: &[u8], line: u32, found: &[Kind], before: Token) -> bool
 }
 
 /// Puts that a comment cut off the rest of a line.
-fn add_cut_off(message: &mut Text, line: u32) -> Result<(), AllocError>
+fn add_cut_off(message: &mut Text, line: u32) -> Result<(), OutOfMemory>
     ensures { OnOk result (message.new ≡ message.old ++ cut_off line) }
 {
     message.extend(b"`%` made the rest of line ")?;
@@ -74,7 +75,7 @@ pub(crate) fn add_comment_remark(
     line: u32,
     found: &[Kind],
     before: Option<Token>,
-) -> Result<(), AllocError>
+) -> Result<(), OutOfMemory>
     ensures { OnOk result
         (message.new ≡ message.old ++ comment_remark text.now line found.now before) }
 {
@@ -100,7 +101,7 @@ fn is_lettered(kind: Kind) -> bool
 }
 
 /// Puts the word of the kind to the others, if it is one of letters.
-fn add_candidate(words: &mut Vec<&'static [u8]>, kind: Kind) -> Result<(), AllocError>
+fn add_candidate(words: &mut Vec<&'static [u8]>, kind: Kind) -> Result<(), OutOfMemory>
     ensures { OnOk result (map (λ word. word.now) words.new.items ≡
         map (λ word. word.now) words.old.items ++ candidates (kind ∷ [])) }
 {
@@ -111,7 +112,7 @@ fn add_candidate(words: &mut Vec<&'static [u8]>, kind: Kind) -> Result<(), Alloc
 }
 
 /// The words of letters that are expected.
-fn candidates(alloc: Global, found: &[Kind]) -> Result<Vec<&'static [u8]>, AllocError>
+fn candidates(alloc: Global, found: &[Kind]) -> Result<Vec<&'static [u8]>, OutOfMemory>
     ensures { IfOk result (λ words. map (λ word. word.now) words.items ≡ candidates found.now) }
 {
     let mut words = Vec::new(alloc);
@@ -122,7 +123,7 @@ fn candidates(alloc: Global, found: &[Kind]) -> Result<Vec<&'static [u8]>, Alloc
 }
 
 /// Puts the nearest of the words that are expected.
-fn add_near(message: &mut Text, name: Option<&[u8]>) -> Result<(), AllocError>
+fn add_near(message: &mut Text, name: Option<&[u8]>) -> Result<(), OutOfMemory>
     ensures { OnOk result
         (message.new ≡ message.old ++ near (option_map (λ it. it.now) name.entry)) }
 {
@@ -144,7 +145,7 @@ pub(crate) fn add_nearest_remark(
     text: &[u8],
     found: &[Kind],
     word: Option<Token>,
-) -> Result<(), AllocError>
+) -> Result<(), OutOfMemory>
     ensures { OnOk result
         (message.new ≡ message.old ++ nearest_remark text.now found.now word) }
 {
@@ -178,7 +179,7 @@ fn in_other_case(word: &[u8]) -> Option<&'static [u8]>
 }
 
 /// Puts how the language writes a keyword.
-fn add_in_its_case(message: &mut Text, keyword: Option<&[u8]>) -> Result<(), AllocError>
+fn add_in_its_case(message: &mut Text, keyword: Option<&[u8]>) -> Result<(), OutOfMemory>
     ensures { OnOk result
         (message.new ≡ message.old ++ in_its_case (option_map (λ it. it.now) keyword.entry)) }
 {
@@ -198,7 +199,7 @@ pub(crate) fn add_case_remark(
     message: &mut Text,
     text: &[u8],
     before: Option<Token>,
-) -> Result<(), AllocError>
+) -> Result<(), OutOfMemory>
     ensures { OnOk result (message.new ≡ message.old ++ case_remark text.now before) }
 {
     if !is_same(Kind::Name, kind_of(before)) {

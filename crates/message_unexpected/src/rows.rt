@@ -8,7 +8,7 @@ use crate::applying::applies;
 use crate::tokens::word_of;
 use message_expected::Kind;
 use message_text::add_quoted;
-use std::alloc::AllocError;
+use out_of_memory::OutOfMemory;
 use syntax::Token;
 use syntax_tree::Text;
 
@@ -114,7 +114,7 @@ fn add_first_word(
     word: Option<Token>,
     before: Option<Token>,
     row: Row,
-) -> Result<(), AllocError>
+) -> Result<(), OutOfMemory>
     ensures { OnOk result (message.new ≡ message.old ++ first_word text.now word before row) }
 {
     match row {
@@ -160,7 +160,7 @@ fn add_said(
     word: Option<Token>,
     before: Option<Token>,
     row: Option<Row>,
-) -> Result<(), AllocError>
+) -> Result<(), OutOfMemory>
     ensures { OnOk result (message.new ≡ message.old ++ said text.now word before row) }
 {
     match row {
@@ -181,7 +181,7 @@ pub(crate) fn add_row_remark(
     before: Option<Token>,
     found: &[Kind],
     facts: Facts,
-) -> Result<(), AllocError>
+) -> Result<(), OutOfMemory>
     ensures { OnOk result (message.new ≡
         message.old ++ row_remark text.now word before found.now facts) }
 {

@@ -13,7 +13,8 @@ use crate::rows::{Facts, add_row_remark};
 use crate::tokens::line_of;
 use message_expected::{Kind, is_same, kind_of, of_token};
 use message_text::add_note;
-use std::alloc::{AllocError, Global};
+use out_of_memory::OutOfMemory;
+use std::alloc::Global;
 use syntax::{Token, keyword, sign};
 use syntax_tree::Text;
 
@@ -135,7 +136,7 @@ fn facts_at(
 
 /// Puts what the words at the place say.
 #[tactic(auto, unfolding(crate::specs::Remarks::place_remark))]
-fn add_place_remark(alloc: Global, said: &mut Text, sight: &Sight) -> Result<(), AllocError>
+fn add_place_remark(alloc: Global, said: &mut Text, sight: &Sight) -> Result<(), OutOfMemory>
     requires { said.old ≡ [] }
     ensures { OnOk result (said.new ≡
         place_remark sight.now.text.now sight.now.line sight.now.before.now sight.now.word
@@ -153,7 +154,7 @@ fn add_place_remark(alloc: Global, said: &mut Text, sight: &Sight) -> Result<(),
 
 /// Puts what is said of a keyword in another case, else what the words say.
 #[tactic(auto, unfolding(crate::specs::Remarks::later_remark))]
-fn add_later_remark(alloc: Global, said: &mut Text, sight: &Sight) -> Result<(), AllocError>
+fn add_later_remark(alloc: Global, said: &mut Text, sight: &Sight) -> Result<(), OutOfMemory>
     requires { said.old ≡ [] }
     ensures { OnOk result (said.new ≡
         later_remark sight.now.text.now sight.now.line sight.now.before.now sight.now.word
@@ -168,7 +169,7 @@ fn add_later_remark(alloc: Global, said: &mut Text, sight: &Sight) -> Result<(),
 
 /// Puts what is said of a name for a word, else what comes behind.
 #[tactic(auto, unfolding(crate::specs::Remarks::word_remark))]
-fn add_word_remark(alloc: Global, said: &mut Text, sight: &Sight) -> Result<(), AllocError>
+fn add_word_remark(alloc: Global, said: &mut Text, sight: &Sight) -> Result<(), OutOfMemory>
     requires { said.old ≡ [] }
     ensures { OnOk result (said.new ≡
         word_remark sight.now.text.now sight.now.line sight.now.before.now sight.now.word
@@ -183,7 +184,7 @@ fn add_word_remark(alloc: Global, said: &mut Text, sight: &Sight) -> Result<(), 
 
 /// Puts the first of what is said of the place.
 #[tactic(auto, unfolding(crate::specs::Remarks::remark))]
-fn add_remark(alloc: Global, said: &mut Text, sight: &Sight) -> Result<(), AllocError>
+fn add_remark(alloc: Global, said: &mut Text, sight: &Sight) -> Result<(), OutOfMemory>
     requires { said.old ≡ [] }
     ensures { OnOk result (said.new ≡
         remark sight.now.text.now sight.now.line sight.now.before.now sight.now.word
@@ -198,7 +199,7 @@ fn add_remark(alloc: Global, said: &mut Text, sight: &Sight) -> Result<(), Alloc
 }
 
 /// What is said of the place.
-fn remark(alloc: Global, sight: &Sight) -> Result<Text, AllocError>
+fn remark(alloc: Global, sight: &Sight) -> Result<Text, OutOfMemory>
     ensures { IfOk result (λ said. said ≡
         remark sight.now.text.now sight.now.line sight.now.before.now sight.now.word
         sight.now.behind sight.now.found.now) }
@@ -209,7 +210,7 @@ fn remark(alloc: Global, sight: &Sight) -> Result<Text, AllocError>
 }
 
 /// Puts the note of what is said, if there is something.
-fn add_note_of(message: &mut Text, said: &[u8]) -> Result<(), AllocError>
+fn add_note_of(message: &mut Text, said: &[u8]) -> Result<(), OutOfMemory>
     ensures { OnOk result (message.new ≡ message.old ++ note_of said.now) }
 {
     if said.is_empty() {
@@ -224,7 +225,7 @@ pub(crate) fn add_remark_note(
     alloc: Global,
     message: &mut Text,
     sight: &Sight,
-) -> Result<(), AllocError>
+) -> Result<(), OutOfMemory>
     ensures { OnOk result (message.new ≡ message.old ++
         remark_note sight.now.text.now sight.now.line sight.now.before.now sight.now.word
         sight.now.behind sight.now.found.now) }

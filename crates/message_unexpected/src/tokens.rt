@@ -8,12 +8,12 @@ ghost use Rattle.message_unexpected.specs.Rows.{word_of};
 
 use message_expected::bytes_of;
 use message_text::add_show;
-use std::alloc::AllocError;
+use out_of_memory::OutOfMemory;
 use syntax::Token;
 use syntax_tree::Text;
 
 /// Puts the line of the token, with carets below it.
-pub(crate) fn add_token(message: &mut Text, text: &[u8], token: Token) -> Result<(), AllocError>
+pub(crate) fn add_token(message: &mut Text, text: &[u8], token: Token) -> Result<(), OutOfMemory>
     ensures { OnOk result (message.new ≡ message.old ++ show_token text.now token) }
 {
     add_show(
@@ -31,7 +31,7 @@ pub(crate) fn add_before(
     text: &[u8],
     line: u32,
     before: &[Token],
-) -> Result<(), AllocError>
+) -> Result<(), OutOfMemory>
     ensures { OnOk result
         (message.new ≡ message.old ++ show_before text.now line (last before.now)) }
 {

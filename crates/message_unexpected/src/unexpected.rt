@@ -1,6 +1,7 @@
 //! The notes at a place where a text goes on with no word of the grammar.
 
 ghost use Rattle.std.specs.Prelude.{◌≡◌, ◌≢◌, ◌++◌, List, OnOk, slice_get};
+ghost use Rattle.out_of_memory.specs.Refused.{refused};
 ghost use Rattle.syntax.specs.declared.token.Token.{Token as SpecToken};
 ghost use Rattle.syntax.specs.Tokens.{tokens as are_tokens};
 ghost use Rattle.message_expected.specs.Expected.{IsExpectedSet, front};
@@ -11,7 +12,8 @@ use crate::parts::add_open_note;
 use crate::sight::{Sight, add_remark_note};
 use crate::tokens::add_before;
 use message_expected::{Kind, add_expected_note, expected, tokens_before};
-use std::alloc::{AllocError, Global};
+use out_of_memory::OutOfMemory;
+use std::alloc::Global;
 use syntax::{LexFault, Token, lex};
 use syntax_tree::{Place, Text};
 
@@ -23,11 +25,11 @@ fn token_at(all: &[Token], at: usize) -> Option<Token>
 }
 
 /// That nothing is put for a text of this fault, which has no tokens.
-fn put_nothing(fault: LexFault) -> Result<(), AllocError>
-    ensures { OnOk result (fault ≢ LexFault.Memory) }
+fn put_nothing(fault: LexFault) -> Result<(), OutOfMemory>
+    ensures { OnOk result (fault ≢ LexFault.Memory refused) }
 {
     match fault {
-        LexFault::Memory => Err(AllocError),
+        LexFault::Memory(error) => Err(error),
         _ => Ok(()),
     }
 }
@@ -41,7 +43,7 @@ fn add_notes(
     all: &[Token],
     first: &[Token],
     found: &[Kind],
-) -> Result<(), AllocError>
+) -> Result<(), OutOfMemory>
     ensures { OnOk result
         (message.new ≡ message.old ++ notes_behind text.now line all.now first.now found.now) }
 {
@@ -69,7 +71,7 @@ fn add_notes_behind(
     line: u32,
     all: &[Token],
     first: &[Token],
-) -> Result<(), AllocError>
+) -> Result<(), OutOfMemory>
     ensures { OnOk result ((found : List SpecKind) × IsExpectedSet (front text.now first.now) found
         × (message.new ≡ message.old ++ notes_behind text.now line all.now first.now found)) }
 {
@@ -87,7 +89,7 @@ pub fn add_unexpected_notes(
     message: &mut Text,
     text: &[u8],
     place: Place,
-) -> Result<(), AllocError>
+) -> Result<(), OutOfMemory>
     ensures { OnOk result ((toks : List SpecToken) → are_tokens text.now toks →
         Notes text.now toks place message.old message.new) }
 {

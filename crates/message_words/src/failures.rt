@@ -12,11 +12,12 @@ ghost use Rattle.message_words.specs.Failure.{cannot_put, cannot_read, cannot_wr
 ghost use Rattle.message_words.specs.Failure.{out_of_memory};
 
 use message_text::add_plain;
-use std::alloc::{AllocError, Global};
+use out_of_memory::OutOfMemory;
+use std::alloc::Global;
 use syntax_tree::Text;
 
 /// Tells that a file of this name cannot be read.
-pub fn cannot_read(alloc: Global, name: &str) -> Result<Text, AllocError>
+pub fn cannot_read(alloc: Global, name: &str) -> Result<Text, OutOfMemory>
     ensures { IfOk result (λ text. text ≡ cannot_read name.now) }
 {
     let mut text = Text::from_bytes(alloc, b"rte: cannot read ")?;
@@ -26,7 +27,7 @@ pub fn cannot_read(alloc: Global, name: &str) -> Result<Text, AllocError>
 }
 
 /// Tells that a file of this name cannot be written.
-pub fn cannot_write(alloc: Global, name: &str) -> Result<Text, AllocError>
+pub fn cannot_write(alloc: Global, name: &str) -> Result<Text, OutOfMemory>
     ensures { IfOk result (λ text. text ≡ cannot_write name.now) }
 {
     let mut text = Text::from_bytes(alloc, b"rte: cannot write ")?;

@@ -7,14 +7,14 @@ ghost use Rattle.message_words.specs.Seen.{row_of};
 
 use crate::rows::Row;
 use message_text::{add_parts, add_repeated};
-use std::alloc::AllocError;
+use out_of_memory::OutOfMemory;
 use syntax_tree::Text;
 
 /// The bytes to which what a row takes is filled up.
 const WIDTH: usize = 15;
 
 /// Puts what a row takes, filled up with blanks to 15 bytes.
-fn add_form(text: &mut Text, row: &Row) -> Result<(), AllocError>
+fn add_form(text: &mut Text, row: &Row) -> Result<(), OutOfMemory>
     ensures { OnOk result (text.new ≡ text.old ++ form (row_of row.now)) }
 {
     let size = row
@@ -27,7 +27,7 @@ fn add_form(text: &mut Text, row: &Row) -> Result<(), AllocError>
 }
 
 /// Puts the line of a row.
-fn add_row(text: &mut Text, row: &Row) -> Result<(), AllocError>
+fn add_row(text: &mut Text, row: &Row) -> Result<(), OutOfMemory>
     ensures { OnOk result (text.new ≡ text.old ++ row_line (row_of row.now)) }
 {
     text.extend(b"  rte ")?;
@@ -36,7 +36,7 @@ fn add_row(text: &mut Text, row: &Row) -> Result<(), AllocError>
 }
 
 /// Puts the lines of these rows.
-fn add_rows(text: &mut Text, rows: &[Row]) -> Result<(), AllocError>
+fn add_rows(text: &mut Text, rows: &[Row]) -> Result<(), OutOfMemory>
     ensures { OnOk result (text.new ≡ text.old ++ flat_map row_line (map row_of rows.now)) }
 {
     for row in rows {
@@ -54,7 +54,7 @@ fn has_sign(rows: &[Row], sign: &str) -> bool
 }
 
 /// Puts this, if it is told.
-fn add_if(text: &mut Text, is_told: bool, told: &str) -> Result<(), AllocError>
+fn add_if(text: &mut Text, is_told: bool, told: &str) -> Result<(), OutOfMemory>
     ensures { OnOk result (text.new ≡ text.old ++ (if is_told then told.now else [])) }
 {
     if is_told {
@@ -64,7 +64,7 @@ fn add_if(text: &mut Text, is_told: bool, told: &str) -> Result<(), AllocError>
 }
 
 /// Puts what a sign stands for, where one of the rows has it.
-fn add_explained(text: &mut Text, rows: &[Row], sign: &str, told: &str) -> Result<(), AllocError>
+fn add_explained(text: &mut Text, rows: &[Row], sign: &str, told: &str) -> Result<(), OutOfMemory>
     ensures { OnOk result
         (text.new ≡ text.old ++ explained (map row_of rows.now) sign.now told.now) }
 {
@@ -72,7 +72,7 @@ fn add_explained(text: &mut Text, rows: &[Row], sign: &str, told: &str) -> Resul
 }
 
 /// Puts these rows, then what their signs stand for.
-pub(crate) fn add_table(text: &mut Text, rows: &[Row]) -> Result<(), AllocError>
+pub(crate) fn add_table(text: &mut Text, rows: &[Row]) -> Result<(), OutOfMemory>
     ensures { OnOk result (text.new ≡ text.old ++ table (map row_of rows.now)) }
 {
     add_rows(text, rows)?;

@@ -11,7 +11,8 @@ ghost use Rattle.message_words.specs.Seen.{row_of};
 use crate::rows::{Row, rows};
 use crate::tables::add_table;
 use message_text::{add_hint, add_quoted, nearest};
-use std::alloc::{AllocError, Global};
+use out_of_memory::OutOfMemory;
+use std::alloc::Global;
 use syntax_tree::Text;
 
 /// Whether a word is not empty, and begins with no dash.
@@ -45,7 +46,7 @@ fn first_no_word(words: &[String]) -> Option<&[u8]>
 }
 
 /// Puts what is wrong with the words of a command.
-fn add_wrong(text: &mut Text, word: &[u8], words: &[String]) -> Result<(), AllocError>
+fn add_wrong(text: &mut Text, word: &[u8], words: &[String]) -> Result<(), OutOfMemory>
     ensures { OnOk result (text.new ≡ text.old ++
         wrong word.now (find (λ word. not (is_word word)) (map string_bytes words.now))) }
 {
@@ -64,7 +65,7 @@ fn add_wrong(text: &mut Text, word: &[u8], words: &[String]) -> Result<(), Alloc
 }
 
 /// The commands of these rows.
-fn commands(alloc: Global, rows: &[Row]) -> Result<Vec<&'static [u8]>, AllocError>
+fn commands(alloc: Global, rows: &[Row]) -> Result<Vec<&'static [u8]>, OutOfMemory>
     ensures { IfOk result (λ all.
         map (λ command. command.now) all.items ≡ map (λ row. row.command) (map row_of rows.now)) }
 {
@@ -76,7 +77,7 @@ fn commands(alloc: Global, rows: &[Row]) -> Result<Vec<&'static [u8]>, AllocErro
 }
 
 /// The nearest command, if one is near.
-fn nearest_command(alloc: Global, word: &[u8]) -> Result<Option<&'static [u8]>, AllocError>
+fn nearest_command(alloc: Global, word: &[u8]) -> Result<Option<&'static [u8]>, OutOfMemory>
     ensures { IfOk result (λ found. option_map (λ command. command.now) found ≡
         nearest word.now (map (λ row. row.command) all_rows)) }
 {
@@ -85,7 +86,7 @@ fn nearest_command(alloc: Global, word: &[u8]) -> Result<Option<&'static [u8]>, 
 }
 
 /// Puts that a word is no command, and the nearest one.
-fn add_no_command(text: &mut Text, word: &[u8], near: Option<&[u8]>) -> Result<(), AllocError>
+fn add_no_command(text: &mut Text, word: &[u8], near: Option<&[u8]>) -> Result<(), OutOfMemory>
     ensures { OnOk result (text.new ≡ text.old ++
         no_command word.now (option_map (λ command. command.now) near.entry)) }
 {
@@ -104,7 +105,7 @@ fn is_help(word: &[u8]) -> bool
 }
 
 /// Puts what is told of a first word that is no command.
-fn add_unknown(alloc: Global, text: &mut Text, word: &[u8]) -> Result<(), AllocError>
+fn add_unknown(alloc: Global, text: &mut Text, word: &[u8]) -> Result<(), OutOfMemory>
     ensures { OnOk result (text.new ≡ text.old ++ unknown word.now) }
 {
     if is_help(word) {
@@ -143,14 +144,19 @@ fn command_row(word: &[u8]) -> Option<&'static Row>
 }
 
 /// Puts the whole table.
-fn add_all(text: &mut Text) -> Result<(), AllocError>
+fn add_all(text: &mut Text) -> Result<(), OutOfMemory>
     ensures { OnOk result (text.new ≡ text.old ++ table all_rows) }
 {
     add_table(text, rows())
 }
 
 /// Puts what is told of these words, whose first is this.
-fn add_told(alloc: Global, text: &mut Text, words: &[String], word: &[u8]) -> Result<(), AllocError>
+fn add_told(
+    alloc: Global,
+    text: &mut Text,
+    words: &[String],
+    word: &[u8],
+) -> Result<(), OutOfMemory>
     ensures { OnOk result (text.new ≡ text.old ++ told (map string_bytes words.now) word.now
         (find (λ row. bytes_eq row.command word.now) all_rows)) }
 {
@@ -167,7 +173,7 @@ fn add_told(alloc: Global, text: &mut Text, words: &[String], word: &[u8]) -> Re
 }
 
 /// Puts what is told of these words.
-fn add_usage(alloc: Global, text: &mut Text, words: &[String]) -> Result<(), AllocError>
+fn add_usage(alloc: Global, text: &mut Text, words: &[String]) -> Result<(), OutOfMemory>
     ensures { OnOk result (text.new ≡ text.old ++ told_of (map string_bytes words.now)) }
 {
     match words {
@@ -182,7 +188,7 @@ fn add_usage(alloc: Global, text: &mut Text, words: &[String]) -> Result<(), All
 /// The message for words that are no call: what is wrong with them; the row of their command, or
 /// all rows; and what the signs in these rows stand for.
 #[tactic(auto, unfolding(crate::specs::Usage::usage))]
-pub fn usage(alloc: Global, words: &[String]) -> Result<Text, AllocError>
+pub fn usage(alloc: Global, words: &[String]) -> Result<Text, OutOfMemory>
     ensures { IfOk result (λ text. text ≡ usage (map string_bytes words.now)) }
 {
     let mut text = Text::new(alloc);

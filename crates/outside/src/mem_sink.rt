@@ -6,7 +6,8 @@ ghost use Rattle.outside.specs.Calls.{next, next_fails};
 ghost use Rattle.outside.specs.Outside.{next_count};
 
 use crate::outside::{Sink, SinkFailed};
-use std::alloc::{AllocError, Global};
+use out_of_memory::OutOfMemory;
+use std::alloc::Global;
 
 /// Takes bytes up to its room. Puts are counted from 1, and one whose number stands in the list
 /// fails.
@@ -26,7 +27,7 @@ impl MemorySink {
 
     /// Nothing taken yet. It reserves its room once, and the list has the numbers of the puts that
     /// fail.
-    pub fn new(alloc: Global, room: usize, bad_puts: Vec<u64>) -> Result<MemorySink, AllocError>
+    pub fn new(alloc: Global, room: usize, bad_puts: Vec<u64>) -> Result<MemorySink, OutOfMemory>
         ensures bytes { IfOk result (λ sink. bytes_of sink ≡ []) }
         ensures room { IfOk result (λ sink. room_of sink ≡ room) }
         ensures puts { IfOk result (λ sink. puts_of sink ≡

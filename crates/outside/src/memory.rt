@@ -2,13 +2,15 @@
 
 ghost use Rattle.std.specs.Prelude.{◌≡◌, ◌≢◌, ℕ, List, [], Some, None, OnOk, OnErr};
 ghost use Rattle.std.specs.Option.{option_copied};
+ghost use Rattle.out_of_memory.specs.Refused.{refused};
 ghost use Rattle.outside.specs.Calls.{HasFailed, ReadAnswers, ReadsAs, WriteAnswers, next, next_fails, read_failed, write_failed};
 ghost use Rattle.outside.specs.Kept.{count_of, names_in};
 ghost use Rattle.outside.specs.Memory.{held_of, names_read, names_written, read_faults_of, write_faults_of, reads_of, state_of, writes_of};
 ghost use Rattle.outside.specs.Outside.{AllStay, CountsFailure, IsAdded, IsAddedAtMost, NoneFell, OneMore, OthersStay, Rose, SameCounts};
 
 use crate::outside::{Files, ReadFault, WriteFault};
-use std::alloc::{AllocError, Global};
+use out_of_memory::OutOfMemory;
+use std::alloc::Global;
 use std::collections::BTreeMap;
 
 /// Named files in memory. Reads and writes are counted apart, from 1, and one whose number stands
@@ -29,7 +31,7 @@ pub struct MemoryFiles {
 }
 
 /// Keeps the name of a call.
-pub(crate) fn keep(alloc: Global, names: &mut Vec<String>, name: &str) -> Result<(), AllocError>
+pub(crate) fn keep(alloc: Global, names: &mut Vec<String>, name: &str) -> Result<(), OutOfMemory>
     ensures kept { OnOk result (OneMore (count_of names.old.items)
         (count_of names.new.items) name.now) }
     ensures err { OnErr result (SameCounts (count_of names.old.items) (count_of names.new.items)) }
@@ -53,7 +55,7 @@ fn refuse(alloc: Global, names: &mut Vec<String>, name: &str) -> Result<Vec<u8>,
 {
     match keep(alloc, names, name) {
         Ok(()) => Err(ReadFault::Failed),
-        Err(_) => Err(ReadFault::Memory),
+        Err(error) => Err(ReadFault::Memory(error)),
     }
 }
 
@@ -64,7 +66,7 @@ pub(crate) fn copy_within(alloc: Global, bytes: &[u8], most: usize) -> Result<Ve
     if bytes.len() > most {
         return Err(ReadFault::Long);
     }
-    Vec::from_slice(alloc, bytes).map_err(|_| ReadFault::Memory)
+    Vec::from_slice(alloc, bytes).map_err(|error| ReadFault::Memory(OutOfMemory::from(error)))
 }
 
 impl MemoryFiles {
@@ -95,7 +97,7 @@ impl MemoryFiles {
 
     /// Makes the name hold the bytes, which counts as no write. A refusal leaves all files as they
     /// were.
-    pub fn place(&mut self, name: &str, bytes: &[u8]) -> Result<(), AllocError>
+    pub fn place(&mut self, name: &str, bytes: &[u8]) -> Result<(), OutOfMemory>
         ensures placed { OnOk result (held_of self.new name.now ≡ Some bytes.now) }
         ensures others { OthersStay (held_of self.old) (held_of self.new) name.now }
         ensures err { OnErr result (AllStay (held_of self.old) (held_of self.new)) }
@@ -142,14 +144,14 @@ impl Files for MemoryFiles {
             Rose (read_faults_of self.old name.now) (read_faults_of self.new name.now) }
         ensures files { AllStay (held_of self.old) (held_of self.new) }
         ensures read_counts { NoneFell (read_faults_of self.old) (read_faults_of self.new) }
-        ensures tried { result ≢ Err ReadFault.Memory →
+        ensures tried { result ≢ Err (ReadFault.Memory refused) →
             IsAdded (names_read self.old) (names_read self.new) name.now }
         ensures once { IsAddedAtMost (names_read self.old) (names_read self.new) name.now }
         ensures names_written { names_written self.new ≡ names_written self.old }
     {
         self.reads = self.reads.saturating_add(1);
-        if keep(self.alloc, &mut self.names_read, name).is_err() {
-            return Err(ReadFault::Memory);
+        if let Err(error) = keep(self.alloc, &mut self.names_read, name) {
+            return Err(ReadFault::Memory(error));
         }
         if self.bad_reads.contains(&self.reads) {
             return refuse(self.alloc, &mut self.failed_reads, name);
@@ -173,24 +175,24 @@ impl Files for MemoryFiles {
             Rose (write_faults_of self.old name.now) (write_faults_of self.new name.now) }
         ensures others { OthersStay (held_of self.old) (held_of self.new) name.now }
         ensures write_counts { NoneFell (write_faults_of self.old) (write_faults_of self.new) }
-        ensures tried { result ≢ Err WriteFault.Memory →
+        ensures tried { result ≢ Err (WriteFault.Memory refused) →
             IsAdded (names_written self.old) (names_written self.new) name.now }
         ensures once { IsAddedAtMost (names_written self.old) (names_written self.new) name.now }
         ensures names_read { names_read self.new ≡ names_read self.old }
     {
         self.writes = self.writes.saturating_add(1);
-        if keep(self.alloc, &mut self.names_written, name).is_err() {
-            return Err(WriteFault::Memory);
+        if let Err(error) = keep(self.alloc, &mut self.names_written, name) {
+            return Err(WriteFault::Memory(error));
         }
         if self.bad_writes.contains(&self.writes) {
             return match keep(self.alloc, &mut self.failed_writes, name) {
                 Ok(()) => Err(WriteFault::Failed),
-                Err(_) => Err(WriteFault::Memory),
+                Err(error) => Err(WriteFault::Memory(error)),
             };
         }
         match self.place(name, bytes) {
             Ok(()) => Ok(()),
-            Err(_) => Err(WriteFault::Memory),
+            Err(error) => Err(WriteFault::Memory(error)),
         }
     }
 }

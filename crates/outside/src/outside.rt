@@ -2,8 +2,10 @@
 
 ghost use Rattle.std.specs.Prelude.{◌≡◌, ◌≢◌, ◌≤◌, ◌<◌, ◌⊎◌, ℕ, Bool, List, Option, Some, length, take, vec_len, IfOk, IfErr, IsSomeAnd, OnOk, OnErr};
 ghost use Rattle.std.specs.Bool.{OnTrue};
+ghost use Rattle.out_of_memory.specs.Refused.{refused};
 ghost use Rattle.outside.specs.Outside.{FilesState, SinkState, Rose, NoneFell, AllStay, OthersStay, Appends, AppendsFront, IsAdded, IsAddedAtMost};
 
+use out_of_memory::OutOfMemory;
 use thiserror::Error;
 
 /// Why a file was not read.
@@ -16,7 +18,7 @@ pub enum ReadFault {
     #[error("the file is too long")]
     Long,
     #[error("out of memory")]
-    Memory,
+    Memory(OutOfMemory),
 }
 
 /// Why a file was not written.
@@ -26,7 +28,7 @@ pub enum WriteFault {
     #[error("the file could not be written")]
     Failed,
     #[error("out of memory")]
-    Memory,
+    Memory(OutOfMemory),
 }
 
 /// A piece was not taken whole.
@@ -62,14 +64,14 @@ pub trait Files {
         ensures longer { OnTrue tells (
             IsSomeAnd ((state self.old).held name.now) (λ bytes. most < length bytes) →
             (result ≡ Err ReadFault.Long) ⊎
-            (result ≡ Err ReadFault.Failed) ⊎ (result ≡ Err ReadFault.Memory)) }
+            (result ≡ Err ReadFault.Failed) ⊎ (result ≡ Err (ReadFault.Memory refused))) }
         ensures failed { result ≡ Err ReadFault.Failed →
             Rose ((state self.old).read_faults name.now) ((state self.new).read_faults name.now) }
         ensures files { AllStay (state self.old).held (state self.new).held }
         ensures read_counts { NoneFell (state self.old).read_faults (state self.new).read_faults }
         ensures write_counts { NoneFell (state self.old).write_faults
             (state self.new).write_faults }
-        ensures tried { result ≢ Err ReadFault.Memory →
+        ensures tried { result ≢ Err (ReadFault.Memory refused) →
             IsAdded (state self.old).reads (state self.new).reads name.now }
         ensures once { IsAddedAtMost (state self.old).reads (state self.new).reads name.now }
         ensures writes { (state self.new).writes ≡ (state self.old).writes };
@@ -84,12 +86,12 @@ pub trait Files {
         ensures failed { result ≡ Err WriteFault.Failed →
             Rose ((state self.old).write_faults name.now) ((state self.new).write_faults name.now) }
         ensures others { OthersStay (state self.old).held (state self.new).held name.now }
-        ensures kept { result ≡ Err WriteFault.Memory →
+        ensures kept { result ≡ Err (WriteFault.Memory refused) →
             AllStay (state self.old).held (state self.new).held }
         ensures read_counts { NoneFell (state self.old).read_faults (state self.new).read_faults }
         ensures write_counts { NoneFell (state self.old).write_faults
             (state self.new).write_faults }
-        ensures tried { result ≢ Err WriteFault.Memory →
+        ensures tried { result ≢ Err (WriteFault.Memory refused) →
             IsAdded (state self.old).writes (state self.new).writes name.now }
         ensures once { IsAddedAtMost (state self.old).writes (state self.new).writes name.now }
         ensures reads { (state self.new).reads ≡ (state self.old).reads };

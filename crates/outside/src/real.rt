@@ -2,11 +2,13 @@
 //! were read and written, in which order.
 
 ghost use Rattle.std.specs.Prelude.{◌≡◌, ◌≢◌, ◌≤◌, ◌<◌, ℕ, List, [], length, vec_len, IfOk, OnOk, OnErr};
+ghost use Rattle.out_of_memory.specs.Refused.{refused};
 ghost use Rattle.outside.specs.Kept.{names_in};
 ghost use Rattle.outside.specs.Outside.{IsAdded, IsAddedAtMost, next_count};
 
 use crate::memory::keep;
 use crate::outside::{Files, ReadFault, Sink, SinkFailed, WriteFault};
+use out_of_memory::OutOfMemory;
 use std::alloc::Global;
 use std::io::{ErrorKind, Read};
 use std::{fs, rt};
@@ -50,8 +52,8 @@ fn read_up_to<F: Read>(alloc: Global, file: &mut F, most: usize) -> Result<Vec<u
         if count > most - all.len() {
             return Err(ReadFault::Long);
         }
-        if all.extend_from_slice(&part[..count]).is_err() {
-            return Err(ReadFault::Memory);
+        if let Err(error) = all.extend_from_slice(&part[..count]) {
+            return Err(ReadFault::Memory(OutOfMemory::from(error)));
         }
     }
     Err(ReadFault::Failed)
@@ -134,7 +136,7 @@ impl<'a, R: rt::Files> Files for RealFiles<'a, R> {
         ensures count { let state = ⟦<RealFiles<'a, R> as Files>⟧.state in
             (state self.old).read_faults name.now ≤ (state self.new).read_faults name.now }
         ensures tried { let state = ⟦<RealFiles<'a, R> as Files>⟧.state in
-            result ≢ Err ReadFault.Memory →
+            result ≢ Err (ReadFault.Memory refused) →
             IsAdded (state self.old).reads (state self.new).reads name.now }
         ensures once { let state = ⟦<RealFiles<'a, R> as Files>⟧.state in
             IsAddedAtMost (state self.old).reads (state self.new).reads name.now }
@@ -143,7 +145,7 @@ impl<'a, R: rt::Files> Files for RealFiles<'a, R> {
     {
         let answer = match keep(self.alloc, &mut self.names_read, name) {
             Ok(()) => read_file(self.alloc, self.rt, name, most),
-            Err(_) => Err(ReadFault::Memory),
+            Err(error) => Err(ReadFault::Memory(error)),
         };
         if answer.is_err() {
             self.raise();
@@ -161,7 +163,7 @@ impl<'a, R: rt::Files> Files for RealFiles<'a, R> {
         ensures count { let state = ⟦<RealFiles<'a, R> as Files>⟧.state in
             (state self.old).write_faults name.now ≤ (state self.new).write_faults name.now }
         ensures tried { let state = ⟦<RealFiles<'a, R> as Files>⟧.state in
-            result ≢ Err WriteFault.Memory →
+            result ≢ Err (WriteFault.Memory refused) →
             IsAdded (state self.old).writes (state self.new).writes name.now }
         ensures once { let state = ⟦<RealFiles<'a, R> as Files>⟧.state in
             IsAddedAtMost (state self.old).writes (state self.new).writes name.now }
@@ -170,7 +172,7 @@ impl<'a, R: rt::Files> Files for RealFiles<'a, R> {
     {
         let answer = match keep(self.alloc, &mut self.names_written, name) {
             Ok(()) => write_file(self.rt, name, bytes),
-            Err(_) => Err(WriteFault::Memory),
+            Err(error) => Err(WriteFault::Memory(error)),
         };
         if answer.is_err() {
             self.raise();

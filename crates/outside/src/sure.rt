@@ -2,6 +2,7 @@
 
 ghost use Rattle.std.specs.Prelude.{◌≡◌, ◌≢◌, ◌⊎◌, ◌≤◌, ◌+◌, ◌^◌, ◌-◌, ℕ, List, [], Some, None, min, OnOk, OnErr, IsOk, length};
 ghost use Rattle.std.specs.Option.{option_copied};
+ghost use Rattle.out_of_memory.specs.Refused.{refused};
 ghost use Rattle.outside.specs.Calls.{ReadsAs};
 ghost use Rattle.outside.specs.Kept.{names_in};
 ghost use Rattle.outside.specs.Memory.{counted, placed_in, shown_in};
@@ -9,7 +10,8 @@ ghost use Rattle.outside.specs.Outside.{AllStay, IsAdded, IsAddedAtMost, OthersS
 
 use crate::memory::{copy_within, keep};
 use crate::outside::{Files, ReadFault, Sink, SinkFailed, WriteFault};
-use std::alloc::{AllocError, Global};
+use out_of_memory::OutOfMemory;
+use std::alloc::Global;
 use std::collections::BTreeMap;
 
 /// Named files in memory, whose calls never fail. A missing name reads as empty.
@@ -44,7 +46,7 @@ impl SureFiles {
     }
 
     /// Makes the name hold the bytes. A refusal leaves all files as they were.
-    pub fn place(&mut self, name: &str, bytes: &[u8]) -> Result<(), AllocError>
+    pub fn place(&mut self, name: &str, bytes: &[u8]) -> Result<(), OutOfMemory>
         ensures placed { OnOk result (placed_in self.new name.now ≡ Some bytes.now) }
         ensures others { OthersStay (placed_in self.old) (placed_in self.new) name.now }
         ensures err { OnErr result (AllStay (placed_in self.old) (placed_in self.new)) }
@@ -84,14 +86,14 @@ impl Files for SureFiles {
     fn read(&mut self, name: &str, most: usize) -> Result<Vec<u8>, ReadFault>
         ensures answer { ReadsAs (shown_in self.old name.now) most result }
         ensures files { AllStay (placed_in self.old) (placed_in self.new) }
-        ensures tried { result ≢ Err ReadFault.Memory → IsAdded
+        ensures tried { result ≢ Err (ReadFault.Memory refused) → IsAdded
             (names_in self.old.names_read.items) (names_in self.new.names_read.items) name.now }
         ensures once { IsAddedAtMost
             (names_in self.old.names_read.items) (names_in self.new.names_read.items) name.now }
         ensures writes { self.new.names_written.items ≡ self.old.names_written.items }
     {
-        if keep(self.alloc, &mut self.names_read, name).is_err() {
-            return Err(ReadFault::Memory);
+        if let Err(error) = keep(self.alloc, &mut self.names_read, name) {
+            return Err(ReadFault::Memory(error));
         }
         match self.store.get(name) {
             None => Ok(Vec::new(self.alloc)),
@@ -100,11 +102,11 @@ impl Files for SureFiles {
     }
 
     fn write(&mut self, name: &str, bytes: &[u8]) -> Result<(), WriteFault>
-        ensures sure { (result ≡ Ok tt) ⊎ (result ≡ Err WriteFault.Memory) }
+        ensures sure { (result ≡ Ok tt) ⊎ (result ≡ Err (WriteFault.Memory refused)) }
         ensures stored { OnOk result (placed_in self.new name.now ≡ Some bytes.now) }
         ensures others { OthersStay (placed_in self.old) (placed_in self.new) name.now }
         ensures refused { OnErr result (AllStay (placed_in self.old) (placed_in self.new)) }
-        ensures tried { result ≢ Err WriteFault.Memory → IsAdded
+        ensures tried { result ≢ Err (WriteFault.Memory refused) → IsAdded
             (names_in self.old.names_written.items) (names_in self.new.names_written.items)
             name.now }
         ensures once { IsAddedAtMost
@@ -112,12 +114,12 @@ impl Files for SureFiles {
             name.now }
         ensures reads { self.new.names_read.items ≡ self.old.names_read.items }
     {
-        if keep(self.alloc, &mut self.names_written, name).is_err() {
-            return Err(WriteFault::Memory);
+        if let Err(error) = keep(self.alloc, &mut self.names_written, name) {
+            return Err(WriteFault::Memory(error));
         }
         match self.place(name, bytes) {
             Ok(()) => Ok(()),
-            Err(_) => Err(WriteFault::Memory),
+            Err(error) => Err(WriteFault::Memory(error)),
         }
     }
 }

@@ -2,6 +2,7 @@
 use Rattle.std.proofs.Common.{◌≡◌, ◌≢◌, ◌<◌, ◌⊎◌, ℕ, Bool, true, false, List, Ok, Err, inl, inr, length, refl, subst}
 use Rattle.std.proofs.lemmas.Bool.{lt-ltb}
 use Rattle.std.specs.Prelude.{Result, IfOk, nat_lt, if◌then◌else◌}
+use Rattle.out_of_memory.specs.Refused.{refused}
 use Rattle.base.specs.declared.event.Event.{Event}
 use Rattle.syntax_tree.specs.declared.place.Place.{Place}
 use Rattle.syntax_tree.specs.Placed.{Prog, plain}
@@ -57,8 +58,8 @@ module _ (g : Prog Place) (names : ImageNames) (same : names ≡ names_of (plain
       (subst (λ (count : ℕ). act ≡ puts (status_of verdict) (line_of verdict count)) found.many is)
   judged_run it (Err e) finds is = tt
 
-  pub judged_fault : {E : Type 0} (why : LogFault) (made : Result PreparedCall E) → ((log : List ℕ) → P log → (why ≡ log_fault.Memory) ⊎ IsFault names log why)
-      → IfOk made (λ act. act ≡ puts status.Log (log_fault_line why)) → IfOk made (λ act. why ≢ log_fault.Memory)
+  pub judged_fault : {E : Type 0} (why : LogFault) (made : Result PreparedCall E) → ((log : List ℕ) → P log → (why ≡ log_fault.Memory refused) ⊎ IsFault names log why)
+      → IfOk made (λ act. act ≡ puts status.Log (log_fault_line why)) → IfOk made (λ act. why ≢ log_fault.Memory refused)
       → IfOk made (λ act. (log : List ℕ) → P log → IsJudged g lines end log (outcome_of act))
   judged_fault why (Ok act) fault is other = λ log p. elim (fault log p) [
     | inl memory ↦ absurd (other memory)

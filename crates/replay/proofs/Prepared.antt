@@ -2,6 +2,7 @@
 use Rattle.std.proofs.Common.{◌≡◌, ◌≢◌, ◌<◌, ◌^◌, ◌⊎◌, ℕ, List, Option, Some, None, Bool, true, false, Ok, Err, inl, inr, arith, refl, subst, sym, ap}
 use Rattle.std.specs.Prelude.{Result, IfErr, IfOk, IsSomeAnd}
 use Rattle.std.specs.Bool.{OnTrue}
+use Rattle.out_of_memory.specs.Refused.{refused}
 use Rattle.syntax_tree.specs.declared.place.Place.{Place}
 use Rattle.syntax_tree.specs.Placed.{Prog, plain}
 use Rattle.outside.specs.Outside.{FilesState, AllStay, NoneFell}
@@ -76,7 +77,7 @@ module _ (tells : Bool) (g : Prog Place) (names : ImageNames) (same : names ≡ 
     subst (Failed before now) (sym at) (rose_since (before.read_faults log) (mid.read_faults log) (now.read_faults log) (fell log) failed),
     inr (at, of_held tells (before.held script) P (IsScriptFor g) is (λ text p. (lines, end, is_for text lines end (right text p)))),
   )
-  log_error lines end unready.Memory is right fell failed = tt
+  log_error lines end (unready.Memory _) is right fell failed = tt
 
   pub log_failed : (lines : List ScriptLine) (end : ℕ) (result : Result PreparedCall PrepareError) → OnTrue tells (IsSomeAnd (before.held script) P)
       → ((text : List ℕ) → P text → IsScript names text lines end) → NoneFell before.read_faults mid.read_faults
@@ -85,7 +86,7 @@ module _ (tells : Bool) (g : Prog Place) (names : ImageNames) (same : names ≡ 
   log_failed lines end (Err why) is right fell failed = log_error lines end why is right fell failed
 
   bad : (t : Bool) (held other : Option (List ℕ)) (why : ScriptFault) (outcome : Outcome) → OnTrue t (IsSomeAnd held P)
-      → ((text : List ℕ) → P text → (why ≡ fault.Memory) ⊎ IsFault names text why) → why ≢ fault.Memory → outcome ≡ bad_script why
+      → ((text : List ℕ) → P text → (why ≡ fault.Memory refused) ⊎ IsFault names text why) → why ≢ fault.Memory refused → outcome ≡ bad_script why
       → OnTrue t (IsReplayed g held other outcome)
   bad true (Some text) other why outcome is wrong right_fault comes = elim (wrong text is) [
     | inl memory ↦ absurd (right_fault memory)
@@ -95,7 +96,7 @@ module _ (tells : Bool) (g : Prog Place) (names : ImageNames) (same : names ≡ 
   bad false held other why outcome is wrong right_fault comes = tt
 
   pub script_bad : (why : ScriptFault) (act : PreparedCall) → OnTrue tells (IsSomeAnd (before.held script) P)
-      → ((text : List ℕ) → P text → (why ≡ fault.Memory) ⊎ IsFault names text why) → why ≢ fault.Memory → act ≡ puts status.Script (script_fault_line why)
+      → ((text : List ℕ) → P text → (why ≡ fault.Memory refused) ⊎ IsFault names text why) → why ≢ fault.Memory refused → act ≡ puts status.Script (script_fault_line why)
       → OnTrue tells (IsReplayed g (before.held script) (before.held log) (outcome_of act))
   script_bad why act is wrong right_fault made =
       bad tells (before.held script) (before.held log) why (outcome_of act) is wrong right_fault (put_comes_to status.Script (script_fault_line why) act made)
@@ -141,7 +142,7 @@ module _ (tells : Bool) (program script log : List ℕ) (before mid now : FilesS
       ))
     ],
   )
-  later_failed g unready.Memory is written stays fell error = tt
+  later_failed g (unready.Memory _) is written stays fell error = tt
 
   pub replay_prepares : (g : Prog Place) (result : Result PreparedCall PrepareError) → OnTrue tells (IsSomeAnd (before.held program) P) → ((text : List ℕ) → P text → IsWritten text g)
       → AllStay before.held mid.held → NoneFell before.read_faults mid.read_faults

@@ -1,5 +1,6 @@
 -- What is found of a log, and how many events it has.
 use Rattle.std.specs.Prelude.{◌≡◌, ◌⊎◌, ℕ, List, length}
+use Rattle.out_of_memory.specs.Refused.{refused}
 use Rattle.base.specs.declared.event.Event.{Event}
 use Rattle.syntax_tree.specs.Plain.{Program}
 use Rattle.source_semantics.specs.Config.{Config}
@@ -20,4 +21,4 @@ pub record IsFoundOf (g : Program) (s : Script) (c : Config) (names : ImageNames
 
 -- why nothing is found: the text is no log, or memory is wanting
 abbrev pub IsFaultOf : ImageNames → (text : List ℕ) → LogFault → Type 0
-IsFaultOf names text why = (why ≡ Memory) ⊎ IsFault names text why
+IsFaultOf names text why = (why ≡ Memory refused) ⊎ IsFault names text why

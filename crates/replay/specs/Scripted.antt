@@ -1,6 +1,7 @@
 -- What is due of a script and a log, where the program has no fault.
 use Rattle.std.specs.Prelude.{◌≡◌, ◌≢◌, ◌⊎◌, ℕ, List, Option, Some, Bool, IsSomeAnd}
 use Rattle.std.specs.Bool.{OnTrue}
+use Rattle.out_of_memory.specs.Refused.{refused}
 use Rattle.syntax_tree.specs.declared.place.Place.{Place}
 use Rattle.syntax_tree.specs.Placed.{Prog, plain}
 use Rattle.built_image.specs.Named.{names_of}
@@ -22,7 +23,7 @@ IsScriptFor g text = (lines : List ScriptLine) × (end : ℕ) × IsScript (names
 
 -- the line of the script's fault, or what the log comes to
 pub data IsReplayed (g : Prog Place) (script log : Option (List ℕ)) (outcome : Outcome) : Type 0 where
-  misspelled : (text : List ℕ) (why : ScriptFault) → script ≡ Some text → IsFault (names_of (plain g)) text why → why ≢ fault.Memory
+  misspelled : (text : List ℕ) (why : ScriptFault) → script ≡ Some text → IsFault (names_of (plain g)) text why → why ≢ fault.Memory refused
       → outcome ≡ bad_script why → IsReplayed g script log outcome
   judged : (text : List ℕ) (lines : List ScriptLine) (end : ℕ) (other : List ℕ) → script ≡ Some text → IsScript (names_of (plain g)) text lines end
       → log ≡ Some other → IsJudged g lines end other outcome → IsReplayed g script log outcome
@@ -32,4 +33,4 @@ abbrev pub IsLaterError : Bool → Prog Place → (before now : FilesState) → 
 IsLaterError tells g before now script log (unready.Unread name) =
     Failed before now name.now
     × ((name.now ≡ script) ⊎ ((name.now ≡ log) × OnTrue tells (IsSomeAnd (before.held script) (IsScriptFor g))))
-IsLaterError tells g before now script log unready.Memory = Unit {0}
+IsLaterError tells g before now script log (unready.Memory _) = Unit {0}

@@ -9,11 +9,12 @@ ghost use Rattle.replay_state.specs.Texts.{IsText};
 use crate::free_monitors::free_holds;
 use crate::jobs::idle_jobs;
 use crate::queues::empty_queues;
+use out_of_memory::OutOfMemory;
 use replay_state::{Config, ProgramContext};
-use std::alloc::{AllocError, Global};
+use std::alloc::Global;
 
 /// The configuration of a program before its first event.
-pub fn first_config<'a>(alloc: Global, text: &ProgramContext<'a>) -> Result<Config<'a>, AllocError>
+pub fn first_config<'a>(alloc: Global, text: &ProgramContext<'a>) -> Result<Config<'a>, OutOfMemory>
     requires { IsText text.now }
     ensures { IfOk result (λ config. config_of config ≡
         at_start (plain (placed text.now.declarations.now))) }

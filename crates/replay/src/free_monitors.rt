@@ -8,10 +8,11 @@ ghost use Rattle.source_semantics.specs.Store.{fresh};
 ghost use Rattle.source_semantics.specs.Config.{free_hold as hold_at_start};
 ghost use Rattle.replay_state.specs.View.{hold_of, holds_of, vars_of};
 
+use out_of_memory::OutOfMemory;
 use replay_calls::add_fresh;
 use replay_state::{MonitorState, Slot};
 use static_declarations::Declarations;
-use std::alloc::{AllocError, Global};
+use std::alloc::Global;
 use std::slice;
 use syntax_tree::{Declaration, Member, Monitor};
 
@@ -21,7 +22,7 @@ fn add_variable<'a>(
     declarations: &Declarations<'_>,
     vars: &mut Vec<Slot<'a>>,
     member: &'a Member,
-) -> Result<(), AllocError>
+) -> Result<(), OutOfMemory>
     ensures { OnOk result ((rest : List SpecMember) → vars_of vars.new.items ++
         map (fresh (plain (placed declarations.now))) (filter_map variable_in rest) ≡
         vars_of vars.old.items ++ map (fresh (plain (placed declarations.now)))
@@ -38,7 +39,7 @@ fn member_variables<'a>(
     alloc: Global,
     declarations: &Declarations<'_>,
     members: &'a [Member],
-) -> Result<Vec<Slot<'a>>, AllocError>
+) -> Result<Vec<Slot<'a>>, OutOfMemory>
     ensures { IfOk result (λ vars. vars_of vars.items ≡
         map (fresh (plain (placed declarations.now)))
         (filter_map variable_in (map plain_member (map placed_member members.now)))) }
@@ -55,7 +56,7 @@ fn free_hold<'a>(
     alloc: Global,
     declarations: &Declarations<'_>,
     monitor: &'a Monitor,
-) -> Result<MonitorState<'a>, AllocError>
+) -> Result<MonitorState<'a>, OutOfMemory>
     ensures { IfOk result (λ hold. hold_of hold ≡ hold_at_start (plain (placed declarations.now))
         (plain_monitor (placed_monitor monitor.now))) }
 {
@@ -72,7 +73,7 @@ fn add_hold<'a>(
     declarations: &Declarations<'_>,
     holds: &mut Vec<MonitorState<'a>>,
     decl: &'a Declaration,
-) -> Result<(), AllocError>
+) -> Result<(), OutOfMemory>
     ensures { OnOk result ((rest : List SpecDecl) → holds_of holds.new.items ++
         map (hold_at_start (plain (placed declarations.now))) (filter_map monitor_in rest) ≡
         holds_of holds.old.items ++ map (hold_at_start (plain (placed declarations.now)))
@@ -90,7 +91,7 @@ pub fn free_holds<'a>(
     alloc: Global,
     declarations: &Declarations<'_>,
     decls: &'a [Declaration],
-) -> Result<Vec<MonitorState<'a>>, AllocError>
+) -> Result<Vec<MonitorState<'a>>, OutOfMemory>
     ensures { IfOk result (λ holds. holds_of holds.items ≡
         map (hold_at_start (plain (placed declarations.now)))
         (filter_map monitor_in (map plain_decl (map placed_decl decls.now)))) }

@@ -6,10 +6,11 @@ ghost use Rattle.source_semantics.specs.Config.{idle_job as job_at_start};
 ghost use Rattle.replay_state.specs.View.{job_of, jobs_of};
 ghost use Rattle.replay.specs.Parts.{seen_processes};
 
+use out_of_memory::OutOfMemory;
 use replay_calls::add_fresh;
 use replay_state::{Activity, ProcessState};
 use static_declarations::Declarations;
-use std::alloc::{AllocError, Global};
+use std::alloc::Global;
 use syntax_tree::Process;
 
 /// An idle process, its variables being 0 or false.
@@ -17,7 +18,7 @@ fn idle_job<'a>(
     alloc: Global,
     declarations: &Declarations<'_>,
     process: &'a Process,
-) -> Result<ProcessState<'a>, AllocError>
+) -> Result<ProcessState<'a>, OutOfMemory>
     ensures { IfOk result (λ job. job_of job ≡ job_at_start (plain (placed declarations.now))
         (plain_process (placed_process process.now))) }
 {
@@ -36,7 +37,7 @@ pub fn idle_jobs<'a>(
     alloc: Global,
     declarations: &Declarations<'_>,
     processes: &[&'a Process],
-) -> Result<Vec<ProcessState<'a>>, AllocError>
+) -> Result<Vec<ProcessState<'a>>, OutOfMemory>
     ensures { IfOk result (λ jobs. jobs_of jobs.items ≡
         map (job_at_start (plain (placed declarations.now))) (seen_processes processes.now)) }
 {

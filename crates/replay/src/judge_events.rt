@@ -8,6 +8,7 @@
 //! Events, judged in turn.
 
 ghost use Rattle.std.specs.Prelude.{IfErr, IfOk, List, length, ℕ, [], ◌++◌, ◌∷◌, ◌<◌, ◌^◌, ◌≡◌};
+ghost use Rattle.out_of_memory.specs.Refused.{refused};
 ghost use Rattle.base.specs.declared.event.Event.{Event as Event_spec};
 ghost use Rattle.event_log.specs.Reader.{HasRead, IsReader, names_of};
 ghost use Rattle.event_log.specs.declared.fault.LogFault.TheVariants as fault;
@@ -73,7 +74,7 @@ fn judge_end(
         Allowed (program_of running.old.rules) (script_in script.now) begun events
         (config_of running.old.config) →
         Finds (program_of running.old.rules) (script_in script.now) begun events found) }
-    ensures fault { IfErr result (λ why. why ≡ fault.Memory) }
+    ensures fault { IfErr result (λ why. why ≡ fault.Memory refused) }
 {
     if running.is_complete(script) {
         return Ok(Finding::Run);

@@ -1,6 +1,7 @@
 //! Logs, judged by the program.
 
 ghost use Rattle.std.specs.Prelude.{◌≡◌, ◌≢◌, ◌<◌, ◌≤◌, ◌^◌, ℕ, List, IfOk, length};
+ghost use Rattle.out_of_memory.specs.Refused.{refused};
 ghost use Rattle.command_answers.specs.Acts.{outcome_of};
 ghost use Rattle.command_answers.specs.Acting.{IsQuiet, puts};
 ghost use Rattle.command_answers.specs.Contents.{IsContent};
@@ -24,9 +25,10 @@ use command_answers::{Content, PreparedCall, Status, log_fault_line, put, refuse
 use event_log::LogFault;
 use image::ImageNames;
 use message_log::{log_message, long_message, refused_message};
+use out_of_memory::OutOfMemory;
 use replay_reason_spec::{Finding, Reason};
 use script::Script;
-use std::alloc::{AllocError, Global};
+use std::alloc::Global;
 use syntax_tree::Text;
 
 /// The message for a log for these names whose event on this line is refused, for this reason.
@@ -37,7 +39,7 @@ fn message_of_refused(
     names: &ImageNames,
     line: u32,
     why: &Reason,
-) -> Result<Text, AllocError>
+) -> Result<Text, OutOfMemory>
     ensures { IfOk result (λ message. (log : List ℕ) → IsContent longest_text content.now log →
         length log ≤ longest_text →
         message ≡ refused_by.refused_message file.now log line names.now why.now) }
@@ -57,7 +59,7 @@ fn put_verdict<'a>(
     content: &Content,
     names: &ImageNames,
     judged: &JudgedLog,
-) -> Result<PreparedCall<'a>, AllocError>
+) -> Result<PreparedCall<'a>, OutOfMemory>
     ensures act { IfOk result (λ act. act ≡ puts (status_of (verdict_of judged.now.finding))
         (line_of (verdict_of judged.now.finding) judged.now.count)) }
     ensures told { IfOk result (λ act. (log : List ℕ) → IsContent longest_text content.now log →
@@ -81,7 +83,7 @@ fn message_of_fault(
     content: &Content,
     names: &ImageNames,
     fault: &LogFault,
-) -> Result<Text, AllocError>
+) -> Result<Text, OutOfMemory>
     ensures { IfOk result (λ message. (log : List ℕ) → IsContent longest_text content.now log →
         message ≡ message_of.log_message file.now log names.now fault.now) }
 {
@@ -100,15 +102,15 @@ fn refuse_log<'a>(
     content: &Content,
     names: &ImageNames,
     fault: &LogFault,
-) -> Result<PreparedCall<'a>, AllocError>
+) -> Result<PreparedCall<'a>, OutOfMemory>
     ensures act { IfOk result (λ act. act ≡ puts Status.Log (due.log_fault_line fault.now)) }
-    ensures is_fault { IfOk result (λ act. fault.now ≢ log_fault.Memory) }
+    ensures is_fault { IfOk result (λ act. fault.now ≢ log_fault.Memory refused) }
     ensures told { IfOk result (λ act. (log : List ℕ) → IsContent longest_text content.now log →
         IsMisreadTold names.now file.now log (outcome_of act) message.new) }
 {
     *message = message_of_fault(alloc, file, content, names, fault)?;
     match fault {
-        LogFault::Memory => Err(AllocError),
+        LogFault::Memory(error) => Err(*error),
         LogFault::Line(_) | LogFault::Long => Ok(put(Status::Log, log_fault_line(alloc, fault)?)),
     }
 }
@@ -121,7 +123,7 @@ pub fn log_act<'a>(
     source: &Source<'_>,
     script: &Script,
     content: &Content,
-) -> Result<PreparedCall<'a>, AllocError>
+) -> Result<PreparedCall<'a>, OutOfMemory>
     requires source { IsSource source.now }
     requires end { script.now.end < 2 ^ 61 }
     ensures due { IfOk result (λ act. (log : List ℕ) → IsContent longest_text content.now log →

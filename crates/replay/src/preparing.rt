@@ -57,7 +57,7 @@ fn log_on<'a, F: Files>(
     let content = read(files, log, LONGEST_LOG)?;
     match log_act(alloc, message, log, source, script, &content) {
         Ok(act) => Ok(act),
-        Err(_) => Err(PrepareError::Memory),
+        Err(error) => Err(PrepareError::Memory(error)),
     }
 }
 
@@ -90,7 +90,7 @@ fn script_on<'a, F: Files>(
         Ok(lines) => log_on(alloc, message, source, &lines, log, files),
         Err(fault) => match refuse_script(alloc, message, script, &content, &source.names, &fault) {
             Ok(act) => Ok(act),
-            Err(_) => Err(PrepareError::Memory),
+            Err(error) => Err(PrepareError::Memory(error)),
         },
     }
 }
@@ -119,7 +119,7 @@ pub fn prepare_replay<'a, F: Files>(
         Ok(source) => script_on(alloc, message, &source, script, log, files),
         Err(fault) => match refuse_source(alloc, message, program, &content, fault) {
             Ok(act) => Ok(act),
-            Err(_) => Err(PrepareError::Memory),
+            Err(error) => Err(PrepareError::Memory(error)),
         },
     }
 }

@@ -7,11 +7,16 @@ ghost use Rattle.source_semantics.specs.Names.{monitor_in};
 ghost use Rattle.replay_state.specs.Queues.{queues_of};
 ghost use Rattle.replay.specs.Parts.{member_queues, monitor_queues};
 
-use std::alloc::{AllocError, Global};
+use out_of_memory::OutOfMemory;
+use std::alloc::Global;
 use syntax_tree::{Declaration, Member};
 
 /// Adds the queue of the condition that the member is, if it is one.
-fn add_queue(alloc: Global, queues: &mut Vec<Vec<usize>>, member: &Member) -> Result<(), AllocError>
+fn add_queue(
+    alloc: Global,
+    queues: &mut Vec<Vec<usize>>,
+    member: &Member,
+) -> Result<(), OutOfMemory>
     ensures { OnOk result ((rest : List SpecMember) → queues_of queues.new.items ++
         member_queues rest ≡ queues_of queues.old.items ++
         member_queues (plain_member (placed_member member.now) ∷ rest)) }
@@ -27,7 +32,7 @@ fn add_queues(
     alloc: Global,
     queues: &mut Vec<Vec<usize>>,
     members: &[Member],
-) -> Result<(), AllocError>
+) -> Result<(), OutOfMemory>
     ensures { OnOk result (queues_of queues.new.items ≡ queues_of queues.old.items ++
         member_queues (map plain_member (map placed_member members.now))) }
 {
@@ -42,7 +47,7 @@ fn add_monitor(
     alloc: Global,
     queues: &mut Vec<Vec<usize>>,
     decl: &Declaration,
-) -> Result<(), AllocError>
+) -> Result<(), OutOfMemory>
     ensures { OnOk result ((rest : List SpecDecl) → queues_of queues.new.items ++
         monitor_queues (filter_map monitor_in rest) ≡ queues_of queues.old.items ++
         monitor_queues (filter_map monitor_in (plain_decl (placed_decl decl.now) ∷ rest))) }
@@ -54,7 +59,7 @@ fn add_monitor(
 }
 
 /// A queue for each condition of the monitors that these declarations declare, all of them empty.
-pub fn empty_queues(alloc: Global, decls: &[Declaration]) -> Result<Vec<Vec<usize>>, AllocError>
+pub fn empty_queues(alloc: Global, decls: &[Declaration]) -> Result<Vec<Vec<usize>>, OutOfMemory>
     ensures { IfOk result (λ queues. queues_of queues.items ≡
         monitor_queues (filter_map monitor_in (map plain_decl (map placed_decl decls.now)))) }
 {

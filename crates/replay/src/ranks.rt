@@ -18,12 +18,13 @@ use built_image_law::premises_of_laws::checked_programs_are_ready;
 use built_tasks_law::ranks_and_ceilings::{ceilings_are_of_the_meaning, ranks_are_of_the_meaning};
 use compile::{BuildFault, ranked};
 use image::{RawMonitor, RawProcess};
+use out_of_memory::OutOfMemory;
 use replay_state::Ranks;
 use static_semantics::Checked;
-use std::alloc::{AllocError, Global};
+use std::alloc::Global;
 
 /// The ranks of the processes of an image.
-fn rank_numbers(alloc: Global, processes: &[RawProcess]) -> Result<Vec<u64>, AllocError>
+fn rank_numbers(alloc: Global, processes: &[RawProcess]) -> Result<Vec<u64>, OutOfMemory>
     ensures { IfOk result (λ ranks. ranks.items ≡ map (λ p. p.rank) processes.now) }
 {
     let mut ranks = Vec::new(alloc);
@@ -45,7 +46,7 @@ fn ceiling(number: u16) -> Option<u64>
 }
 
 /// The ceilings of the monitors of an image.
-fn ceiling_numbers(alloc: Global, monitors: &[RawMonitor]) -> Result<Vec<Option<u64>>, AllocError>
+fn ceiling_numbers(alloc: Global, monitors: &[RawMonitor]) -> Result<Vec<Option<u64>>, OutOfMemory>
     ensures { IfOk result (λ ceilings. ceilings.items ≡
         map (λ m. ceiling_told m.ceiling) monitors.now) }
 {
@@ -58,7 +59,7 @@ fn ceiling_numbers(alloc: Global, monitors: &[RawMonitor]) -> Result<Vec<Option<
 
 /// The ranks and ceilings of the program of a text, which keeps to all rules and is not too large.
 /// It takes the time of generating its code. Want of memory is the only error.
-pub fn ranks_of(alloc: Global, program: &Checked) -> Result<Ranks, AllocError>
+pub fn ranks_of(alloc: Global, program: &Checked) -> Result<Ranks, OutOfMemory>
     ghost text: { List ℕ }
     requires written { IsWritten text (placed program.now) }
     ensures { IfOk result (AreRanksOf (plain (placed program.now))) }
@@ -73,7 +74,7 @@ pub fn ranks_of(alloc: Global, program: &Checked) -> Result<Ranks, AllocError>
             let ceilings = ceiling_numbers(alloc, image.monitors.as_slice())?;
             Ok(Ranks { ranks, ceilings })
         }
-        Err(BuildFault::Memory) => Err(AllocError),
+        Err(BuildFault::Memory(error)) => Err(error),
         Err(BuildFault::TooLarge { .. }) => unreachable!(),
         Err(BuildFault::Untimely(_)) => unreachable!(),
     }

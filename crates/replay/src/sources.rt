@@ -17,9 +17,10 @@ use command_answers::{Content, PreparedCall};
 use command_refusals::refuse_text;
 use compile::{ProgramTextFault, read_written};
 use image::ImageNames;
+use out_of_memory::OutOfMemory;
 use static_rule::rule;
 use static_semantics::Checked;
-use std::alloc::{AllocError, Global};
+use std::alloc::Global;
 use syntax_tree::{Place, Text};
 
 /// Where a fault of a whole text stands.
@@ -46,7 +47,7 @@ fn read_text<'a>(alloc: Global, text: &'a [u8]) -> Result<Source<'a>, ProgramTex
                 program,
                 names,
             }),
-            Err(_) => Err(ProgramTextFault::Memory),
+            Err(error) => Err(ProgramTextFault::Memory(error)),
         },
         Err(fault) => Err(fault),
     }
@@ -81,7 +82,7 @@ pub fn refuse_source<'a>(
     file: &str,
     content: &Content,
     fault: ProgramTextFault,
-) -> Result<PreparedCall<'a>, AllocError>
+) -> Result<PreparedCall<'a>, OutOfMemory>
     ensures due { IfOk result (λ act. (text : List ℕ) (script log : Option (List ℕ)) →
         ReadsWritten text (Err fault) → IsReplayDue (Some text) script log (outcome_of act)) }
     ensures quiet { IfOk result IsQuiet }
@@ -93,6 +94,6 @@ pub fn refuse_source<'a>(
         ProgramTextFault::Text { number, place } => {
             refuse_text(alloc, message, file, content, number, place)
         }
-        ProgramTextFault::Memory => Err(AllocError),
+        ProgramTextFault::Memory(error) => Err(error),
     }
 }

@@ -11,10 +11,11 @@ ghost use Rattle.replay_accept.specs.Running.{Stands, program_of};
 
 use crate::configuration::first_config;
 use crate::tables::rules_of;
+use out_of_memory::OutOfMemory;
 use replay_accept::Running;
 use replay_calls::NumberedConditions;
 use replay_state::Ranks;
-use std::alloc::{AllocError, Global};
+use std::alloc::Global;
 
 /// A program before its first event: its tables, and the configuration in which all processes are
 /// idle, all variables 0 or false, all monitors free and all queues empty. Fails only where memory
@@ -23,7 +24,7 @@ pub fn start<'a>(
     alloc: Global,
     conditions: &'a NumberedConditions<'a>,
     ranks: Ranks,
-) -> Result<Running<'a>, AllocError>
+) -> Result<Running<'a>, OutOfMemory>
     requires ranks { AreRanksOf (plain (placed conditions.now)) ranks }
     requires frames { FramesPass (plain (placed conditions.now)) }
     requires few { routine_count (plain (placed conditions.now)) ≤ 512 }

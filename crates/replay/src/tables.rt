@@ -12,19 +12,20 @@ ghost use Rattle.replay_accept.specs.Running.{AreRules, program_of};
 use crate::order::rank_order;
 use crate::processes::process_list;
 use crate::timings::process_timings;
+use out_of_memory::OutOfMemory;
 use replay_accept::Rules;
 use replay_calls::NumberedConditions;
 use replay_due_events::Timetable;
 use replay_next::routine_count;
 use replay_state::{ProgramContext, Ranks};
 use static_declarations::Declarations;
-use std::alloc::{AllocError, Global};
+use std::alloc::Global;
 
 /// The text of a program.
 fn text_of<'a>(
     alloc: Global,
     declarations: &'a Declarations<'a>,
-) -> Result<ProgramContext<'a>, AllocError>
+) -> Result<ProgramContext<'a>, OutOfMemory>
     ensures text { IfOk result IsText }
     ensures program { IfOk result (λ t. t.declarations.now ≡ declarations.now) }
 {
@@ -41,7 +42,7 @@ fn timetable_of(
     alloc: Global,
     text: &ProgramContext<'_>,
     ranks: &Ranks,
-) -> Result<Timetable, AllocError>
+) -> Result<Timetable, OutOfMemory>
     requires text { IsText text.now }
     requires ranks { AreRanksOf (plain (placed text.now.declarations.now)) ranks.now }
     ensures { IfOk result (IsTimetableOf (plain (placed text.now.declarations.now))) }
@@ -56,7 +57,7 @@ pub fn rules_of<'a>(
     alloc: Global,
     conditions: &'a NumberedConditions<'a>,
     ranks: Ranks,
-) -> Result<Rules<'a>, AllocError>
+) -> Result<Rules<'a>, OutOfMemory>
     requires ranks { AreRanksOf (plain (placed conditions.now)) ranks }
     requires frames { FramesPass (plain (placed conditions.now)) }
     requires few { routine_count_of (plain (placed conditions.now)) ≤ 512 }

@@ -7,11 +7,12 @@ ghost use Rattle.source_semantics.specs.Starts.{first_of};
 ghost use Rattle.replay_due_events.specs.Timings.{timing_of};
 ghost use Rattle.replay.specs.Parts.{seen_processes};
 
+use out_of_memory::OutOfMemory;
 use replay_calls::equal;
 use replay_due_events::Timing;
 use replay_state::count;
 use static_declarations::Declarations;
-use std::alloc::{AllocError, Global};
+use std::alloc::Global;
 use syntax_tree::{Constant, Declaration, Name, Process, Trigger};
 
 /// The number of the event of that name.
@@ -63,7 +64,7 @@ pub fn process_timings(
     alloc: Global,
     declarations: &Declarations<'_>,
     processes: &[&Process],
-) -> Result<Vec<Timing>, AllocError>
+) -> Result<Vec<Timing>, OutOfMemory>
     ensures { IfOk result (λ list. list.items ≡
         map (λ p. timing_of (plain (placed declarations.now)) p.activation)
         (seen_processes processes.now)) }

@@ -12,12 +12,12 @@ ghost use Rattle.replay_accept.specs.Running.{AreRules, IsFirstOf, program_of};
 use crate::rules::Rules;
 use crate::{act, is_told, may_act};
 use base::Event;
+use out_of_memory::OutOfMemory;
 use replay_calls::EvalContext;
 use replay_due_events::has_acted;
 use replay_next::next_action;
 use replay_script::ScriptCursor;
 use replay_state::{Activity, Config, NextAction};
-use std::alloc::AllocError;
 
 /// Whether it is work since a release.
 fn is_work(doing: Activity) -> bool
@@ -71,7 +71,7 @@ pub fn next_of_process<'a>(
     rules: &Rules<'a>,
     config: &Config<'a>,
     process: usize,
-) -> Result<Option<NextAction<'a>>, AllocError>
+) -> Result<Option<NextAction<'a>>, OutOfMemory>
     requires { AreRules rules.now }
     ensures { IfOk result (λ next. IsNextOf (program_of rules.now) (config_of config.now) process
         (option_map next_of next)) }
@@ -103,7 +103,7 @@ pub fn act_by<'a>(
     script: &ScriptCursor<'_>,
     first: Option<usize>,
     event: &Event,
-) -> Result<bool, AllocError>
+) -> Result<bool, OutOfMemory>
     requires rules { AreRules rules.now }
     requires fits { Fits (program_of rules.now) (config_of config.old) }
     requires first { IsFirstOf (program_of rules.now) (config_of config.old) first }
@@ -133,7 +133,7 @@ fn act_next<'a>(
     script: &ScriptCursor<'_>,
     event: &Event,
     next: NextAction<'a>,
-) -> Result<bool, AllocError>
+) -> Result<bool, OutOfMemory>
     requires rules { AreRules rules.now }
     requires script { IsAt config.old.tick script.now }
     requires opened { IsOpen (program_of rules.now) (script_in script.now)

@@ -12,10 +12,10 @@ ghost use Rattle.replay_accept.specs.Running.{AreRules, program_of};
 use crate::rules::Rules;
 use crate::starting::{come, is_release, is_start};
 use base::Event;
+use out_of_memory::OutOfMemory;
 use replay_due_events::Start;
 use replay_script::ScriptCursor;
 use replay_state::Config;
-use std::alloc::AllocError;
 
 /// What an event is by its tick.
 #[derive(Clone, Copy)]
@@ -92,7 +92,7 @@ pub fn begin<'a>(
     script: &ScriptCursor<'_>,
     next_start: u64,
     event: &Event,
-) -> Result<Begun, AllocError>
+) -> Result<Begun, OutOfMemory>
     requires rules { AreRules rules.now }
     requires fits { Fits (program_of rules.now) (config_of config.old) }
     requires tick { config.old.tick < 2 ^ 61 }
@@ -121,7 +121,7 @@ fn begin_in_time<'a>(
     config: &mut Config<'a>,
     script: &ScriptCursor<'_>,
     event: &Event,
-) -> Result<Begun, AllocError>
+) -> Result<Begun, OutOfMemory>
     requires rules { AreRules rules.now }
     requires script { IsAt config.old.tick script.now }
     requires time { IsInTime (program_of rules.now)
@@ -149,7 +149,7 @@ fn begin_start<'a>(
     config: &mut Config<'a>,
     tick: u64,
     start: Start,
-) -> Result<Begun, AllocError>
+) -> Result<Begun, OutOfMemory>
     requires { AreRules rules.now }
     ensures begins { IfOk result (λ begun. ComesAs (program_of rules.now) (config_of config.old)
         (event_of tick start) begun (config_of config.new)) }

@@ -12,9 +12,9 @@ use crate::saving::save;
 use crate::source_actions::{
     ask_empty, broadcast_on, end, enter, get, leave, raise_in, signal_on, wait,
 };
+use out_of_memory::OutOfMemory;
 use replay_script::ScriptCursor;
 use replay_state::{Action, Config, NextAction, ProgramContext};
-use std::alloc::AllocError;
 
 /// Whether a monitor that the action enters is free.
 pub fn may_act(config: &Config<'_>, action: Action) -> bool
@@ -38,7 +38,7 @@ pub fn act<'a>(
     tick: u64,
     process: usize,
     next: NextAction<'a>,
-) -> Result<(), AllocError>
+) -> Result<(), OutOfMemory>
     requires text { IsText text.now }
     requires script { IsWithin tick script.now }
     ensures ok { OnOk result (config_of config.new ≡

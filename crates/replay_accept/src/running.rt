@@ -12,9 +12,9 @@ use crate::act_events::act_by;
 use crate::begin::{Begun, begin};
 use crate::rules::Rules;
 use base::{Act, Event};
+use out_of_memory::OutOfMemory;
 use replay_script::{ScriptCursor, next_start_after};
 use replay_state::Config;
-use std::alloc::AllocError;
 
 /// A program's tables, its configuration, and what is known of the start events to come.
 #[derive(Drop)]
@@ -35,7 +35,7 @@ fn accept_by<'a>(
     next_start: u64,
     first: Option<usize>,
     event: &Event,
-) -> Result<bool, AllocError>
+) -> Result<bool, OutOfMemory>
     requires rules { AreRules rules.now }
     requires fits { Fits (program_of rules.now) (config_of config.old) }
     requires tick { config.old.tick < 2 ^ 61 }
@@ -62,7 +62,7 @@ fn keeps_first(act: Act) -> bool
 }
 
 /// The process of an event that was accepted, if it stays the first.
-fn first_after(event: &Event, accepted: &Result<bool, AllocError>) -> Option<usize>
+fn first_after(event: &Event, accepted: &Result<bool, OutOfMemory>) -> Option<usize>
     ensures { IfSome result (λ k. (accepted.now ≡ Ok true) × (keeps_order event.now.act ≡ true) ×
         (k ≡ event.now.proc)) }
 {
@@ -86,7 +86,7 @@ impl<'a> Running<'a> {
         &mut self,
         script: &mut ScriptCursor<'_>,
         event: &Event,
-    ) -> Result<bool, AllocError>
+    ) -> Result<bool, OutOfMemory>
         requires stands { Stands self.old }
         requires script { IsAt self.old.config.tick script.old }
         requires end { script.old.script.now.end < 2 ^ 61 }

@@ -17,9 +17,9 @@ use crate::effects::{Wanted, begin_wait, broadcast, signal};
 use crate::giving::{give, word_of};
 use crate::queue::{is_nobody_in, queue};
 use crate::saving::save;
+use out_of_memory::OutOfMemory;
 use replay_script::{ScriptCursor, device_value};
 use replay_state::{Activity, Config, NextAction, ProgramContext, join, prepare, raise, set_doing};
-use std::alloc::AllocError;
 
 /// The process reads from the device.
 pub fn get<'a>(
@@ -74,7 +74,7 @@ pub fn wait<'a>(
     process: usize,
     next: NextAction<'a>,
     on: Wanted,
-) -> Result<(), AllocError>
+) -> Result<(), OutOfMemory>
     ensures ok { OnOk result ((g : Program) (s : Script) → config_of config.new ≡
         (effect g s tick process (waits on.condition on.limit on.number)
         (saved (at_tick (config_of config.old) tick true) process
@@ -148,7 +148,7 @@ pub fn raise_in<'a>(
     process: usize,
     next: NextAction<'a>,
     number: u32,
-) -> Result<(), AllocError>
+) -> Result<(), OutOfMemory>
     requires { IsText text.now }
     ensures ok { OnOk result (config_of config.new ≡ after_raise
         (plain (placed text.now.declarations.now)) process number

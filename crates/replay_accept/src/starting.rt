@@ -11,9 +11,9 @@ ghost use Rattle.replay_accept.specs.Running.{AreRules, program_of};
 
 use crate::rules::Rules;
 use base::{Act, Event};
+use out_of_memory::OutOfMemory;
 use replay_due_events::Start;
 use replay_state::{Activity, Config, ProcessState, release, time_out};
-use std::alloc::AllocError;
 
 /// Whether the act is a release.
 pub fn is_release(act: Act) -> bool
@@ -85,7 +85,7 @@ pub fn come<'a>(
     config: &mut Config<'a>,
     tick: u64,
     start: Start,
-) -> Result<bool, AllocError>
+) -> Result<bool, OutOfMemory>
     requires { AreRules rules.now }
     ensures comes { IfOk result (λ comes. Comes (program_of rules.now) (config_of config.old)
         (event_of tick start) comes (config_of config.new)) }

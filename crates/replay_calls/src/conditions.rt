@@ -7,8 +7,9 @@ ghost use Rattle.source_semantics.specs.Names.{condition_in, condition_number, m
 ghost use Rattle.replay_calls.specs.Conditions.{conditions_in, spans_from};
 
 use crate::equal;
+use out_of_memory::OutOfMemory;
 use static_declarations::Declarations;
-use std::alloc::{AllocError, Global};
+use std::alloc::Global;
 use std::marker::Model;
 use syntax_tree::{Declaration, Member, Name};
 
@@ -72,7 +73,7 @@ fn place_in(name: &Name, names: &[&Name], span: Span) -> usize
 }
 
 /// Adds the name of the condition that the member is, if it is one.
-fn add_name<'a>(names: &mut Vec<&'a Name>, member: &'a Member) -> Result<(), AllocError>
+fn add_name<'a>(names: &mut Vec<&'a Name>, member: &'a Member) -> Result<(), OutOfMemory>
     ensures { OnOk result ((rest : List SpecMember) → map (λ n. n.now) names.new.items ++
         filter_map condition_in rest ≡ map (λ n. n.now) names.old.items ++
         filter_map condition_in (plain_member (placed_member member.now) ∷ rest)) }
@@ -84,7 +85,7 @@ fn add_name<'a>(names: &mut Vec<&'a Name>, member: &'a Member) -> Result<(), All
 }
 
 /// Adds the names of the conditions of a monitor.
-fn add_names<'a>(names: &mut Vec<&'a Name>, members: &'a [Member]) -> Result<(), AllocError>
+fn add_names<'a>(names: &mut Vec<&'a Name>, members: &'a [Member]) -> Result<(), OutOfMemory>
     ensures { OnOk result (map (λ n. n.now) names.new.items ≡ map (λ n. n.now) names.old.items ++
         filter_map condition_in (map plain_member (map placed_member members.now))) }
 {
@@ -99,7 +100,7 @@ fn add_monitor<'a>(
     names: &mut Vec<&'a Name>,
     spans: &mut Vec<Span>,
     decl: &'a Declaration,
-) -> Result<(), AllocError>
+) -> Result<(), OutOfMemory>
     ensures names { OnOk result ((rest : List SpecDecl) → map (λ n. n.now) names.new.items ++
         conditions_in (filter_map monitor_in rest) ≡ map (λ n. n.now) names.old.items ++
         conditions_in (filter_map monitor_in (plain_decl (placed_decl decl.now) ∷ rest))) }
@@ -123,7 +124,7 @@ impl<'a> NumberedConditions<'a> {
     pub fn new(
         alloc: Global,
         declarations: &'a Declarations<'a>,
-    ) -> Result<NumberedConditions<'a>, AllocError>
+    ) -> Result<NumberedConditions<'a>, OutOfMemory>
         ensures { IfOk result (λ c. c ≡ declarations.now) }
     {
         let decls = declarations.program().decls.as_slice();

@@ -11,9 +11,10 @@ ghost use Rattle.replay_calls.specs.Reach.{in_front};
 
 use crate::Answer;
 use crate::storing::in_range;
+use out_of_memory::OutOfMemory;
 use replay_state::{Slot, SlotValue, Subrange, Words};
 use static_declarations::Declarations;
-use std::alloc::{AllocError, Global};
+use std::alloc::Global;
 use syntax_tree::{Param, Scalar, Type, Var};
 
 /// The range that values of a type keep to, if any.
@@ -62,7 +63,7 @@ fn fresh_held(
     alloc: Global,
     declarations: &Declarations<'_>,
     kind: &Type,
-) -> Result<SlotValue, AllocError>
+) -> Result<SlotValue, OutOfMemory>
     ensures { IfOk result (λ held. held_of held ≡ held_fresh (plain (placed declarations.now))
         (plain_kind (placed_kind kind.now))) }
 {
@@ -93,7 +94,7 @@ fn fresh<'a>(
     alloc: Global,
     declarations: &Declarations<'_>,
     var: &'a Var,
-) -> Result<Slot<'a>, AllocError>
+) -> Result<Slot<'a>, OutOfMemory>
     ensures { IfOk result (λ slot. slot_of slot ≡ fresh_var (plain (placed declarations.now))
         (plain_var (placed_var var.now))) }
 {
@@ -111,7 +112,7 @@ pub fn add_fresh<'a>(
     declarations: &Declarations<'_>,
     slots: &mut Vec<Slot<'a>>,
     vars: &'a [Var],
-) -> Result<(), AllocError>
+) -> Result<(), OutOfMemory>
     ensures { OnOk result (vars_of slots.new.items ≡ vars_of slots.old.items ++
         map (fresh_var (plain (placed declarations.now)))
         (map plain_var (map placed_var vars.now))) }

@@ -6,8 +6,9 @@ ghost use Rattle.replay_state.specs.View.{home_of, slot_of, vars_of};
 ghost use Rattle.replay_calls.specs.Reach.{area_of, memory_of};
 
 use crate::slots::{slot_named, slots_copied};
+use out_of_memory::OutOfMemory;
 use replay_state::{CallOwner, Slot};
-use std::alloc::{AllocError, Global};
+use std::alloc::Global;
 use std::mem;
 use syntax_tree::Name;
 
@@ -48,7 +49,7 @@ impl<'s, 'a> CowSlots<'s, 'a> {
     }
 
     /// The variables as a list of their own, which the area does not keep any more.
-    pub fn take(&mut self, alloc: Global) -> Result<Vec<Slot<'a>>, AllocError>
+    pub fn take(&mut self, alloc: Global) -> Result<Vec<Slot<'a>>, OutOfMemory>
         ensures { IfOk result (λ slots. vars_of slots.items ≡ area_of self.old) }
     {
         match mem::replace(&mut self.kept, None) {

@@ -6,8 +6,9 @@ ghost use Rattle.replay_state.specs.View.{held_of, slot_of, vars_of};
 ghost use Rattle.replay_calls.specs.Places.{IsPlace};
 
 use crate::equal;
+use out_of_memory::OutOfMemory;
 use replay_state::{Slot, SlotValue, Words};
-use std::alloc::{AllocError, Global};
+use std::alloc::Global;
 use syntax_tree::Name;
 
 /// The first variable of that name.
@@ -35,7 +36,7 @@ pub fn place_named(name: &Name, slots: &[Slot<'_>]) -> Option<usize>
 }
 
 /// The same words once more.
-fn held_copied(alloc: Global, held: &SlotValue) -> Result<SlotValue, AllocError>
+fn held_copied(alloc: Global, held: &SlotValue) -> Result<SlotValue, OutOfMemory>
     ensures { IfOk result (λ copy. held_of copy ≡ held_of held.now) }
 {
     match held {
@@ -51,7 +52,7 @@ fn held_copied(alloc: Global, held: &SlotValue) -> Result<SlotValue, AllocError>
 }
 
 /// The same variable once more.
-fn slot_copied<'a>(alloc: Global, slot: &Slot<'a>) -> Result<Slot<'a>, AllocError>
+fn slot_copied<'a>(alloc: Global, slot: &Slot<'a>) -> Result<Slot<'a>, OutOfMemory>
     ensures { IfOk result (λ copy. slot_of copy ≡ slot_of slot.now) }
 {
     let held = held_copied(alloc, &slot.held)?;
@@ -63,7 +64,7 @@ fn slot_copied<'a>(alloc: Global, slot: &Slot<'a>) -> Result<Slot<'a>, AllocErro
 }
 
 /// The same variables once more.
-pub fn slots_copied<'a>(alloc: Global, slots: &[Slot<'a>]) -> Result<Vec<Slot<'a>>, AllocError>
+pub fn slots_copied<'a>(alloc: Global, slots: &[Slot<'a>]) -> Result<Vec<Slot<'a>>, OutOfMemory>
     ensures { IfOk result (λ copies. vars_of copies.items ≡ vars_of slots.now) }
 {
     let mut copies = Vec::new(alloc);

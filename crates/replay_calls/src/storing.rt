@@ -10,8 +10,9 @@ ghost use Rattle.replay_calls.specs.Stores.{IsStored, IsStoredAt, IsTried, accep
 use crate::memory::{CowSlots, Memory};
 use crate::place_at;
 use crate::slots::place_named;
+use out_of_memory::OutOfMemory;
 use replay_state::{CallOwner, Slot, SlotValue, Subrange, Target};
-use std::alloc::{AllocError, Global};
+use std::alloc::Global;
 use syntax_tree::Name;
 
 /// What a store to one of a list of variables came to.
@@ -102,7 +103,7 @@ fn store_beside<'a>(
     name: &Name,
     index: Option<i64>,
     value: i64,
-) -> Result<StoreResult, AllocError>
+) -> Result<StoreResult, OutOfMemory>
     ensures { IfOk result (λ stored. IsStored (put_named name.now index value (area_of area.old))
         (area_of area.old) stored (area_of area.new)) }
 {
@@ -130,7 +131,7 @@ pub fn store_to<'a>(
     home: CallOwner,
     target: Target<'a>,
     value: i64,
-) -> Result<bool, AllocError>
+) -> Result<bool, OutOfMemory>
     ensures { IfOk result (λ done. store_run done (memory_of memory.new) ≡
         store_in_reach (home_of home) (memory_of memory.old) (target_of target.entry) value) }
 {

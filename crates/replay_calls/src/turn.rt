@@ -5,12 +5,12 @@ ghost use Rattle.source_semantics.specs.Store.{up_to};
 ghost use Rattle.source_semantics.specs.Run as run_of;
 ghost use Rattle.replay_state.specs.View.{vars_of};
 
+use out_of_memory::OutOfMemory;
 use replay_state::{Slot, SlotValue};
-use std::alloc::AllocError;
 use syntax_tree::Name;
 
 /// The loop's variable comes into reach.
-pub fn push_turn<'a>(own: &mut Vec<Slot<'a>>, name: &'a Name, value: i64) -> Result<(), AllocError>
+pub fn push_turn<'a>(own: &mut Vec<Slot<'a>>, name: &'a Name, value: i64) -> Result<(), OutOfMemory>
     ensures { OnOk result ((m : run_of.Memory) →
         run_of.with_turn name.now value (run_of.with_own m (vars_of own.old.items)) ≡
         run_of.with_own m (vars_of own.new.items)) }

@@ -60,7 +60,7 @@ module _ (names : ImageNames) (words : AreWordNames names) where
   log_or_fault text events Long log long = let short = log.short in omega (arith, short, long)
   log_or_fault text events (Line line) log faulty =
       none_behind faulty.events events faulty.rest faulty.told log.told faulty.none faulty.some (sym faulty.whole ∙ (log.whole ∙ sym (append-nil (log_of names events))))
-  log_or_fault text events Memory log never = never
+  log_or_fault text events (Memory _) log never = never
 
   pub fault_once : (text : List ℕ) (fault other : LogFault) → IsFault names text fault → IsFault names text other → fault ≡ other
   fault_once text Long Long one two = refl
@@ -69,6 +69,6 @@ module _ (names : ImageNames) (words : AreWordNames names) where
   fault_once text (Line n) (Line m) one two =
       let many : length one.events ≡ length two.events = as_many one.events two.events one.rest two.rest one.told two.told one.none two.none (sym one.whole ∙ two.whole) in
       ap (λ (k : ℕ). Line k) (one.is ∙ (ap (λ k. k + 1) many ∙ sym two.is))
-  fault_once text Memory other one two = absurd one
-  fault_once text Long Memory one two = absurd two
-  fault_once text (Line n) Memory one two = absurd two
+  fault_once text (Memory _) other one two = absurd one
+  fault_once text Long (Memory _) one two = absurd two
+  fault_once text (Line n) (Memory _) one two = absurd two

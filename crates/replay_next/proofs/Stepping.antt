@@ -38,11 +38,6 @@ then_turns c is x v n ss (run.fails k m) = refl
 then_turns c is x v n ss (run.answers w m) = refl
 then_turns c is x v n ss (run.stops a inside rest m) = ap (λ l. run.stops a inside l m) (sym (joined_again rest (run.turns_left x v n ss ∷ []) is))
 
--- an item that remains after a stop
-pub then_stopped : (c : run.Site) (is : List run.Item) (i : run.Item) (a : run.Action) (inside : List run.Call) (rest : List run.Item) (m : run.Memory)
-    → then_items c is (run.stops a inside (rest ++ i ∷ []) m) ≡ then_items c (i ∷ is) (run.stops a inside rest m)
-then_stopped c is i a inside rest m = ap (λ l. run.stops a inside l m) (joined_again rest (i ∷ []) is)
-
 -- the innermost item stands last
 pub rest_pushed : (is : List Item) (i : Item) → rest_of (is ++ i ∷ []) ≡ item_of i ∷ rest_of is
 rest_pushed is i = ap (map item_of) (reverse-append is (i ∷ []))

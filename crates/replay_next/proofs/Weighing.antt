@@ -2,8 +2,8 @@
 use Rattle.std.specs.Prelude.{◌≡◌, ℕ, zero, suc, ◌+◌, ◌*◌, ◌-◌, ◌<◌, ◌≢◌}
 use Rattle.std.proofs.Common.{refl, arith}
 use Rattle.syntax_tree.specs.Plain.{Process, Program}
-use Rattle.source_semantics.specs.Run.{Found}
-use Rattle.replay_next.specs.Weights.{Costs, answers_weight, found_weight, stmts_weight}
+use Rattle.source_semantics.specs.Run.{Found, Item, do_all, enter_again, give, leave_with, receive, store, turns_left}
+use Rattle.replay_next.specs.Weights.{Costs, answers_weight, found_weight, item_weight, stmts_weight}
 
 pub found_none : (g : Program) (p : Process) (d : ℕ) (f : Found) → 0 < found_weight g p d f
 unfolding found_weight
@@ -28,3 +28,12 @@ turn_falls a zero u some = absurd (some refl)
 turn_falls a (suc n) u some =
     let less : suc n - 1 ≡ n = omega arith in
     rw less (omega arith)
+
+pub item_weighs : (k : Costs) (i : Item) → 0 < item_weight k i
+item_weighs k (do_all ss) = omega arith
+item_weighs k (turns_left x v n ss) = omega arith
+item_weighs k (receive t) = omega arith
+item_weighs k (store t v) = omega arith
+item_weighs k (enter_again mon) = omega arith
+item_weighs k (leave_with a mon) = omega arith
+item_weighs k (give v) = omega arith

@@ -83,11 +83,13 @@ abbrev pub callers_run : code_scope.EvalContext → List code_caller.Caller → 
 callers_run s [] now r = r
 callers_run s (f ∷ fs) now r = within s f (outside_all fs now) (callers_run s fs now r)
 
--- what the outermost call comes to from this step of the one that runs
+-- what the outermost call comes to where the one that runs came to this, and its items remain
+abbrev pub after_run : code_scope.EvalContext → code_running.Running → code_memory.Memory → run.Run → run.Run
+after_run s p m r = callers_run s p.callers.items (others_of p.kept m) (then_items (site_of s p.home p.depth) (rest_of p.rest.items) r)
+
+-- and from this step of it
 abbrev pub running_run : code_scope.EvalContext → code_running.Running → code_step.Step → code_memory.Memory → run.Run
-running_run s p step m =
-    let c = site_of s p.home p.depth in
-    callers_run s p.callers.items (others_of p.kept m) (then_items c (rest_of p.rest.items) (step_of c step (memory_of m)))
+running_run s p step m = after_run s p m (step_of (site_of s p.home p.depth) step (memory_of m))
 
 -- where no caller is left the run is over
 abbrev pub driven_run : code_scope.EvalContext → code_running.Running → code_driven.Driven → code_memory.Memory → run.Run
@@ -125,6 +127,10 @@ callers_weight s (f ∷ fs) = caller_weight s f + callers_weight s fs
 
 abbrev pub running_weight : code_scope.EvalContext → code_running.Running → code_step.Step → ℕ
 running_weight s p step = callers_weight s p.callers.items + (items_weight (costs s p.depth) p.rest.items + step_weight (costs s p.depth) step)
+
+-- beside the step
+abbrev pub after_weight : code_scope.EvalContext → code_running.Running → ℕ
+after_weight s p = callers_weight s p.callers.items + items_weight (costs s p.depth) p.rest.items
 
 -- less is left to do than this
 abbrev pub HasGone : code_scope.EvalContext → code_running.Running → code_driven.Driven → ℕ → Type 0

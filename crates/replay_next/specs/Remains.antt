@@ -112,8 +112,8 @@ stmt_told c m (stmt_is.Choice first second) a = run.with_value a m (λ v. cond (
 stmt_told c m stmt_is.Exit a = run.with_value a m (λ v. cond (w.is_true v) (run.exits m) (run.goes m))
 stmt_told c m stmt_is.Assertion a = run.with_value a m (λ v. cond (w.is_true v) (run.goes m) (run.fails 4 m))
 stmt_told c m (stmt_is.Put d) a = run.with_value a m (λ v. run.stops (run.puts (device_number c.program d.now) v) [] [] m)
-stmt_told c m (stmt_is.Perform f b) a = run.performed c m (found_of f) (binding_bound c m b a)
-stmt_told c m (stmt_is.Enter f b mon t) a = run.entered c m (found_of f) mon (binding_bound c m b a) (receiving (option_map target_of t))
+stmt_told c m (stmt_is.Perform k) a = run.performed c m (found_of k.value.found) (binding_bound c m k.value.binding a)
+stmt_told c m (stmt_is.Enter k mon t) a = run.entered c m (found_of k.value.found) mon (binding_bound c m k.value.binding a) (receiving (option_map target_of t))
 stmt_told c m (stmt_is.Leave mon kind) a = run.with_value (in_type c kind.now a) m (λ v. run.stops (run.leaves mon) [] (run.give v ∷ []) m)
 stmt_told c m (stmt_is.Result kind) a = run.with_value (in_type c kind.now a) m (λ v. run.answers v m)
 

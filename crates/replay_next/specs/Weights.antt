@@ -135,8 +135,8 @@ use_weight k _ = 0
 abbrev pub stmt_item_weight : Costs → code_stmt.StmtItem → ℕ
 stmt_item_weight k (stmt_is.Index x then) = suc (use_weight k then)
 stmt_item_weight k (stmt_is.Choice first second) = suc (suc (stmts_weight k (stmts_of first.now) + stmts_weight k (stmts_of second.now)))
-stmt_item_weight k (stmt_is.Perform f b) = suc (k.found (found_of f) + exprs_weight k (exprs_of b.args.now))
-stmt_item_weight k (stmt_is.Enter f b mon t) = suc (exprs_weight k (exprs_of b.args.now))
+stmt_item_weight k (stmt_is.Perform x) = suc (k.found (found_of x.value.found) + exprs_weight k (exprs_of x.value.binding.args.now))
+stmt_item_weight k (stmt_is.Enter x mon t) = suc (exprs_weight k (exprs_of x.value.binding.args.now))
 stmt_item_weight k _ = 1
 
 abbrev pub remains_weight : Costs → code_remains.Remains → ℕ

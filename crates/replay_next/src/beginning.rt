@@ -16,15 +16,17 @@ ghost use Rattle.replay_next.specs.Weights.{Costs, bound_weight, costs, expr_wei
 use crate::binding::next_argument;
 use crate::calling::{entered, own_vars, statements};
 use crate::remains::{
-    BoundSoFar, CalledRoutine, ItemResult, Part, Remains, Step, StmtItem, TargetUse,
+    AwaitingCall, Binding, BoundSoFar, CalledRoutine, ItemResult, Part, Remains, Step, StmtItem,
+    TargetUse,
 };
 use crate::results::{RunResult, stops};
 use crate::visible::{device_here, monitor_here, waits};
+use out_of_memory::OutOfMemory;
 use replay_calls::{
     EvalContext, ResolvedRoutine, condition_here, entry_named, routine_named, turn_count,
 };
 use replay_state::{Action, CallOwner, Item, Target, TurnsLeft, count};
-use std::alloc::{AllocError, Global};
+use std::alloc::Global;
 use syntax_tree::{Constant, Expr, List, Name, Ref, Stmt};
 
 /// A statement came to this.
@@ -47,12 +49,25 @@ pub fn evaluates<'a>(alloc: Global, part: &'a Expr, stmt: StmtItem<'a>) -> Step<
     Step::Part(Part::Expr(part), Remains { exprs, stmt })
 }
 
+/// A call, an argument of which is to be evaluated.
+fn awaiting<'a>(
+    alloc: Global,
+    found: ResolvedRoutine<'a>,
+    binding: Binding<'a>,
+) -> Result<Box<AwaitingCall<'a>>, OutOfMemory>
+    ensures found { IfOk result (λ call. call.value.found ≡ found.entry) }
+    ensures binding { IfOk result (λ call. call.value.binding ≡ binding.entry) }
+{
+    let call = Box::new(alloc, AwaitingCall { found, binding })?;
+    Ok(call)
+}
+
 /// A call of a procedure, its arguments so far.
 pub fn procedure_called<'a>(
     scope: &EvalContext<'a>,
     found: ResolvedRoutine<'a>,
     bound: BoundSoFar<'a>,
-) -> Result<Step<'a>, AllocError>
+) -> Result<Step<'a>, OutOfMemory>
     ensures run { IfOk result (λ step. (c : run_of.Site) (m : run_of.Memory) →
         c.program ≡ plain (placed scope.now.declarations.now) → step_of c step m ≡
         run_of.performed c m (found_of found.entry) (bound_of c m bound.entry)) }
@@ -62,7 +77,8 @@ pub fn procedure_called<'a>(
     match bound {
         BoundSoFar::Raised(number) => Ok(ran(RunResult::Fails(number))),
         BoundSoFar::Next(part, binding) => {
-            Ok(evaluates(scope.alloc, part, StmtItem::Perform { found, binding }))
+            let call = awaiting(scope.alloc, found, binding)?;
+            Ok(evaluates(scope.alloc, part, StmtItem::Perform(call)))
         }
         BoundSoFar::All(params) => {
             let own = own_vars(scope.alloc, scope.declarations, found.routine, params)?;
@@ -78,7 +94,7 @@ fn perform<'a>(
     depth: usize,
     name: &Name,
     args: &'a [Expr],
-) -> Result<Step<'a>, AllocError>
+) -> Result<Step<'a>, OutOfMemory>
     ensures run { let c = site_of scope.now home depth in IfOk result (λ step.
         (m : run_of.Memory) → step_of c step m ≡
         run_of.perform_named c m name.now (exprs_of args.now)) }
@@ -102,7 +118,7 @@ pub fn entry_called<'a>(
     bound: BoundSoFar<'a>,
     mon: usize,
     target: Option<Target<'a>>,
-) -> Result<Step<'a>, AllocError>
+) -> Result<Step<'a>, OutOfMemory>
     ensures run { IfOk result (λ step. (c : run_of.Site) (m : run_of.Memory) →
         c.program ≡ plain (placed scope.now.declarations.now) → step_of c step m ≡
         run_of.entered c m (found_of found.entry) mon (bound_of c m bound.entry)
@@ -113,13 +129,8 @@ pub fn entry_called<'a>(
     match bound {
         BoundSoFar::Raised(number) => Ok(ran(RunResult::Fails(number))),
         BoundSoFar::Next(part, binding) => {
-            let item = StmtItem::Enter {
-                found,
-                binding,
-                mon,
-                target,
-            };
-            Ok(evaluates(scope.alloc, part, item))
+            let call = awaiting(scope.alloc, found, binding)?;
+            Ok(evaluates(scope.alloc, part, StmtItem::Enter { call, mon, target }))
         }
         BoundSoFar::All(params) => {
             let result = entered(scope, &found, mon, params, target)?;
@@ -137,7 +148,7 @@ fn enter<'a>(
     entry: &Name,
     args: &'a [Expr],
     target: Option<Target<'a>>,
-) -> Result<Step<'a>, AllocError>
+) -> Result<Step<'a>, OutOfMemory>
     ensures run { let c = site_of scope.now home depth in IfOk result (λ step.
         (m : run_of.Memory) → step_of c step m ≡ run_of.enter_named c m mon.now entry.now
         (exprs_of args.now) (receiving (option_map target_of target.entry))) }
@@ -155,7 +166,7 @@ fn enter<'a>(
 }
 
 /// A visible action, after which a value is received.
-fn asks<'a>(alloc: Global, action: Action, target: Target<'a>) -> Result<Step<'a>, AllocError>
+fn asks<'a>(alloc: Global, action: Action, target: Target<'a>) -> Result<Step<'a>, OutOfMemory>
     ensures run { IfOk result (λ step. (c : run_of.Site) (m : run_of.Memory) → step_of c step m ≡
         run_of.stops (action_of action) [] (run_of.receive (target_of target.entry) ∷ []) m) }
     ensures falls { IfOk result (λ step. (k : Costs) → step_weight k step ≡ 0) }
@@ -171,7 +182,7 @@ pub fn use_target<'a>(
     depth: usize,
     then: TargetUse<'a>,
     target: Target<'a>,
-) -> Result<Step<'a>, AllocError>
+) -> Result<Step<'a>, OutOfMemory>
     ensures run { let c = site_of scope.now home depth in IfOk result (λ step.
         (m : run_of.Memory) → step_of c step m ≡ used c m then.entry (target_of target.entry)) }
     ensures falls { IfOk result (λ step. (k : Costs) →
@@ -200,7 +211,7 @@ fn aim<'a>(
     depth: usize,
     target: &'a Ref,
     then: TargetUse<'a>,
-) -> Result<Step<'a>, AllocError>
+) -> Result<Step<'a>, OutOfMemory>
     ensures run { let c = site_of scope.now home depth in IfOk result (λ step.
         (m : run_of.Memory) → step_of c step m ≡ run_of.with_target c m
         (plain_ref (placed_ref target.now)) (λ t. used c m then.entry t)) }
@@ -267,7 +278,7 @@ pub fn begin<'a>(
     home: CallOwner,
     depth: usize,
     stmt: &'a Stmt,
-) -> Result<Step<'a>, AllocError>
+) -> Result<Step<'a>, OutOfMemory>
     ensures run { let c = site_of scope.now home depth in IfOk result (λ step.
         (m : run_of.Memory) → step_of c step m ≡
         run_of.run c m (plain_stmt (placed_stmt stmt.now))) }

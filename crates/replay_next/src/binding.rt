@@ -11,9 +11,9 @@ ghost use Rattle.replay_next.specs.Remains.{binding_bound, bound_of, exprs_of, i
 ghost use Rattle.replay_next.specs.Weights.{Costs, bound_weight, exprs_weight};
 
 use crate::remains::{Binding, BoundSoFar};
+use out_of_memory::OutOfMemory;
 use replay_calls::{Answer, ArgumentResult, EvalContext, param_variable};
 use replay_state::Slot;
-use std::alloc::AllocError;
 use syntax_tree::{Expr, Param};
 
 /// The next argument, where there is one for a parameter.
@@ -49,7 +49,7 @@ pub fn bind<'a>(
     scope: &EvalContext<'a>,
     binding: Binding<'a>,
     answer: Answer,
-) -> Result<BoundSoFar<'a>, AllocError>
+) -> Result<BoundSoFar<'a>, OutOfMemory>
     ensures bound { IfOk result (λ at. (c : run_of.Site) (m : run_of.Memory) →
         c.program ≡ plain (placed scope.now.declarations.now) →
         bound_of c m at ≡ binding_bound c m binding.entry (answer_of answer)) }

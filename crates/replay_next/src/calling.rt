@@ -8,10 +8,11 @@ ghost use Rattle.replay_calls.specs.Lookups.{found_of};
 ghost use Rattle.replay_next.specs.Ran.{ran_of, receiving};
 
 use crate::results::{RunResult, Stop, stopped_in};
+use out_of_memory::OutOfMemory;
 use replay_calls::{EvalContext, ResolvedRoutine, add_fresh, home_in};
 use replay_state::{Action, Call, CallOwner, Item, ResultExpr, Slot, Target};
 use static_declarations::Declarations;
-use std::alloc::{AllocError, Global};
+use std::alloc::Global;
 use std::mem;
 use syntax_tree::{List, Routine, Stmt};
 
@@ -41,7 +42,7 @@ pub fn own_vars<'a>(
     declarations: &Declarations<'_>,
     routine: &'a Routine,
     params: Vec<Slot<'a>>,
-) -> Result<Vec<Slot<'a>>, AllocError>
+) -> Result<Vec<Slot<'a>>, OutOfMemory>
     ensures { IfOk result (λ own. vars_of own.items ≡
         run_of.own_vars (plain (placed declarations.now))
         (plain_routine (placed_routine routine.now)) (vars_of params.entry.items)) }
@@ -57,7 +58,7 @@ fn entry_call<'a>(
     found: &ResolvedRoutine<'a>,
     mon: usize,
     own: Vec<Slot<'a>>,
-) -> Result<Call<'a>, AllocError>
+) -> Result<Call<'a>, OutOfMemory>
     ensures { IfOk result (λ call. call_of call ≡
         run_of.entry_call (found_of found.now) mon (vars_of own.entry.items)) }
 {
@@ -81,7 +82,7 @@ pub fn entered<'a>(
     mon: usize,
     params: Vec<Slot<'a>>,
     target: Option<Target<'a>>,
-) -> Result<RunResult<'a>, AllocError>
+) -> Result<RunResult<'a>, OutOfMemory>
     ensures { IfOk result (λ ran. (c : run_of.Site) (m : run_of.Memory) →
         c.program ≡ plain (placed scope.now.declarations.now) → ran_of ran m ≡
         run_of.entered c m (found_of found.now) mon (run_of.bound (vars_of params.entry.items))
@@ -108,7 +109,7 @@ pub fn given_back<'a>(
     own: &mut Vec<Slot<'a>>,
     callers: Vec<Slot<'a>>,
     ran: RunResult<'a>,
-) -> Result<RunResult<'a>, AllocError>
+) -> Result<RunResult<'a>, OutOfMemory>
     ensures { IfOk result (λ all. (m : run_of.Memory) →
         ran_of all (run_of.with_own m (vars_of own.new.items)) ≡
         run_of.within_caller (home_of home) (vars_of callers.entry.items)

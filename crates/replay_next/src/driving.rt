@@ -4,28 +4,31 @@ ghost use Rattle.std.specs.Prelude.{◌≡◌, ◌+◌, ◌-◌, ◌<◌, ◌≤
 ghost use Rattle.source_semantics.specs.Next as next_of_source;
 ghost use Rattle.source_semantics.specs.Run as run_of;
 ghost use Rattle.source_semantics.specs.Store as vars;
-ghost use Rattle.replay_state.specs.View.{answers_of, item_of, vars_of};
+ghost use Rattle.replay_state.specs.View.{action_of, answers_of, calls_of, item_of, vars_of};
 ghost use Rattle.replay_calls.specs.declared.lookup.EvalContext as code_scope;
 ghost use Rattle.replay_calls.specs.Reach.{area_of, memory_of, site_of};
 ghost use Rattle.replay_calls.specs.Seen.{answer_of};
-ghost use Rattle.replay_next.specs.Driving.{HasGone, answer_within, callers_run, callers_weight, driven_run, end_answer, end_weight, function_weight, function_within, others_in, others_of, procedure_weight, procedure_within, running_run, running_weight, waiting_weight};
+ghost use Rattle.replay_next.specs.Driving.{HasGone, after_run, after_weight, answer_within, callers_run, callers_weight, driven_run, end_answer, end_weight, function_weight, function_within, others_in, others_of, procedure_weight, procedure_within, running_run, running_weight, waiting_weight};
 ghost use Rattle.replay_next.specs.Ran.{ran_of};
 ghost use Rattle.replay_next.specs.Remains.{came_of, came_step, function_step, part_step, procedure_step};
 ghost use Rattle.replay_next.specs.Weights.{Costs, answers_weight, costs};
 
-use crate::beginning::evaluates;
+use crate::at_once::at_once;
+use crate::beginning::{evaluates, ran};
 use crate::calling::{answering, given_back, statements};
 use crate::evaluating::evaluate;
-use crate::items::{next_item, next_stmt, next_turn};
+use crate::items::{begin_item, leave_item, next_stmt, next_turn};
 use crate::remains::{
-    Beside, CalledRoutine, Caller, Driven, FunctionCaller, FunctionEnd, ItemResult, Part,
-    ProcedureCaller, Remains, Running, Step, StmtItem,
+    CalledRoutine, Caller, Driven, FunctionCaller, FunctionEnd, ItemResult, Part, ProcedureCaller,
+    Remains, Running, Step, StmtItem,
 };
-use crate::results::RunResult;
+use crate::results::{RunResult, Stop, stopped_before};
+use crate::storing::back_beside;
 use crate::telling::tell;
+use out_of_memory::OutOfMemory;
 use replay_calls::{Answer, EvalContext, Memory, home_in};
 use replay_state::{CallOwner, Item, ResultExpr};
-use std::alloc::{AllocError, Global};
+use std::alloc::Global;
 use std::mem;
 
 /// A procedure begins; its caller waits.
@@ -34,7 +37,7 @@ fn call_procedure<'s, 'a>(
     memory: &mut Memory<'s, 'a>,
     running: &mut Running<'s, 'a>,
     called: CalledRoutine<'a>,
-) -> Result<Step<'a>, AllocError>
+) -> Result<Step<'a>, OutOfMemory>
     ensures run { IfOk result (λ step. running_run scope.now running.new step memory.new ≡
         running_run scope.now running.old (procedure_step called.entry) memory.old) }
     ensures falls { IfOk result (λ step. running_weight scope.now running.new step <
@@ -69,7 +72,7 @@ fn call_function<'s, 'a>(
     running: &mut Running<'s, 'a>,
     called: CalledRoutine<'a>,
     remains: Remains<'a>,
-) -> Result<Step<'a>, AllocError>
+) -> Result<Step<'a>, OutOfMemory>
     ensures run { IfOk result (λ step. running_run scope.now running.new step memory.new ≡
         running_run scope.now running.old (function_step called.entry remains.entry) memory.old) }
     ensures falls { IfOk result (λ step. running_weight scope.now running.new step <
@@ -121,7 +124,7 @@ fn procedure_over<'s, 'a>(
     running: &mut Running<'s, 'a>,
     caller: ProcedureCaller<'a>,
     came: ItemResult<'a>,
-) -> Result<Step<'a>, AllocError>
+) -> Result<Step<'a>, OutOfMemory>
     ensures run { IfOk result (λ step. running_run scope.now running.new step memory.new ≡
         callers_run scope.now running.old.callers.items (others_of running.old.kept memory.old)
         (procedure_within scope.now caller.entry (came_of came.entry (memory_of memory.old)))) }
@@ -170,23 +173,6 @@ fn function_end<'a>(came: ItemResult<'a>, value: Option<ResultExpr<'a>>) -> Func
     }
 }
 
-/// The variables beside its own are those of a function's caller again.
-fn back_beside<'s, 'a>(
-    memory: &mut Memory<'s, 'a>,
-    kept: &mut Option<Beside<'s, 'a>>,
-    before: Option<Beside<'s, 'a>>,
-)
-    ensures process { area_of memory.new.process ≡ (others_of kept.old memory.old).process }
-    ensures monitor { area_of memory.new.monitor ≡ (others_of kept.old memory.old).monitor }
-    ensures own { vars_of memory.new.own.items ≡ vars_of memory.old.own.items }
-    ensures kept { kept.new ≡ before.entry }
-{
-    if let Some(beside) = mem::replace(kept, before) {
-        memory.process = beside.process;
-        memory.monitor = beside.monitor;
-    }
-}
-
 /// The caller of a function goes on, whose answer is this.
 fn answer_given<'s, 'a>(
     memory: &mut Memory<'s, 'a>,
@@ -225,7 +211,7 @@ fn evaluate_result<'s, 'a>(
     running: &mut Running<'s, 'a>,
     caller: FunctionCaller<'s, 'a>,
     value: ResultExpr<'a>,
-) -> Result<Step<'a>, AllocError>
+) -> Result<Step<'a>, OutOfMemory>
     ensures run { IfOk result (λ step. (s : code_scope.EvalContext) →
         let f = caller.entry in
         let now = others_of running.old.kept memory.now in
@@ -255,7 +241,7 @@ fn function_over<'s, 'a>(
     running: &mut Running<'s, 'a>,
     caller: FunctionCaller<'s, 'a>,
     came: ItemResult<'a>,
-) -> Result<Step<'a>, AllocError>
+) -> Result<Step<'a>, OutOfMemory>
     ensures run { IfOk result (λ step. (s : code_scope.EvalContext) →
         let now = others_of running.old.kept memory.old in
         running_run s running.new step memory.new ≡
@@ -277,7 +263,7 @@ fn returned<'s, 'a>(
     memory: &mut Memory<'s, 'a>,
     running: &mut Running<'s, 'a>,
     came: ItemResult<'a>,
-) -> Result<Driven<'a>, AllocError>
+) -> Result<Driven<'a>, OutOfMemory>
     ensures run { IfOk result (λ driven. driven_run scope.now running.new driven memory.new ≡
         callers_run scope.now running.old.callers.items (others_of running.old.kept memory.old)
         (came_of came.entry (memory_of memory.old))) }
@@ -295,29 +281,107 @@ fn returned<'s, 'a>(
     }
 }
 
+/// The step, or the one after it where it is a part of an expression.
+fn part_met<'s, 'a>(
+    scope: &EvalContext<'a>,
+    memory: &mut Memory<'s, 'a>,
+    running: &mut Running<'s, 'a>,
+    step: Step<'a>,
+) -> Result<Step<'a>, OutOfMemory>
+    ensures run { IfOk result (λ next. running_run scope.now running.new next memory.new ≡
+        running_run scope.now running.old step.entry memory.old) }
+    ensures falls { IfOk result (λ next. running_weight scope.now running.new next ≤
+        running_weight scope.now running.old step.entry) }
+{
+    match step {
+        Step::Part(part, remains) => next_part(scope, memory, running, part, remains),
+        other => Ok(other),
+    }
+}
+
+/// The next step of the call that runs, which goes on.
+fn goes_on<'s, 'a>(
+    scope: &EvalContext<'a>,
+    memory: &mut Memory<'s, 'a>,
+    running: &mut Running<'s, 'a>,
+) -> Result<Driven<'a>, OutOfMemory>
+    ensures run { IfOk result (λ driven. driven_run scope.now running.new driven memory.new ≡
+        after_run scope.now running.old memory.old (run_of.goes (memory_of memory.old))) }
+    ensures falls { IfOk result (λ driven. HasGone scope.now running.new driven
+        (after_weight scope.now running.old)) }
+{
+    match running.rest.pop() {
+        None => returned(scope, memory, running, ItemResult::Ran(RunResult::Goes)),
+        Some(item) => {
+            let home = running.home;
+            let depth = running.depth;
+            let kept = &mut running.kept;
+            let rest = &mut running.rest;
+            let step = begin_item(scope, home, depth, memory, kept, rest, item)?;
+            Ok(Driven::At(part_met(scope, memory, running, step)?))
+        }
+    }
+}
+
+/// The next step of the call that runs, whose innermost loop is being left.
+fn exits_on<'s, 'a>(
+    scope: &EvalContext<'a>,
+    memory: &mut Memory<'s, 'a>,
+    running: &mut Running<'s, 'a>,
+) -> Result<Driven<'a>, OutOfMemory>
+    ensures run { IfOk result (λ driven. driven_run scope.now running.new driven memory.new ≡
+        after_run scope.now running.old memory.old (run_of.exits (memory_of memory.old))) }
+    ensures falls { IfOk result (λ driven. HasGone scope.now running.new driven
+        (after_weight scope.now running.old)) }
+{
+    match running.rest.pop() {
+        None => returned(scope, memory, running, ItemResult::Ran(RunResult::Exits)),
+        Some(item) => Ok(Driven::At(ran(leave_item(memory, item)))),
+    }
+}
+
+/// The caller of the call that runs goes on, since that stops; its items remain.
+fn stops_with<'s, 'a>(
+    scope: &EvalContext<'a>,
+    memory: &mut Memory<'s, 'a>,
+    running: &mut Running<'s, 'a>,
+    stop: Stop<'a>,
+) -> Result<Driven<'a>, OutOfMemory>
+    ensures run { IfOk result (λ driven. driven_run scope.now running.new driven memory.new ≡
+        after_run scope.now running.old memory.old (run_of.stops (action_of stop.entry.action)
+        (calls_of stop.entry.inside.items) (map item_of stop.entry.rest.items)
+        (memory_of memory.old))) }
+    ensures falls { IfOk result (λ driven. HasGone scope.now running.new driven
+        (after_weight scope.now running.old)) }
+{
+    let items = mem::replace(&mut running.rest, Vec::new(scope.alloc));
+    let whole = stopped_before(stop, items)?;
+    returned(scope, memory, running, ItemResult::Ran(whole))
+}
+
 /// The next step of the call that runs, which came to this.
 fn go_on<'s, 'a>(
     scope: &EvalContext<'a>,
     memory: &mut Memory<'s, 'a>,
     running: &mut Running<'s, 'a>,
     came: ItemResult<'a>,
-) -> Result<Driven<'a>, AllocError>
+) -> Result<Driven<'a>, OutOfMemory>
     ensures run { IfOk result (λ driven. driven_run scope.now running.new driven memory.new ≡
         running_run scope.now running.old (came_step came.entry) memory.old) }
     ensures falls { IfOk result (λ driven. HasGone scope.now running.new driven
         (running_weight scope.now running.old (came_step came.entry))) }
 {
-    match running.rest.pop() {
-        None => returned(scope, memory, running, came),
-        Some(item) => {
-            let Running {
-                home,
-                depth,
-                kept,
-                ..
-            } = running;
-            Ok(Driven::At(next_item(scope, *home, *depth, memory, kept, came, item)?))
-        }
+    match came {
+        ItemResult::Gives(value) => returned(scope, memory, running, ItemResult::Gives(value)),
+        ItemResult::Ran(ran) => match ran {
+            RunResult::Goes => goes_on(scope, memory, running),
+            RunResult::Exits => exits_on(scope, memory, running),
+            RunResult::Stops(stop) => stops_with(scope, memory, running, stop),
+            RunResult::Fails(number) => {
+                let fails = ItemResult::Ran(RunResult::Fails(number));
+                returned(scope, memory, running, fails)
+            }
+        },
     }
 }
 
@@ -328,7 +392,7 @@ fn next_part<'s, 'a>(
     running: &mut Running<'s, 'a>,
     part: Part<'a>,
     remains: Remains<'a>,
-) -> Result<Step<'a>, AllocError>
+) -> Result<Step<'a>, OutOfMemory>
     ensures run { IfOk result (λ step. running_run scope.now running.new step memory.new ≡
         running_run scope.now running.old (part_step part.entry remains.entry) memory.old) }
     ensures falls { IfOk result (λ step. running_weight scope.now running.new step <
@@ -337,17 +401,16 @@ fn next_part<'s, 'a>(
     let home = running.home;
     let depth = running.depth;
     match part {
-        Part::Expr(expr) => evaluate(scope, home, depth, memory, expr, remains),
+        Part::Expr(expr) => match at_once(scope, home, depth, memory, expr) {
+            None => evaluate(scope, home, depth, memory, expr, remains),
+            Some(answer) => {
+                let kept = &mut running.kept;
+                tell(scope, home, depth, memory, kept, remains, answer)
+            }
+        },
         Part::Answer(answer) => {
-            tell(
-                scope,
-                home,
-                depth,
-                memory,
-                &mut running.kept,
-                remains,
-                answer,
-            )
+            let kept = &mut running.kept;
+            tell(scope, home, depth, memory, kept, remains, answer)
         }
         Part::Call(called) => call_function(scope, memory, running, called, remains),
     }
@@ -359,7 +422,7 @@ fn drive<'s, 'a>(
     memory: &mut Memory<'s, 'a>,
     running: &mut Running<'s, 'a>,
     step: Step<'a>,
-) -> Result<Driven<'a>, AllocError>
+) -> Result<Driven<'a>, OutOfMemory>
     ensures run { IfOk result (λ driven. driven_run scope.now running.new driven memory.new ≡
         running_run scope.now running.old step.entry memory.old) }
     ensures falls { IfOk result (λ driven. HasGone scope.now running.new driven
@@ -377,7 +440,8 @@ fn drive<'s, 'a>(
         }
         Step::Does(stmts) => {
             let rest = &mut running.rest;
-            Ok(Driven::At(next_stmt(scope, home, depth, rest, stmts)?))
+            let step = next_stmt(scope, home, depth, rest, stmts)?;
+            Ok(Driven::At(part_met(scope, memory, running, step)?))
         }
         Step::Turns { name, turns, body } => {
             let rest = &mut running.rest;
@@ -392,7 +456,7 @@ fn run_on<'s, 'a>(
     memory: &mut Memory<'s, 'a>,
     running: &mut Running<'s, 'a>,
     first: Step<'a>,
-) -> Result<ItemResult<'a>, AllocError>
+) -> Result<ItemResult<'a>, OutOfMemory>
     ensures { IfOk result (λ came. came_of came (memory_of memory.new) ≡
         running_run scope.now running.old first.entry memory.old) }
 {
@@ -411,12 +475,12 @@ pub fn run_whole<'s, 'a>(
     home: CallOwner,
     depth: usize,
     memory: &mut Memory<'s, 'a>,
-    items: &[Item<'a>],
-) -> Result<ItemResult<'a>, AllocError>
+    items: Vec<Item<'a>>,
+) -> Result<ItemResult<'a>, OutOfMemory>
     ensures { IfOk result (λ came. came_of came (memory_of memory.new) ≡ next_of_source.run_items
-        (site_of scope.now home depth) (memory_of memory.old) (map item_of items.now)) }
+        (site_of scope.now home depth) (memory_of memory.old) (map item_of items.entry.items)) }
 {
-    let mut rest = Vec::from_slice(scope.alloc, items)?;
+    let mut rest = items;
     rest.reverse();
     let mut running = Running {
         home,

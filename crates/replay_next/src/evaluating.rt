@@ -14,12 +14,12 @@ ghost use Rattle.replay_next.specs.Weights.{Costs, bound_weight, costs, expr_ite
 use crate::binding::{bind, next_argument};
 use crate::calling::own_vars;
 use crate::remains::{BoundSoFar, CalledRoutine, ExprItem, Part, Remains, Step};
+use out_of_memory::OutOfMemory;
 use replay_calls::{
     Answer, EvalContext, Memory, ResolvedRoutine, element, joined, minus, name_value, opposite,
     routine_named,
 };
 use replay_state::CallOwner;
-use std::alloc::AllocError;
 use syntax_tree::{Expr, Name, Op};
 
 /// A part of an expression is evaluated next, after which this remains besides.
@@ -27,7 +27,7 @@ fn deeper<'a>(
     part: &'a Expr,
     item: ExprItem<'a>,
     remains: Remains<'a>,
-) -> Result<Step<'a>, AllocError>
+) -> Result<Step<'a>, OutOfMemory>
     ensures run { IfOk result (λ step. (c : run_of.Site) (m : run_of.Memory) → step_of c step m ≡
         told c m remains.entry (item_told c m item.entry (run_of.value c m (expr_of part.now)))) }
     ensures falls { IfOk result (λ step. (k : Costs) → step_weight k step ≡
@@ -45,7 +45,7 @@ fn function_called<'a>(
     found: ResolvedRoutine<'a>,
     bound: BoundSoFar<'a>,
     remains: Remains<'a>,
-) -> Result<Step<'a>, AllocError>
+) -> Result<Step<'a>, OutOfMemory>
     ensures run { IfOk result (λ step. (c : run_of.Site) (m : run_of.Memory) →
         c.program ≡ plain (placed scope.now.declarations.now) → step_of c step m ≡
         told c m remains.entry (run_of.answer_of c m (found_of found.entry)
@@ -75,7 +75,7 @@ fn call<'a>(
     name: &Name,
     args: &'a [Expr],
     remains: Remains<'a>,
-) -> Result<Step<'a>, AllocError>
+) -> Result<Step<'a>, OutOfMemory>
     ensures run { let c = site_of scope.now home depth in let m = memory_of memory.now in
         IfOk result (λ step. step_of c step m ≡ told c m remains.entry
         (run_of.value c m (called_expr name.now (exprs_of args.now)))) }
@@ -101,7 +101,7 @@ pub fn evaluate<'a>(
     memory: &Memory<'_, 'a>,
     expr: &'a Expr,
     remains: Remains<'a>,
-) -> Result<Step<'a>, AllocError>
+) -> Result<Step<'a>, OutOfMemory>
     ensures run { let c = site_of scope.now home depth in let m = memory_of memory.now in
         IfOk result (λ step. step_of c step m ≡
         told c m remains.entry (run_of.value c m (expr_of expr.now))) }
@@ -136,7 +136,7 @@ fn row<'a>(
     left: Answer,
     rest: &'a [(Op, Expr)],
     remains: Remains<'a>,
-) -> Result<Step<'a>, AllocError>
+) -> Result<Step<'a>, OutOfMemory>
     ensures run { IfOk result (λ step. (c : run_of.Site) (m : run_of.Memory) → step_of c step m ≡
         told c m remains.entry (with_word (answer_of left)
         (λ v. run_of.row_value c m (operands_of rest.now) v))) }
@@ -168,7 +168,7 @@ pub fn tell_expr<'a>(
     item: ExprItem<'a>,
     answer: Answer,
     remains: Remains<'a>,
-) -> Result<Step<'a>, AllocError>
+) -> Result<Step<'a>, OutOfMemory>
     ensures run { let c = site_of scope.now home depth in let m = memory_of memory.now in
         IfOk result (λ step. step_of c step m ≡
         told c m remains.entry (item_told c m item.entry (answer_of answer))) }

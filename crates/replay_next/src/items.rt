@@ -8,16 +8,17 @@ ghost use Rattle.replay_calls.specs.Reach.{memory_of, site_of};
 ghost use Rattle.replay_next.specs.Driving.{others_of, rest_of, then_items};
 ghost use Rattle.replay_next.specs.declared.remains.Beside as code_beside;
 ghost use Rattle.replay_next.specs.Ran.{ran_of};
-ghost use Rattle.replay_next.specs.Remains.{came_of, step_of, stmts_of};
+ghost use Rattle.replay_next.specs.Remains.{step_of, stmts_of};
 ghost use Rattle.replay_next.specs.Weights.{Costs, answers_weight, costs, item_weight, items_weight, step_weight, stmts_weight};
 
 use crate::beginning::{begin, evaluates, ran};
 use crate::remains::{Beside, ItemResult, Step, StmtItem};
-use crate::results::{RunResult, stopped_before, stops};
+use crate::results::{RunResult, stops};
 use crate::storing::store;
+use out_of_memory::OutOfMemory;
 use replay_calls::{Answer, EvalContext, Memory, drop_turn, push_turn};
 use replay_state::{Action, CallOwner, Item, ResultExpr, Slot, TurnsLeft};
-use std::alloc::{AllocError, Global};
+use std::alloc::Global;
 use syntax_tree::{Name, Stmt};
 
 /// The end of an entry: its answer is evaluated inside the monitor.
@@ -25,7 +26,7 @@ fn leave_with<'a>(
     alloc: Global,
     answers: Option<ResultExpr<'a>>,
     mon: usize,
-) -> Result<Step<'a>, AllocError>
+) -> Result<Step<'a>, OutOfMemory>
     ensures run { IfOk result (λ step. (c : run_of.Site) (m : run_of.Memory) →
         step_of c step m ≡ next_of_source.left_with c m mon (option_map answers_of answers.entry)) }
     ensures falls { IfOk result (λ step. (k : Costs) →
@@ -48,28 +49,47 @@ fn end_turn(memory: &mut Memory<'_, '_>)
     drop_turn(&mut memory.own);
 }
 
-/// The first step of an item.
-fn begin_item<'s, 'a>(
+/// A loop before its next turn: the variable of the last one goes out of reach.
+fn begin_turns<'a>(
+    memory: &mut Memory<'_, 'a>,
+    name: &'a Name,
+    turns: TurnsLeft,
+    body: &'a [Stmt],
+) -> Step<'a>
+    ensures run { (c : run_of.Site) → step_of c result (memory_of memory.new) ≡
+        next_of_source.run_item c (memory_of memory.old)
+        (run_of.turns_left name.now turns.value turns.left (stmts_of body.now)) }
+    ensures others { (kept : Option code_beside.Beside) →
+        others_of kept memory.new ≡ others_of kept memory.old }
+    ensures falls { (k : Costs) → step_weight k result ≡
+        suc (turns.left * suc (suc (suc (suc (stmts_weight k (stmts_of body.now)))))) }
+{
+    end_turn(memory);
+    Step::Turns { name, turns, body }
+}
+
+/// The first step of an item, of which the others remain.
+pub fn begin_item<'s, 'a>(
     scope: &EvalContext<'a>,
     home: CallOwner,
     depth: usize,
     memory: &mut Memory<'s, 'a>,
     kept: &mut Option<Beside<'s, 'a>>,
+    rest: &mut Vec<Item<'a>>,
     item: Item<'a>,
-) -> Result<Step<'a>, AllocError>
+) -> Result<Step<'a>, OutOfMemory>
     ensures run { let c = site_of scope.now home depth in IfOk result (λ step.
-        step_of c step (memory_of memory.new) ≡
-        next_of_source.run_item c (memory_of memory.old) (item_of item.entry)) }
+        then_items c (rest_of rest.new.items) (step_of c step (memory_of memory.new)) ≡
+        then_items c (rest_of rest.old.items)
+        (next_of_source.run_item c (memory_of memory.old) (item_of item.entry))) }
     ensures others { OnOk result (others_of kept.new memory.new ≡ others_of kept.old memory.old) }
     ensures falls { let k = costs scope.now depth in IfOk result (λ step.
-        step_weight k step < item_weight k (item_of item.entry)) }
+        items_weight k rest.new.items + step_weight k step <
+        items_weight k rest.old.items + item_weight k (item_of item.entry)) }
 {
     match item {
-        Item::DoAll(stmts) => Ok(Step::Does(stmts)),
-        Item::TurnsLeft { name, turns, body } => {
-            end_turn(memory);
-            Ok(Step::Turns { name, turns, body })
-        }
+        Item::DoAll(stmts) => next_stmt(scope, home, depth, rest, stmts),
+        Item::TurnsLeft { name, turns, body } => Ok(begin_turns(memory, name, turns, body)),
         Item::Receive(_) => Ok(ran(RunResult::Goes)),
         Item::Store { target, value } => {
             let answer = Answer::Word(value);
@@ -83,7 +103,7 @@ fn begin_item<'s, 'a>(
 
 /// What an item comes to while the innermost loop is being left: what is left of that loop is
 /// dropped.
-fn leave_item<'a>(memory: &mut Memory<'_, 'a>, item: Item<'a>) -> RunResult<'a>
+pub fn leave_item<'a>(memory: &mut Memory<'_, 'a>, item: Item<'a>) -> RunResult<'a>
     ensures run { (c : run_of.Site) (is : List run_of.Item) →
         then_items c is (ran_of result (memory_of memory.new)) ≡
         next_of_source.leave_loop c (memory_of memory.old) (item_of item.entry ∷ is) }
@@ -99,54 +119,6 @@ fn leave_item<'a>(memory: &mut Memory<'_, 'a>, item: Item<'a>) -> RunResult<'a>
     }
 }
 
-/// What follows a run, of which this item remains.
-fn follow<'s, 'a>(
-    scope: &EvalContext<'a>,
-    home: CallOwner,
-    depth: usize,
-    memory: &mut Memory<'s, 'a>,
-    kept: &mut Option<Beside<'s, 'a>>,
-    before: RunResult<'a>,
-    item: Item<'a>,
-) -> Result<Step<'a>, AllocError>
-    ensures run { let c = site_of scope.now home depth in IfOk result (λ step.
-        (is : List run_of.Item) → then_items c is (step_of c step (memory_of memory.new)) ≡
-        then_items c (item_of item.entry ∷ is) (ran_of before.entry (memory_of memory.old))) }
-    ensures others { OnOk result (others_of kept.new memory.new ≡ others_of kept.old memory.old) }
-    ensures falls { let k = costs scope.now depth in IfOk result (λ step.
-        step_weight k step < item_weight k (item_of item.entry)) }
-{
-    match before {
-        RunResult::Goes => begin_item(scope, home, depth, memory, kept, item),
-        RunResult::Exits => Ok(ran(leave_item(memory, item))),
-        RunResult::Fails(number) => Ok(ran(RunResult::Fails(number))),
-        RunResult::Stops(stop) => Ok(ran(stopped_before(stop, item)?)),
-    }
-}
-
-/// The next step of a call that came to this, and of which this item remains.
-pub fn next_item<'s, 'a>(
-    scope: &EvalContext<'a>,
-    home: CallOwner,
-    depth: usize,
-    memory: &mut Memory<'s, 'a>,
-    kept: &mut Option<Beside<'s, 'a>>,
-    came: ItemResult<'a>,
-    item: Item<'a>,
-) -> Result<Step<'a>, AllocError>
-    ensures run { let c = site_of scope.now home depth in IfOk result (λ step.
-        (is : List run_of.Item) → then_items c is (step_of c step (memory_of memory.new)) ≡
-        then_items c (item_of item.entry ∷ is) (came_of came.entry (memory_of memory.old))) }
-    ensures others { OnOk result (others_of kept.new memory.new ≡ others_of kept.old memory.old) }
-    ensures falls { let k = costs scope.now depth in IfOk result (λ step.
-        step_weight k step < item_weight k (item_of item.entry)) }
-{
-    match came {
-        ItemResult::Gives(value) => Ok(Step::Came(ItemResult::Gives(value))),
-        ItemResult::Ran(ran) => follow(scope, home, depth, memory, kept, ran, item),
-    }
-}
-
 /// The first step of statements, of which the others remain.
 pub fn next_stmt<'a>(
     scope: &EvalContext<'a>,
@@ -154,7 +126,7 @@ pub fn next_stmt<'a>(
     depth: usize,
     rest: &mut Vec<Item<'a>>,
     stmts: &'a [Stmt],
-) -> Result<Step<'a>, AllocError>
+) -> Result<Step<'a>, OutOfMemory>
     ensures run { let c = site_of scope.now home depth in IfOk result (λ step.
         (m : run_of.Memory) → then_items c (rest_of rest.new.items) (step_of c step m) ≡
         then_items c (rest_of rest.old.items) (run_of.run_all c m (stmts_of stmts.now))) }
@@ -178,7 +150,7 @@ pub fn next_turn<'a>(
     name: &'a Name,
     turns: TurnsLeft,
     body: &'a [Stmt],
-) -> Result<Step<'a>, AllocError>
+) -> Result<Step<'a>, OutOfMemory>
     ensures run { IfOk result (λ step. (c : run_of.Site) (m : run_of.Memory) →
         then_items c (rest_of rest.new.items)
         (step_of c step (run_of.with_own m (vars_of own.new.items))) ≡

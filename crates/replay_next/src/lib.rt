@@ -5,12 +5,14 @@
 //! configuration is only read.
 //!
 //! A run goes in small steps (`Step` of `remains`), each by a function that calls none of its own
-//! kind: an expression is evaluated part by part, and what remains of it, of its statement and of
-//! its call stands in lists (`specs/Remains.antt`), as do the callers that wait for a function or a
-//! procedure (`specs/Driving.antt`). So the stack that a run takes does not grow with the program.
+//! kind: an expression is evaluated part by part, but for one over names and literals alone, which
+//! is answered at once (`at_once`). What remains of it, of its statement and of its call stands in
+//! lists (`specs/Remains.antt`), as do the callers that wait for a function or a procedure
+//! (`specs/Driving.antt`). So the stack that a run takes does not grow with the program.
 //! How much is left to do falls with each step (`specs/Weights.antt`).
 #![tactic(auto)]
 
+mod at_once;
 mod beginning;
 mod binding;
 mod calling;

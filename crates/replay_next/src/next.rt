@@ -14,11 +14,12 @@ ghost use Rattle.replay_next.specs.Remains.{came_of};
 use crate::driving::run_whole;
 use crate::remains::ItemResult;
 use crate::results::{RunResult, Stop};
+use out_of_memory::OutOfMemory;
 use replay_calls::{CowSlots, EvalContext, Memory, lent, slots_copied};
 use replay_state::{
     Action, Call, CallOwner, Config, Item, MonitorState, NextAction, ProcessState, Slot,
 };
-use std::alloc::{AllocError, Global};
+use std::alloc::Global;
 
 /// An action after which these calls and variables remain.
 fn acted<'a>(
@@ -27,7 +28,7 @@ fn acted<'a>(
     calls: Vec<Call<'a>>,
     process: CowSlots<'_, 'a>,
     monitor: CowSlots<'_, 'a>,
-) -> Result<NextAction<'a>, AllocError>
+) -> Result<NextAction<'a>, OutOfMemory>
     ensures { IfOk result (λ next. next_of next ≡ record {
       action = action_of action;
       calls = calls_of calls.entry.items;
@@ -48,7 +49,7 @@ fn acted<'a>(
 }
 
 /// The same call once more.
-fn call_copied<'a>(alloc: Global, call: &Call<'a>) -> Result<Call<'a>, AllocError>
+fn call_copied<'a>(alloc: Global, call: &Call<'a>) -> Result<Call<'a>, OutOfMemory>
     ensures { IfOk result (λ copy. call_of copy ≡ call_of call.now) }
 {
     let own = slots_copied(alloc, call.own.as_slice())?;
@@ -65,7 +66,7 @@ fn add_calls<'a>(
     alloc: Global,
     all: &mut Vec<Call<'a>>,
     calls: &[Call<'a>],
-) -> Result<(), AllocError>
+) -> Result<(), OutOfMemory>
     ensures { IfOk result (λ done. calls_of all.new.items ≡
         calls_of all.old.items ++ calls_of calls.now) }
 {
@@ -83,7 +84,7 @@ fn stopped<'a>(
     home: CallOwner,
     memory: Memory<'_, 'a>,
     around: &[Call<'a>],
-) -> Result<NextAction<'a>, AllocError>
+) -> Result<NextAction<'a>, OutOfMemory>
     ensures { IfOk result (λ next. next_of next ≡ record {
       action = action_of stop.entry.action;
       calls = calls_of stop.entry.inside.items ++ record {
@@ -129,7 +130,7 @@ fn given_items<'a>(
     alloc: Global,
     items: &[Item<'a>],
     given: Option<i64>,
-) -> Result<Vec<Item<'a>>, AllocError>
+) -> Result<Vec<Item<'a>>, OutOfMemory>
     ensures { IfOk result (λ all. map item_of all.items ≡
         next_of_source.given_item given (map item_of items.now)) }
 {
@@ -151,16 +152,13 @@ fn run_given<'a>(
     memory: &mut Memory<'_, 'a>,
     items: &[Item<'a>],
     given: Option<i64>,
-) -> Result<ItemResult<'a>, AllocError>
+) -> Result<ItemResult<'a>, OutOfMemory>
     ensures { IfOk result (λ came. came_of came (memory_of memory.new) ≡ next_of_source.run_items
         (site_of scope.now home depth) (memory_of memory.old)
         (next_of_source.given_item given (map item_of items.now))) }
 {
-    if given.is_none() {
-        return run_whole(scope, home, depth, memory, items);
-    }
     let items = given_items(scope.alloc, items, given)?;
-    run_whole(scope, home, depth, memory, items.as_slice())
+    run_whole(scope, home, depth, memory, items)
 }
 
 /// The next action from calls in progress, the innermost first, over these variables of the process
@@ -171,7 +169,7 @@ pub fn next_from<'a>(
     calls: &[Call<'a>],
     process: &[Slot<'a>],
     monitor: &[Slot<'a>],
-) -> Result<NextAction<'a>, AllocError>
+) -> Result<NextAction<'a>, OutOfMemory>
     requires { depth ≡ routine_count (plain (placed scope.now.declarations.now)) }
     ensures { IfOk result (λ next. next_of next ≡ next_of_source.next_from
         (plain (placed scope.now.declarations.now))
@@ -243,7 +241,7 @@ pub fn next_action<'a>(
     config: &Config<'a>,
     process: usize,
     job: &ProcessState<'a>,
-) -> Result<NextAction<'a>, AllocError>
+) -> Result<NextAction<'a>, OutOfMemory>
     requires { depth ≡ routine_count (plain (placed scope.now.declarations.now)) }
     ensures { IfOk result (λ next. next_of next ≡ job_next (config_of config.now) process
         (plain_process (placed_process scope.now.process.now)) (job_of job.now)

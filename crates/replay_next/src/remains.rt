@@ -16,6 +16,13 @@ pub struct Binding<'a> {
     pub args: &'a [Expr],
 }
 
+/// A call, an argument of which is being evaluated.
+#[derive(Drop)]
+pub struct AwaitingCall<'a> {
+    pub found: ResolvedRoutine<'a>,
+    pub binding: Binding<'a>,
+}
+
 /// How far the arguments of a call are bound.
 #[derive(Drop)]
 pub enum BoundSoFar<'a> {
@@ -83,14 +90,10 @@ pub enum StmtItem<'a> {
     /// The value goes to the device.
     Put(&'a Name),
     /// A call of a procedure with this argument.
-    Perform {
-        found: ResolvedRoutine<'a>,
-        binding: Binding<'a>,
-    },
+    Perform(Box<AwaitingCall<'a>>),
     /// A call of an entry with this argument; its answer, if any, is to be stored.
     Enter {
-        found: ResolvedRoutine<'a>,
-        binding: Binding<'a>,
+        call: Box<AwaitingCall<'a>>,
         mon: usize,
         target: Option<Target<'a>>,
     },

@@ -3,10 +3,12 @@
 ghost use Rattle.std.specs.Prelude.{◌≡◌, ◌++◌, ◌∷◌, [], IfOk, map, option_map};
 ghost use Rattle.source_semantics.specs.Run as run_of;
 ghost use Rattle.replay_state.specs.View.{action_of, calls_of, home_of, item_of, vars_of};
+ghost use Rattle.replay_next.specs.Driving.{rest_of};
 ghost use Rattle.replay_next.specs.Ran.{listed, ran_of};
 
+use out_of_memory::OutOfMemory;
 use replay_state::{Action, Call, CallOwner, Item, Slot};
-use std::alloc::{AllocError, Global};
+use std::alloc::Global;
 
 /// A visible action; after it remain calls inside this one, the innermost first, and items of this
 /// one.
@@ -33,7 +35,7 @@ pub fn stops<'a>(
     alloc: Global,
     action: Action,
     rest: Option<Item<'a>>,
-) -> Result<RunResult<'a>, AllocError>
+) -> Result<RunResult<'a>, OutOfMemory>
     ensures { IfOk result (λ ran. (m : run_of.Memory) → ran_of ran m ≡
         run_of.stops (action_of action) [] (listed (option_map item_of rest.entry)) m) }
 {
@@ -48,18 +50,27 @@ pub fn stops<'a>(
     }))
 }
 
-/// A stop after which this remains besides.
-pub fn stopped_before<'a>(stop: Stop<'a>, item: Item<'a>) -> Result<RunResult<'a>, AllocError>
+/// A stop after which these items remain besides, the outermost first.
+pub fn stopped_before<'a>(
+    stop: Stop<'a>,
+    items: Vec<Item<'a>>,
+) -> Result<RunResult<'a>, OutOfMemory>
     ensures { IfOk result (λ ran. (m : run_of.Memory) → ran_of ran m ≡
         run_of.stops (action_of stop.entry.action) (calls_of stop.entry.inside.items)
-        (map item_of stop.entry.rest.items ++ item_of item.entry ∷ []) m) }
+        (map item_of stop.entry.rest.items ++ rest_of items.entry.items) m) }
 {
     let Stop {
         action,
         inside,
         mut rest,
     } = stop;
-    rest.push(item)?;
+    let mut items = items;
+    items.reverse();
+    if rest.is_empty() {
+        rest = items;
+    } else {
+        rest.extend_from_slice(items.as_slice())?;
+    }
     Ok(RunResult::Stops(Stop {
         action,
         inside,
@@ -73,7 +84,7 @@ pub fn stopped_in<'a>(
     stop: Stop<'a>,
     home: CallOwner,
     own: Vec<Slot<'a>>,
-) -> Result<RunResult<'a>, AllocError>
+) -> Result<RunResult<'a>, OutOfMemory>
     ensures { IfOk result (λ ran. (m : run_of.Memory) → ran_of ran m ≡
         run_of.stops (action_of stop.entry.action) (calls_of stop.entry.inside.items ++
         record {

@@ -4,7 +4,7 @@
 ghost use Rattle.std.specs.Prelude.{◌≡◌, IfOk, OnOk, cond, is_some};
 ghost use Rattle.source_semantics.specs.Run as run_of;
 ghost use Rattle.source_semantics.specs.Store.{slot_named};
-ghost use Rattle.replay_state.specs.View.{home_of, target_of};
+ghost use Rattle.replay_state.specs.View.{home_of, target_of, vars_of};
 ghost use Rattle.replay_calls.specs.Reach.{area_of, memory_of};
 ghost use Rattle.replay_calls.specs.Seen.{answer_of};
 ghost use Rattle.replay_next.specs.Driving.{IsGuarded, others_of};
@@ -12,9 +12,10 @@ ghost use Rattle.replay_next.specs.Ran.{ran_of};
 
 use crate::remains::Beside;
 use crate::results::RunResult;
+use out_of_memory::OutOfMemory;
 use replay_calls::{Answer, CowSlots, Memory, slots_copied, store_to};
 use replay_state::{CallOwner, Target};
-use std::alloc::{AllocError, Global};
+use std::alloc::Global;
 use std::mem;
 use syntax_tree::Name;
 
@@ -29,7 +30,7 @@ fn is_own(memory: &Memory<'_, '_>, name: &Name) -> bool
 fn area_aside<'s, 'a>(
     alloc: Global,
     area: &mut CowSlots<'s, 'a>,
-) -> Result<CowSlots<'s, 'a>, AllocError>
+) -> Result<CowSlots<'s, 'a>, OutOfMemory>
     ensures aside { IfOk result (λ aside. area_of aside ≡ area_of area.old) }
     ensures same { OnOk result (area_of area.new ≡ area_of area.old) }
 {
@@ -45,7 +46,7 @@ fn area_aside<'s, 'a>(
 fn set_aside<'s, 'a>(
     alloc: Global,
     memory: &mut Memory<'s, 'a>,
-) -> Result<Beside<'s, 'a>, AllocError>
+) -> Result<Beside<'s, 'a>, OutOfMemory>
     ensures process { IfOk result (λ b. area_of b.process ≡ area_of memory.old.process) }
     ensures monitor { IfOk result (λ b. area_of b.monitor ≡ area_of memory.old.monitor) }
     ensures same { OnOk result (memory_of memory.new ≡ memory_of memory.old) }
@@ -55,6 +56,23 @@ fn set_aside<'s, 'a>(
     Ok(Beside { process, monitor })
 }
 
+/// The variables beside its own are those of a function's caller again.
+pub fn back_beside<'s, 'a>(
+    memory: &mut Memory<'s, 'a>,
+    kept: &mut Option<Beside<'s, 'a>>,
+    before: Option<Beside<'s, 'a>>,
+)
+    ensures process { area_of memory.new.process ≡ (others_of kept.old memory.old).process }
+    ensures monitor { area_of memory.new.monitor ≡ (others_of kept.old memory.old).monitor }
+    ensures own { vars_of memory.new.own.items ≡ vars_of memory.old.own.items }
+    ensures kept { kept.new ≡ before.entry }
+{
+    if let Some(beside) = mem::replace(kept, before) {
+        memory.process = beside.process;
+        memory.monitor = beside.monitor;
+    }
+}
+
 /// Before a store to this variable: if it is none of the call's own, all of those are kept as they
 /// are, unless they were before.
 fn guard<'s, 'a>(
@@ -62,7 +80,7 @@ fn guard<'s, 'a>(
     memory: &mut Memory<'s, 'a>,
     kept: &mut Option<Beside<'s, 'a>>,
     name: &Name,
-) -> Result<(), AllocError>
+) -> Result<(), OutOfMemory>
     ensures same { OnOk result (memory_of memory.new ≡ memory_of memory.old) }
     ensures others { OnOk result (others_of kept.new memory.new ≡ others_of kept.old memory.old) }
     ensures guarded { OnOk result (IsGuarded kept.new name.now (memory_of memory.new).own) }
@@ -95,7 +113,7 @@ pub fn store<'s, 'a>(
     kept: &mut Option<Beside<'s, 'a>>,
     target: Target<'a>,
     answer: Answer,
-) -> Result<RunResult<'a>, AllocError>
+) -> Result<RunResult<'a>, OutOfMemory>
     ensures run { IfOk result (λ ran. ran_of ran (memory_of memory.new) ≡
         run_of.with_value (answer_of answer) (memory_of memory.old) (λ v.
         run_of.store_to (home_of home) (memory_of memory.old) (target_of target.entry) v)) }

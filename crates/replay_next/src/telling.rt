@@ -13,17 +13,18 @@ ghost use Rattle.replay_next.specs.Ran.{ran_of};
 use crate::beginning::{entry_called, procedure_called, ran, use_target};
 use crate::binding::bind;
 use crate::evaluating::tell_expr;
-use crate::remains::{Beside, ItemResult, Remains, Step, StmtItem};
+use crate::remains::{AwaitingCall, Beside, ItemResult, Remains, Step, StmtItem};
 use crate::results::{RunResult, stops};
 use crate::storing::store;
 use crate::visible::{ConditionResult, asserted, device_here, exited, puts, tested};
+use out_of_memory::OutOfMemory;
 use replay_calls::{Answer, EvalContext, Memory, checked, range_of};
 use replay_state::{Action, CallOwner, Item, Target};
-use std::alloc::{AllocError, Global};
+use std::alloc::Global;
 use syntax_tree::Stmt;
 
 /// The monitor is left, and the answer is given back.
-fn leaves<'a>(alloc: Global, mon: usize, answer: Answer) -> Result<RunResult<'a>, AllocError>
+fn leaves<'a>(alloc: Global, mon: usize, answer: Answer) -> Result<RunResult<'a>, OutOfMemory>
     ensures { IfOk result (λ ran. (m : run_of.Memory) → ran_of ran m ≡
         run_of.with_value (answer_of answer) m
         (λ v. run_of.stops (run_of.leaves mon) [] (run_of.give v ∷ []) m)) }
@@ -70,7 +71,7 @@ fn tell_stmt<'s, 'a>(
     kept: &mut Option<Beside<'s, 'a>>,
     stmt: StmtItem<'a>,
     answer: Answer,
-) -> Result<Step<'a>, AllocError>
+) -> Result<Step<'a>, OutOfMemory>
     ensures run { let c = site_of scope.now home depth in IfOk result (λ step.
         step_of c step (memory_of memory.new) ≡
         item_told c (memory_of memory.old) stmt.entry (answer_of answer)) }
@@ -93,16 +94,13 @@ fn tell_stmt<'s, 'a>(
         StmtItem::Exit => Ok(ran(exited(answer))),
         StmtItem::Assertion => Ok(ran(asserted(answer))),
         StmtItem::Put(device) => { Ok(ran(puts(scope.alloc, device_here(scope, device), answer)?)) }
-        StmtItem::Perform { found, binding } => {
+        StmtItem::Perform(call) => {
+            let AwaitingCall { found, binding } = Box::into_inner(call);
             let bound = bind(scope, binding, answer)?;
             procedure_called(scope, found, bound)
         }
-        StmtItem::Enter {
-            found,
-            binding,
-            mon,
-            target,
-        } => {
+        StmtItem::Enter { call, mon, target } => {
+            let AwaitingCall { found, binding } = Box::into_inner(call);
             let bound = bind(scope, binding, answer)?;
             entry_called(scope, found, bound, mon, target)
         }
@@ -123,7 +121,7 @@ pub fn tell<'s, 'a>(
     kept: &mut Option<Beside<'s, 'a>>,
     remains: Remains<'a>,
     answer: Answer,
-) -> Result<Step<'a>, AllocError>
+) -> Result<Step<'a>, OutOfMemory>
     ensures run { let c = site_of scope.now home depth in IfOk result (λ step.
         step_of c step (memory_of memory.new) ≡
         told c (memory_of memory.old) remains.entry (answer_of answer)) }

@@ -10,9 +10,10 @@ ghost use Rattle.replay_calls.specs.Reach.{site_of};
 ghost use Rattle.replay_next.specs.Ran.{ran_of, tested_run};
 
 use crate::results::{RunResult, stops};
+use out_of_memory::OutOfMemory;
 use replay_calls::{Answer, EvalContext, condition_here, device_number, is_true, monitor_number};
 use replay_state::{Action, CallOwner, Item, count};
-use std::alloc::{AllocError, Global};
+use std::alloc::Global;
 use syntax_tree::{Constant, Name};
 
 /// Whether a condition holds, or the number of its exception.
@@ -90,7 +91,7 @@ pub fn monitor_here(scope: &EvalContext<'_>, mon: &Name) -> usize
 }
 
 /// A value that is put to a device.
-pub fn puts<'a>(alloc: Global, dev: usize, answer: Answer) -> Result<RunResult<'a>, AllocError>
+pub fn puts<'a>(alloc: Global, dev: usize, answer: Answer) -> Result<RunResult<'a>, OutOfMemory>
     ensures { IfOk result (λ ran. (m : run_of.Memory) → ran_of ran m ≡
         run_of.with_value (answer_of answer) m
         (λ v. run_of.stops (run_of.puts dev v) [] [] m)) }
@@ -109,7 +110,7 @@ pub fn waits<'a>(
     condition: &Name,
     limit: &Constant,
     number: &Constant,
-) -> Result<RunResult<'a>, AllocError>
+) -> Result<RunResult<'a>, OutOfMemory>
     ensures { let g = plain (placed scope.now.declarations.now) in
         IfOk result (λ ran. (m : run_of.Memory) → ran_of ran m ≡ run_of.waits_here
         (site_of scope.now home depth) condition.now

@@ -11,12 +11,12 @@ ghost use Rattle.replay_reason_spec.specs.Reasons.{ActsNext, IsAllowed};
 ghost use Rattle.replay_reason.specs.Following.{Follows};
 
 use crate::acting::first_ready;
+use out_of_memory::OutOfMemory;
 use replay_accept::queue::{first, is_nobody_in, queue};
 use replay_accept::{Rules, next_of_process};
 use replay_reason_spec::{SourceAct, SourceEvent};
 use replay_script::{ScriptCursor, device_value};
 use replay_state::{Action, Config};
-use std::alloc::AllocError;
 
 /// What the action tells at the tick, from this configuration.
 fn told_act(config: &Config<'_>, script: &ScriptCursor<'_>, tick: u64, action: Action) -> SourceAct
@@ -57,7 +57,7 @@ fn next_act(
     script: &ScriptCursor<'_>,
     tick: u64,
     process: usize,
-) -> Result<Option<SourceEvent>, AllocError>
+) -> Result<Option<SourceEvent>, OutOfMemory>
     requires follows { Follows rules.now config.now script.now }
     requires reached { config.now.tick ≤ tick }
     requires next { ActsNext (program_of rules.now) (config_of config.now) process }
@@ -79,7 +79,7 @@ pub fn allowed(
     config: &Config<'_>,
     script: &ScriptCursor<'_>,
     tick: u64,
-) -> Result<Option<SourceEvent>, AllocError>
+) -> Result<Option<SourceEvent>, OutOfMemory>
     requires follows { Follows rules.now config.now script.now }
     requires reached { config.now.tick ≤ tick }
     ensures { IfOk result (IsAllowed (program_of rules.now) (script_in script.now)

@@ -11,11 +11,11 @@ ghost use Rattle.replay_reason.specs.Following.{Follows};
 ghost use Rattle.replay_reason.specs.Starting.{Takes};
 
 use crate::next_start::{next_start, source_event};
+use out_of_memory::OutOfMemory;
 use replay_accept::{Rules, come};
 use replay_reason_spec::SourceEvent;
 use replay_script::ScriptCursor;
 use replay_state::Config;
-use std::alloc::AllocError;
 
 /// So many start events that are missing are listed.
 const MOST: usize = 9;
@@ -28,7 +28,7 @@ fn take_next<'a>(
     script: &ScriptCursor<'_>,
     until: u64,
     found: &mut Vec<SourceEvent>,
-) -> Result<bool, AllocError>
+) -> Result<bool, OutOfMemory>
     requires follows { Follows rules.now config.old script.now }
     requires until { until ≤ script.now.script.now.end }
     ensures takes { IfOk result (λ goes. Takes (program_of rules.now) (script_in script.now) until
@@ -52,7 +52,7 @@ pub fn missing<'a>(
     config: &mut Config<'a>,
     script: &ScriptCursor<'_>,
     until: u64,
-) -> Result<Vec<SourceEvent>, AllocError>
+) -> Result<Vec<SourceEvent>, OutOfMemory>
     requires follows { Follows rules.now config.old script.now }
     requires until { until ≤ script.now.script.now.end }
     ensures { IfOk result (λ found. AreMissing (program_of rules.now) (script_in script.now) until

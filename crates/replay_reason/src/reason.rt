@@ -17,12 +17,12 @@ use crate::coming::is_same;
 use crate::missing::missing;
 use crate::next_start::{DueStart, next_start, source_event};
 use base::{Act, Event};
+use out_of_memory::OutOfMemory;
 use replay_accept::{Rules, Running};
 use replay_due_events::has_acted;
 use replay_reason_spec::{Reason, SourceEvent};
 use replay_script::ScriptCursor;
 use replay_state::Config;
-use std::alloc::AllocError;
 
 /// Whether the act is a release or a time-out.
 fn is_start(act: Act) -> bool
@@ -52,7 +52,7 @@ fn reason_of_open(
     config: &Config<'_>,
     script: &ScriptCursor<'_>,
     event: &Event,
-) -> Result<Reason, AllocError>
+) -> Result<Reason, OutOfMemory>
     requires follows { Follows rules.now config.now script.now }
     requires come { StartsHaveCome (program_of rules.now) (script_in script.now)
         (config_of config.now) event.now }
@@ -78,7 +78,7 @@ fn reason_of_due<'a>(
     script: &ScriptCursor<'_>,
     event: &Event,
     due: DueStart,
-) -> Result<Reason, AllocError>
+) -> Result<Reason, OutOfMemory>
     requires follows { Follows rules.now config.old script.now }
     requires reach { IsInReach (script_in script.now) (config_of config.old) event.now }
     requires next { IsNextStart (program_of rules.now) (script_in script.now)
@@ -104,7 +104,7 @@ fn reason_of<'a>(
     config: &mut Config<'a>,
     script: &ScriptCursor<'_>,
     event: &Event,
-) -> Result<Reason, AllocError>
+) -> Result<Reason, OutOfMemory>
     requires follows { Follows rules.now config.old script.now }
     requires stops { (new : SourceConfig) → Step (program_of rules.now) (script_in script.now)
         (config_of config.old) event.now new → ⊥ }
@@ -133,7 +133,7 @@ fn reason_of_end<'a>(
     rules: &Rules<'a>,
     config: &mut Config<'a>,
     script: &ScriptCursor<'_>,
-) -> Result<Reason, AllocError>
+) -> Result<Reason, OutOfMemory>
     requires { Follows rules.now config.old script.now }
     ensures { IfOk result (IsEndReason (program_of rules.now) (script_in script.now)
         (config_of config.old)) }
@@ -149,7 +149,7 @@ pub fn find_reason(
     running: &mut Running<'_>,
     script: &ScriptCursor<'_>,
     events: &[Event],
-) -> Result<Reason, AllocError>
+) -> Result<Reason, OutOfMemory>
     requires stands { Stands running.old }
     requires script { IsAt running.old.config.tick script.now }
     requires end { script.now.script.now.end < 2 ^ 61 }

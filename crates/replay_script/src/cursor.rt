@@ -8,8 +8,9 @@ ghost use Rattle.script.specs.Scripts.{tick_of as tick_in};
 ghost use Rattle.script.specs.Meaning.{line_said, said};
 ghost use Rattle.replay_script.specs.Cursors.{ArePassed, IsAt, IsCursor, IsWithin, are_in_order, lines_of, script_in, until, word, word_after};
 
+use out_of_memory::OutOfMemory;
 use script::{Script, ScriptLine};
-use std::alloc::{AllocError, Global};
+use std::alloc::Global;
 
 /// How many devices a line can name.
 const DEVICES: usize = 65_536;
@@ -66,7 +67,7 @@ fn lines_until(lines: &[ScriptLine], tick: u64) -> &[ScriptLine]
 }
 
 /// So many words that are 0.
-fn zero_words(alloc: Global, count: usize) -> Result<Vec<i32>, AllocError>
+fn zero_words(alloc: Global, count: usize) -> Result<Vec<i32>, OutOfMemory>
     ensures room { IfOk result (λ words. length words.items ≡ count) }
     ensures zero { IfOk result (λ words. (d : ℕ) → word d words.items ≡ pos 0) }
 {
@@ -118,7 +119,7 @@ fn pass_lines(
 
 impl<'s> ScriptCursor<'s> {
     /// The script before its first line. Want of memory is the only error.
-    pub fn new(alloc: Global, script: &'s Script) -> Result<ScriptCursor<'s>, AllocError>
+    pub fn new(alloc: Global, script: &'s Script) -> Result<ScriptCursor<'s>, OutOfMemory>
         ensures start { IfOk result (IsAt 0) }
         ensures script { IfOk result (λ cursor. cursor.script.now ≡ script.now) }
     {

@@ -10,7 +10,8 @@ ghost use Rattle.replay_state.specs.View.{calls_of, config_of, doing_of, hold_of
 use crate::call::{Call, CallOwner, Item};
 use crate::config::{Config, MonitorState, ProcessState};
 use crate::doing::Activity;
-use std::alloc::{AllocError, Global};
+use out_of_memory::OutOfMemory;
+use std::alloc::Global;
 use syntax_tree::Stmt;
 
 /// The process does this now.
@@ -48,7 +49,7 @@ pub fn set_job<'a>(
 }
 
 /// The one call in progress before the first of these statements of a process.
-pub fn beginning<'a>(alloc: Global, body: &'a [Stmt]) -> Result<Vec<Call<'a>>, AllocError>
+pub fn beginning<'a>(alloc: Global, body: &'a [Stmt]) -> Result<Vec<Call<'a>>, OutOfMemory>
     ensures { IfOk result (λ calls. calls_of calls.items ≡
         call_before (plain_stmts (placed_stmts body.now)) ∷ []) }
 {

@@ -8,7 +8,7 @@ ghost use Rattle.replay_state.specs.View.{doing_of, jobs_of};
 ghost use Rattle.replay_state.specs.Queues.{queues_of, tail_of};
 
 use crate::{Activity, ProcessState};
-use std::alloc::AllocError;
+use out_of_memory::OutOfMemory;
 
 /// The first place of the process in the queue.
 fn place_of(queue: &[usize], process: usize) -> Option<usize>
@@ -35,7 +35,7 @@ fn leave_queue(queue: &mut Vec<usize>, process: usize)
 }
 
 /// The process stands at the queue's end; an error leaves the queue as it was.
-fn join_queue(queue: &mut Vec<usize>, process: usize) -> Result<(), AllocError>
+fn join_queue(queue: &mut Vec<usize>, process: usize) -> Result<(), OutOfMemory>
     ensures { queue.new.items ≡ cond (is_ok result)
         (queue.old.items ++ process ∷ []) queue.old.items }
 {
@@ -67,7 +67,7 @@ pub fn join(
     queues: &mut Vec<Vec<usize>>,
     condition: usize,
     process: usize,
-) -> Result<(), AllocError>
+) -> Result<(), OutOfMemory>
     ensures { queues_of queues.new.items ≡ changed
         (λ q. cond (is_ok result) (q ++ process ∷ []) q) condition (queues_of queues.old.items) }
 {

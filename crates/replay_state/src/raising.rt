@@ -10,8 +10,9 @@ ghost use Rattle.replay_state.specs.Texts.{IsAfter, IsPrepared, IsText, after_of
 
 use crate::queues::released;
 use crate::{Activity, Call, Config, ProcessState, beginning};
+use out_of_memory::OutOfMemory;
 use static_declarations::Declarations;
-use std::alloc::{AllocError, Global};
+use std::alloc::Global;
 use syntax_tree::{Constant, Handler, Process};
 
 /// The text of a program: its declarations, and its processes by number.
@@ -65,7 +66,7 @@ fn what_follows<'a>(
     process: &'a Process,
     number: u32,
     handling: bool,
-) -> Result<AfterException<'a>, AllocError>
+) -> Result<AfterException<'a>, OutOfMemory>
     ensures { IfOk result (λ a. IsAfter (plain (placed text.now.declarations.now))
         (plain_process (placed_process process.now)) number handling (after_of a)) }
 {
@@ -97,7 +98,7 @@ pub fn prepare<'a>(
     text: &ProgramContext<'a>,
     process: usize,
     number: u32,
-) -> Result<Option<AfterException<'a>>, AllocError>
+) -> Result<Option<AfterException<'a>>, OutOfMemory>
     requires { IsText text.now }
     ensures { IfOk result (λ after. IsPrepared
         (plain (placed text.now.declarations.now)) process number (config_of config.now)

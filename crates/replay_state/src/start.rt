@@ -17,7 +17,7 @@ ghost use Rattle.replay_state.specs.View.{config_of};
 ghost use Rattle.replay_state.specs.Texts.{IsText};
 
 use crate::{Activity, Config, ProgramContext, beginning, prepare, raise, set_job, take_out};
-use std::alloc::AllocError;
+use out_of_memory::OutOfMemory;
 
 /// The tick is reached, and nobody has acted in it.
 fn reach(config: &mut Config<'_>, tick: u64)
@@ -34,7 +34,7 @@ pub fn release<'a>(
     text: &ProgramContext<'a>,
     tick: u64,
     process: usize,
-) -> Result<(), AllocError>
+) -> Result<(), OutOfMemory>
     requires { IsText text.now }
     ensures ok { OnOk result (config_of config.new ≡ after_start
         (plain (placed text.now.declarations.now)) (config_of config.old)
@@ -65,7 +65,7 @@ pub fn time_out<'a>(
     process: usize,
     condition: usize,
     number: u32,
-) -> Result<(), AllocError>
+) -> Result<(), OutOfMemory>
     requires { IsText text.now }
     ensures ok { OnOk result (config_of config.new ≡ after_start
         (plain (placed text.now.declarations.now)) (config_of config.old)

@@ -9,7 +9,8 @@ ghost use Rattle.run_chart.specs.Traces.{Counts, with_longest};
 use crate::Letter;
 use crate::letters::{drawn, first_of_two};
 use base::{Act, Event};
-use std::alloc::{AllocError, Global};
+use out_of_memory::OutOfMemory;
+use std::alloc::Global;
 use syntax_tree::Text;
 
 /// What a chart shows of a process, up to where its run is drawn.
@@ -65,7 +66,7 @@ impl Trace {
     }
 
     /// The column is over. An error says that memory is short.
-    pub fn end_column(&mut self) -> Result<(), AllocError>
+    pub fn end_column(&mut self) -> Result<(), OutOfMemory>
         ensures { OnOk result (self.new ≡ record self.old {
           row = self.old.row ++ drawn self.old.letter ∷ [];
           letter = Letter.Blank;

@@ -9,13 +9,13 @@ ghost use Rattle.sched_sections.specs.Sections.{block_line, blocker_text, bound_
 
 use crate::{Blocker, Level};
 use base::{cap_add, cap_mul};
+use out_of_memory::OutOfMemory;
 use sched_response::Task;
 use sched_table::{add_name, add_number};
-use std::alloc::AllocError;
 use syntax_tree::Text;
 
 /// Puts some words, and a number or `none`, at the end of a text.
-fn add_optional(text: &mut Text, words: &str, number: Option<u64>) -> Result<(), AllocError>
+fn add_optional(text: &mut Text, words: &str, number: Option<u64>) -> Result<(), OutOfMemory>
     ensures { OnOk result (text.new ≡ text.old ++ with_optional words.now number) }
 {
     match number {
@@ -39,7 +39,7 @@ pub fn ticks_of(level: &Level) -> u64
 
 /// Puts the bound of a level at the end of a text, with the ticks in which its demand is taken.
 #[tactic(auto, unfolding(crate::specs::Sections::bound_text))]
-fn add_bound(text: &mut Text, level: &Level) -> Result<(), AllocError>
+fn add_bound(text: &mut Text, level: &Level) -> Result<(), OutOfMemory>
     ensures { OnOk result (text.new ≡ text.old ++ bound_text level.now) }
 {
     add_optional(text, " bound ", level.bound)?;
@@ -49,7 +49,7 @@ fn add_bound(text: &mut Text, level: &Level) -> Result<(), AllocError>
 
 /// Puts the line of a process at the end of a text.
 #[tactic(auto, unfolding(crate::specs::Sections::process_line))]
-pub fn add_process(text: &mut Text, rank: u64, level: &Level) -> Result<(), AllocError>
+pub fn add_process(text: &mut Text, rank: u64, level: &Level) -> Result<(), OutOfMemory>
     ensures { OnOk result (text.new ≡ text.old ++ process_line rank level.now) }
 {
     add_name(text, "process ", &level.name)?;
@@ -61,7 +61,7 @@ pub fn add_process(text: &mut Text, rank: u64, level: &Level) -> Result<(), Allo
 
 /// Puts what makes a block at the end of a text.
 #[tactic(auto, unfolding(crate::specs::Sections::blocker_text))]
-fn add_blocker(text: &mut Text, blocker: &Option<Blocker>) -> Result<(), AllocError>
+fn add_blocker(text: &mut Text, blocker: &Option<Blocker>) -> Result<(), OutOfMemory>
     ensures { OnOk result (text.new ≡ text.old ++ blocker_text blocker.now) }
 {
     match blocker {
@@ -76,7 +76,7 @@ fn add_blocker(text: &mut Text, blocker: &Option<Blocker>) -> Result<(), AllocEr
 
 /// Puts the line of a block at the end of a text.
 #[tactic(auto, unfolding(crate::specs::Sections::block_line))]
-pub fn add_block(text: &mut Text, level: &Level) -> Result<(), AllocError>
+pub fn add_block(text: &mut Text, level: &Level) -> Result<(), OutOfMemory>
     ensures { OnOk result (text.new ≡ text.old ++ block_line level.now) }
 {
     add_number(text, "block ", level.task.block)?;
@@ -86,7 +86,7 @@ pub fn add_block(text: &mut Text, level: &Level) -> Result<(), AllocError>
 
 /// Puts the line of a cost at the end of a text.
 #[tactic(auto, unfolding(crate::specs::Sections::cost_line))]
-pub fn add_cost(text: &mut Text, task: Task) -> Result<(), AllocError>
+pub fn add_cost(text: &mut Text, task: Task) -> Result<(), OutOfMemory>
     ensures { OnOk result (text.new ≡ text.old ++ cost_line task) }
 {
     add_number(text, "cost ", task.run)?;
@@ -95,7 +95,7 @@ pub fn add_cost(text: &mut Text, task: Task) -> Result<(), AllocError>
 
 /// Puts the lines of the waits at the end of a text.
 #[tactic(auto, unfolding(crate::specs::Sections::waits_lines))]
-fn add_some_waits(text: &mut Text, task: Task) -> Result<(), AllocError>
+fn add_some_waits(text: &mut Text, task: Task) -> Result<(), OutOfMemory>
     requires { IsTask task }
     ensures { OnOk result (text.new ≡ text.old ++ waits_lines task) }
 {
@@ -108,7 +108,7 @@ fn add_some_waits(text: &mut Text, task: Task) -> Result<(), AllocError>
 }
 
 /// Puts the lines of the waits at the end of a text, where the process waits at all.
-pub fn add_waits(text: &mut Text, task: Task) -> Result<(), AllocError>
+pub fn add_waits(text: &mut Text, task: Task) -> Result<(), OutOfMemory>
     requires { IsTask task }
     ensures { OnOk result (text.new ≡ text.old ++ optional_waits task) }
 {

@@ -12,8 +12,9 @@ use crate::levels::task_of;
 use crate::lines::{activation_of, add_block, add_cost, add_process, add_waits, ticks_of};
 use crate::sums::{all_taken, load_of, sum_of};
 use base::ceil_div;
+use out_of_memory::OutOfMemory;
 use sched_table::{add_name, add_number};
-use std::alloc::{AllocError, Global};
+use std::alloc::Global;
 use syntax_tree::{Name, Text};
 
 /// Puts what a higher task takes from one of this block in r ticks at the end of a text.
@@ -24,7 +25,7 @@ fn add_taken(
     level: usize,
     r: u64,
     higher: usize,
-) -> Result<(), AllocError>
+) -> Result<(), OutOfMemory>
     requires tasks { All IsTask (tasks_in levels.now) }
     requires level { level < length levels.now }
     requires higher { higher < level }
@@ -47,7 +48,7 @@ fn add_rank(
     level: usize,
     r: u64,
     higher: usize,
-) -> Result<(), AllocError>
+) -> Result<(), OutOfMemory>
     requires tasks { All IsTask (tasks_in levels.now) }
     requires level { level < length levels.now }
     requires higher { higher < level }
@@ -61,7 +62,7 @@ fn add_rank(
 }
 
 /// Puts the lines of what the higher levels take in r ticks at the end of a text.
-fn add_ranks(text: &mut Text, levels: &[Level], level: usize, r: u64) -> Result<(), AllocError>
+fn add_ranks(text: &mut Text, levels: &[Level], level: usize, r: u64) -> Result<(), OutOfMemory>
     requires tasks { All IsTask (tasks_in levels.now) }
     requires level { level < length levels.now }
     requires r { r ≤ 1000000000 }
@@ -75,7 +76,7 @@ fn add_ranks(text: &mut Text, levels: &[Level], level: usize, r: u64) -> Result<
 
 /// Puts the line of the sum at the end of a text.
 #[tactic(auto, unfolding(crate::specs::Sections::sum_line))]
-fn add_sum(text: &mut Text, levels: &[Level], level: usize, r: u64) -> Result<(), AllocError>
+fn add_sum(text: &mut Text, levels: &[Level], level: usize, r: u64) -> Result<(), OutOfMemory>
     requires tasks { All IsTask (tasks_in levels.now) }
     requires level { level < length levels.now }
     requires r { r ≤ 1000000000 }
@@ -87,7 +88,7 @@ fn add_sum(text: &mut Text, levels: &[Level], level: usize, r: u64) -> Result<()
 
 /// Puts the section of a level at the end of a text.
 #[tactic(auto, unfolding(crate::specs::Sections::section_text))]
-fn add_section(text: &mut Text, levels: &[Level], level: usize) -> Result<(), AllocError>
+fn add_section(text: &mut Text, levels: &[Level], level: usize) -> Result<(), OutOfMemory>
     requires tasks { All IsTask (tasks_in levels.now) }
     requires level { level < length levels.now }
     requires ticks { shown_at (level_at levels.now level) ≤ 1000000000 }
@@ -103,7 +104,7 @@ fn add_section(text: &mut Text, levels: &[Level], level: usize) -> Result<(), Al
 }
 
 /// Puts the sections of levels at the end of a text.
-fn add_sections(text: &mut Text, levels: &[Level], order: &[usize]) -> Result<(), AllocError>
+fn add_sections(text: &mut Text, levels: &[Level], order: &[usize]) -> Result<(), OutOfMemory>
     requires tasks { All IsTask (tasks_in levels.now) }
     requires ticks { All (λ l. shown_at l ≤ 1000000000) levels.now }
     requires order { All (λ level. level < length levels.now) order.now }
@@ -129,7 +130,7 @@ fn first_late<'a>(levels: &'a [Level], order: &[usize]) -> Option<&'a Name>
 }
 
 /// Puts the load, and whether each level has a bound, at the end of a text.
-fn add_end(text: &mut Text, load: u64, late: Option<&Name>) -> Result<(), AllocError>
+fn add_end(text: &mut Text, load: u64, late: Option<&Name>) -> Result<(), OutOfMemory>
     ensures { OnOk result (text.new ≡ text.old ++
         (load_text load ++ verdict_text (option_copied late.entry))) }
 {
@@ -152,7 +153,7 @@ fn add_end(text: &mut Text, load: u64, late: Option<&Name>) -> Result<(), AllocE
 /// of its deadline where it has none. The load and the verdict stand last. A number above
 /// 1,000,000,000 is `over`. Only want of memory is an error.
 #[tactic(auto, unfolding(crate::specs::Sections::bounds_text))]
-pub fn bounds_text(alloc: Global, levels: &[Level], order: &[usize]) -> Result<Text, AllocError>
+pub fn bounds_text(alloc: Global, levels: &[Level], order: &[usize]) -> Result<Text, OutOfMemory>
     requires tasks { AreTasks (tasks_in levels.now) }
     requires ticks { All (λ l. shown_at l ≤ 1000000000) levels.now }
     requires order { All (λ level. level < length levels.now) order.now }

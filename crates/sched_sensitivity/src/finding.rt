@@ -5,8 +5,9 @@ ghost use Rattle.sched_sensitivity.specs.Rows.{AreFitsOf, IsFitOf, IsSuspensionO
 
 use crate::rows::{ProcessFit, SuspensionFit};
 use crate::{Varied, fit_of};
+use out_of_memory::OutOfMemory;
 use sched_response::TaskSet;
-use std::alloc::{AllocError, Global};
+use std::alloc::Global;
 use syntax_tree::{List, Name};
 
 /// The suspension of a level that waits, with what fits in its place. The set is afterwards as
@@ -30,7 +31,7 @@ fn process_fit(
     set: &mut TaskSet,
     name: &Name,
     level: usize,
-) -> Result<ProcessFit, AllocError>
+) -> Result<ProcessFit, OutOfMemory>
     requires { level < length set.old }
     ensures kept { set.new ≡ set.old }
     ensures fit { IfOk result (λ fit. IsFitOf set.old level name.now fit) }
@@ -54,7 +55,7 @@ pub fn process_fits(
     set: &mut TaskSet,
     names: &[Name],
     order: &[usize],
-) -> Result<List<ProcessFit>, AllocError>
+) -> Result<List<ProcessFit>, OutOfMemory>
     requires one_each { length order.now ≡ length names.now }
     requires order { All (λ level. level < length set.old) order.now }
     ensures kept { set.new ≡ set.old }

@@ -7,8 +7,9 @@ ghost use Rattle.sched_sensitivity.specs.Overhead.{IsOverheadFit};
 
 use crate::fitting::{Varied, fit};
 use crate::overhead::overhead_fit;
+use out_of_memory::OutOfMemory;
 use sched_response::{Steps, Task, TaskSet};
-use std::alloc::{AllocError, Global};
+use std::alloc::Global;
 use std::marker::Brand;
 use std::sync::ledger::{Blank, Ledger};
 
@@ -44,7 +45,7 @@ fn overhead_with_count<L: Ledger>(
     blank: Blank,
     alloc: Global,
     tasks: &[Task],
-) -> Result<Option<u64>, AllocError>
+) -> Result<Option<u64>, OutOfMemory>
     requires name { blank.name ≡ L.name }
     requires parts { blank.parts ≡ L.parts }
     requires some { 0 < L.parts }
@@ -57,7 +58,7 @@ fn overhead_with_count<L: Ledger>(
 /// The greatest overhead of at most 1,000 ticks with which each level of the tasks, whose costs
 /// hold no dispatch yet, has a bound, and None exactly where 0 does not do. Only want of memory is
 /// an error.
-pub fn overhead_fit_of(alloc: Global, tasks: &[Task]) -> Result<Option<u64>, AllocError>
+pub fn overhead_fit_of(alloc: Global, tasks: &[Task]) -> Result<Option<u64>, OutOfMemory>
     requires { AreTasks tasks.now }
     ensures { IfOk result (λ fit. IsOverheadFit tasks.now fit) }
 {

@@ -5,12 +5,13 @@ ghost use Rattle.sched_table.specs.Report.{with_optional};
 ghost use Rattle.sched_sensitivity.specs.Lines.{fits_text as defined_text, process_line, process_lines, suspension_text};
 
 use crate::rows::{ProcessFit, SuspensionFit};
+use out_of_memory::OutOfMemory;
 use sched_table::{add_name, add_number};
-use std::alloc::{AllocError, Global};
+use std::alloc::Global;
 use syntax_tree::Text;
 
 /// Puts some words, and a number or `none`, at the end of a text.
-fn add_optional(text: &mut Text, words: &str, number: Option<u64>) -> Result<(), AllocError>
+fn add_optional(text: &mut Text, words: &str, number: Option<u64>) -> Result<(), OutOfMemory>
     ensures { OnOk result (text.new ≡ text.old ++ with_optional words.now number) }
 {
     match number {
@@ -24,7 +25,7 @@ fn add_optional(text: &mut Text, words: &str, number: Option<u64>) -> Result<(),
 
 /// Puts a suspension, and what fits in its place, at the end of a text.
 #[tactic(auto, unfolding(crate::specs::Lines::suspension_text))]
-fn add_suspension(text: &mut Text, suspension: Option<SuspensionFit>) -> Result<(), AllocError>
+fn add_suspension(text: &mut Text, suspension: Option<SuspensionFit>) -> Result<(), OutOfMemory>
     ensures { OnOk result (text.new ≡ text.old ++ suspension_text suspension) }
 {
     match suspension {
@@ -38,7 +39,7 @@ fn add_suspension(text: &mut Text, suspension: Option<SuspensionFit>) -> Result<
 
 /// Puts the line of a process at the end of a text.
 #[tactic(auto, unfolding(crate::specs::Lines::process_line))]
-fn add_process(text: &mut Text, process: &ProcessFit) -> Result<(), AllocError>
+fn add_process(text: &mut Text, process: &ProcessFit) -> Result<(), OutOfMemory>
     ensures { OnOk result (text.new ≡ text.old ++ process_line process.now) }
 {
     add_name(text, "process ", &process.name)?;
@@ -49,7 +50,7 @@ fn add_process(text: &mut Text, process: &ProcessFit) -> Result<(), AllocError>
 }
 
 /// Puts the lines of processes at the end of a text.
-fn add_processes(text: &mut Text, processes: &[ProcessFit]) -> Result<(), AllocError>
+fn add_processes(text: &mut Text, processes: &[ProcessFit]) -> Result<(), OutOfMemory>
     ensures { OnOk result (text.new ≡ text.old ++ process_lines processes.now) }
 {
     for process in processes {
@@ -66,7 +67,7 @@ pub fn fits_text(
     alloc: Global,
     overhead: Option<u64>,
     processes: &[ProcessFit],
-) -> Result<Text, AllocError>
+) -> Result<Text, OutOfMemory>
     ensures { IfOk result (λ text. text ≡ defined_text overhead processes.now) }
 {
     let mut text = Text::new(alloc);

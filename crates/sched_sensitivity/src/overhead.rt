@@ -7,8 +7,9 @@ ghost use Rattle.sched_sensitivity.specs.Overhead.{with_dispatches as defined_wi
 
 use crate::first_failing;
 use base::OVER;
+use out_of_memory::OutOfMemory;
 use sched_response::{Steps, Task, TaskSet};
-use std::alloc::{AllocError, Global};
+use std::alloc::Global;
 use std::sync::ledger::Ledger;
 
 /// A task with its dispatches.
@@ -24,7 +25,7 @@ fn with_dispatches(task: Task, over: u64) -> Task
 }
 
 /// The tasks with an overhead.
-fn tasks_with(alloc: Global, tasks: &[Task], over: u64) -> Result<Vec<Task>, AllocError>
+fn tasks_with(alloc: Global, tasks: &[Task], over: u64) -> Result<Vec<Task>, OutOfMemory>
     requires tasks { AreTasks tasks.now }
     requires over { over ≤ 1000 }
     ensures { IfOk result (λ v. v.items ≡ defined_with_overhead tasks.now over) }
@@ -37,7 +38,7 @@ fn tasks_with(alloc: Global, tasks: &[Task], over: u64) -> Result<Vec<Task>, All
 }
 
 /// The set of tasks with an overhead of at most 1,000 ticks, or that memory is short.
-pub fn with_overhead(alloc: Global, tasks: &[Task], over: u64) -> Result<TaskSet, AllocError>
+pub fn with_overhead(alloc: Global, tasks: &[Task], over: u64) -> Result<TaskSet, OutOfMemory>
     requires tasks { AreTasks tasks.now }
     requires over { over ≤ 1000 }
     ensures { IfOk result (λ set. set ≡ defined_with_overhead tasks.now over) }
@@ -54,7 +55,7 @@ fn overhead_fits<L: Ledger>(
     tasks: &[Task],
     over: u64,
     steps: &mut Steps<L>,
-) -> Result<bool, AllocError>
+) -> Result<bool, OutOfMemory>
     requires tasks { AreTasks tasks.now }
     requires over { over ≤ 1000 }
     ensures fits { IfOk result (λ fits. IsTrue fits ↔
@@ -71,7 +72,7 @@ fn greatest_overhead<L: Ledger>(
     alloc: Global,
     tasks: &[Task],
     steps: &mut Steps<L>,
-) -> Result<u64, AllocError>
+) -> Result<u64, OutOfMemory>
     requires tasks { AreTasks tasks.now }
     requires zero { IsTimely (defined_with_overhead tasks.now 0) }
     ensures fits { IfOk result (λ over. IsOverheadFit tasks.now (Some over)) }
@@ -100,7 +101,7 @@ pub fn overhead_fit<L: Ledger>(
     alloc: Global,
     tasks: &[Task],
     steps: &mut Steps<L>,
-) -> Result<Option<u64>, AllocError>
+) -> Result<Option<u64>, OutOfMemory>
     requires { AreTasks tasks.now }
     ensures fit { IfOk result (λ fit. IsOverheadFit tasks.now fit) }
     ensures cost { steps.new ≤ steps.old + 11 * evaluations tasks.now (length tasks.now) }

@@ -11,40 +11,41 @@ use crate::late::late;
 use crate::lines::{GREATEST, widened};
 use crate::{Row, Table};
 use image::ImageNames;
+use out_of_memory::OutOfMemory;
 use serde_json::{Map, Value, put};
-use std::alloc::{AllocError, Global};
+use std::alloc::Global;
 use std::str;
 use syntax_tree::{Name, Text};
 
 /// A number, or `over`.
 #[tactic(auto, unfolding(crate::specs::Json::number_data))]
-fn number_value(alloc: Global, number: u64) -> Result<Value, AllocError>
+fn number_value(alloc: Global, number: u64) -> Result<Value, OutOfMemory>
     ensures { IfOk result (λ value. view value ≡ json.number_data number) }
 {
     if number > GREATEST {
-        return Value::try_from_str(alloc, "over");
+        return Ok(Value::try_from_str(alloc, "over")?);
     }
     Ok(Value::from(number))
 }
 
 /// A number, or `none`.
 #[tactic(auto, unfolding(crate::specs::Json::optional_data))]
-fn optional_value(alloc: Global, number: Option<u64>) -> Result<Value, AllocError>
+fn optional_value(alloc: Global, number: Option<u64>) -> Result<Value, OutOfMemory>
     ensures { IfOk result (λ value. view value ≡ json.optional_data number) }
 {
     match number {
         Some(number) => number_value(alloc, number),
-        None => Value::try_from_str(alloc, "none"),
+        None => Ok(Value::try_from_str(alloc, "none")?),
     }
 }
 
 /// A name as a string.
-fn name_value(alloc: Global, name: &Name) -> Result<Value, AllocError>
+fn name_value(alloc: Global, name: &Name) -> Result<Value, OutOfMemory>
     requires { IsUtf8 name.now }
     ensures { IfOk result (λ value. view value ≡ string name.now) }
 {
     match str::from_utf8(name.as_bytes()) {
-        Ok(text) => Value::try_from_str(alloc, text),
+        Ok(text) => Ok(Value::try_from_str(alloc, text)?),
         Err(_) => unreachable!(),
     }
 }
@@ -55,11 +56,11 @@ fn put_number(
     alloc: Global,
     key: &str,
     number: u64,
-) -> Result<(), AllocError>
+) -> Result<(), OutOfMemory>
     ensures { OnOk result (members_view members.new.entries
         ≡ with_member key.now (json.number_data number) (members_view members.old.entries)) }
 {
-    put(members, alloc, key, number_value(alloc, number)?)
+    Ok(put(members, alloc, key, number_value(alloc, number)?)?)
 }
 
 /// Puts the deadline, where it is not the frame.
@@ -69,7 +70,7 @@ fn put_deadline(
     alloc: Global,
     frame: u64,
     deadline: u64,
-) -> Result<(), AllocError>
+) -> Result<(), OutOfMemory>
     ensures { OnOk result (members_view members.new.entries
         ≡ json.with_deadline frame deadline (members_view members.old.entries)) }
 {
@@ -81,7 +82,7 @@ fn put_deadline(
 
 /// The members of a process, but for its deadline.
 #[tactic(auto, unfolding(crate::specs::Json::process_members))]
-fn process_members(alloc: Global, name: &Name, row: &Row) -> Result<Map<String, Value>, AllocError>
+fn process_members(alloc: Global, name: &Name, row: &Row) -> Result<Map<String, Value>, OutOfMemory>
     requires { IsUtf8 name.now }
     ensures { IfOk result (λ members. members_view members.entries
         ≡ json.process_members name.now row.now) }
@@ -106,7 +107,7 @@ fn process_members(alloc: Global, name: &Name, row: &Row) -> Result<Map<String, 
 }
 
 /// The object of a process.
-fn process_value(alloc: Global, name: &Name, row: &Row) -> Result<Value, AllocError>
+fn process_value(alloc: Global, name: &Name, row: &Row) -> Result<Value, OutOfMemory>
     requires { IsUtf8 name.now }
     ensures { IfOk result (λ value. view value ≡ json.process_data name.now row.now) }
 {
@@ -116,7 +117,7 @@ fn process_value(alloc: Global, name: &Name, row: &Row) -> Result<Value, AllocEr
 }
 
 /// The objects of the processes.
-fn process_values(alloc: Global, names: &[Name], rows: &[Row]) -> Result<Vec<Value>, AllocError>
+fn process_values(alloc: Global, names: &[Name], rows: &[Row]) -> Result<Vec<Value>, OutOfMemory>
     requires one_each { length names.now ≡ length rows.now }
     requires utf8 { All IsUtf8 names.now }
     ensures { IfOk result (λ values. map view values.items
@@ -136,7 +137,7 @@ fn monitor_value(
     name: &Name,
     ceiling: Option<u16>,
     words: u32,
-) -> Result<Value, AllocError>
+) -> Result<Value, OutOfMemory>
     requires { IsUtf8 name.now }
     ensures { IfOk result (λ value. view value ≡ json.monitor_data name.now ceiling words) }
 {
@@ -158,7 +159,7 @@ fn monitor_values(
     names: &[Name],
     ceilings: &[Option<u16>],
     words: &[u32],
-) -> Result<Vec<Value>, AllocError>
+) -> Result<Vec<Value>, OutOfMemory>
     requires ceilings { length names.now ≡ length ceilings.now }
     requires words { length names.now ≡ length words.now }
     requires utf8 { All IsUtf8 names.now }
@@ -173,7 +174,7 @@ fn monitor_values(
 }
 
 /// The array of the monitors.
-fn monitors_value(alloc: Global, names: &ImageNames, table: &Table) -> Result<Value, AllocError>
+fn monitors_value(alloc: Global, names: &ImageNames, table: &Table) -> Result<Value, OutOfMemory>
     requires named { IsNamed names.now table.now }
     requires utf8 { All IsUtf8 names.now.monitors }
     ensures { IfOk result (λ value. view value ≡ array (items_of
@@ -185,7 +186,7 @@ fn monitors_value(alloc: Global, names: &ImageNames, table: &Table) -> Result<Va
 }
 
 /// The array of the processes.
-fn processes_value(alloc: Global, names: &ImageNames, table: &Table) -> Result<Value, AllocError>
+fn processes_value(alloc: Global, names: &ImageNames, table: &Table) -> Result<Value, OutOfMemory>
     requires named { IsNamed names.now table.now }
     requires utf8 { All IsUtf8 names.now.processes }
     ensures { IfOk result (λ value. view value ≡ array (items_of
@@ -202,7 +203,7 @@ fn report_value(
     names: &ImageNames,
     program: &Name,
     table: &Table,
-) -> Result<Value, AllocError>
+) -> Result<Value, OutOfMemory>
     requires named { IsNamed names.now table.now }
     requires strings { AreStrings names.now program.now }
     ensures { IfOk result (λ value. view value ≡ json.report_data names.now program.now table.now) }
@@ -240,7 +241,7 @@ pub fn report_json(
     names: &ImageNames,
     program: &Name,
     table: &Table,
-) -> Result<Text, AllocError>
+) -> Result<Text, OutOfMemory>
     requires named { IsNamed names.now table.now }
     requires strings { AreStrings names.now program.now }
     ensures { IfOk result (λ text. text ≡ json.report_json names.now program.now table.now) }

@@ -10,7 +10,8 @@ use crate::{Row, Size, Table};
 use base::Cost;
 use image::ImageNames;
 use itoa::Buffer;
-use std::alloc::{AllocError, Global};
+use out_of_memory::OutOfMemory;
+use std::alloc::Global;
 use syntax_tree::{Name, Text};
 
 /// The greatest number that is shown.
@@ -18,7 +19,7 @@ pub(crate) const GREATEST: u64 = 1_000_000_000;
 
 /// Puts some words and a number at the end of a text; `over` in place of a number above
 /// 1,000,000,000. After an error, which is that memory is short, the text may hold a part of it.
-pub fn add_number(text: &mut Text, words: &str, number: u64) -> Result<(), AllocError>
+pub fn add_number(text: &mut Text, words: &str, number: u64) -> Result<(), OutOfMemory>
     ensures { OnOk result (text.new ≡ text.old ++ with_number words.now number) }
 {
     text.extend(words.as_bytes())?;
@@ -30,7 +31,7 @@ pub fn add_number(text: &mut Text, words: &str, number: u64) -> Result<(), Alloc
 }
 
 /// Puts some words, and a number or `none`, at the end of a text.
-fn add_optional(text: &mut Text, words: &str, number: Option<u64>) -> Result<(), AllocError>
+fn add_optional(text: &mut Text, words: &str, number: Option<u64>) -> Result<(), OutOfMemory>
     ensures { OnOk result (text.new ≡ text.old ++ with_optional words.now number) }
 {
     match number {
@@ -44,7 +45,7 @@ fn add_optional(text: &mut Text, words: &str, number: Option<u64>) -> Result<(),
 
 /// Puts some words and a name at the end of a text. After an error, which is that memory is short,
 /// the text may hold a part of it.
-pub fn add_name(text: &mut Text, words: &str, name: &Name) -> Result<(), AllocError>
+pub fn add_name(text: &mut Text, words: &str, name: &Name) -> Result<(), OutOfMemory>
     ensures { OnOk result (text.new ≡ text.old ++ (words.now ++ name.now)) }
 {
     text.extend(words.as_bytes())?;
@@ -53,7 +54,7 @@ pub fn add_name(text: &mut Text, words: &str, name: &Name) -> Result<(), AllocEr
 
 /// Puts the deadline at the end of a text, where it is not the frame.
 #[tactic(auto, unfolding(crate::specs::Report::deadline_text))]
-fn add_deadline(text: &mut Text, frame: u64, deadline: u64) -> Result<(), AllocError>
+fn add_deadline(text: &mut Text, frame: u64, deadline: u64) -> Result<(), OutOfMemory>
     ensures { OnOk result (text.new ≡ text.old ++ deadline_text frame deadline) }
 {
     if deadline == frame {
@@ -64,7 +65,7 @@ fn add_deadline(text: &mut Text, frame: u64, deadline: u64) -> Result<(), AllocE
 
 /// Puts a cost at the end of a text.
 #[tactic(auto, unfolding(crate::specs::Report::costs_text))]
-fn add_costs(text: &mut Text, cost: Cost) -> Result<(), AllocError>
+fn add_costs(text: &mut Text, cost: Cost) -> Result<(), OutOfMemory>
     ensures { OnOk result (text.new ≡ text.old ++ costs_text cost) }
 {
     add_number(text, " cost ", cost.run)?;
@@ -74,7 +75,7 @@ fn add_costs(text: &mut Text, cost: Cost) -> Result<(), AllocError>
 
 /// Puts the words of memory at the end of a line.
 #[tactic(auto, unfolding(crate::specs::Report::sizes_text))]
-fn add_sizes(text: &mut Text, size: Size) -> Result<(), AllocError>
+fn add_sizes(text: &mut Text, size: Size) -> Result<(), OutOfMemory>
     ensures { OnOk result (text.new ≡ text.old ++ sizes_text size) }
 {
     add_number(text, " data ", u64::from(size.words))?;
@@ -84,7 +85,7 @@ fn add_sizes(text: &mut Text, size: Size) -> Result<(), AllocError>
 
 /// Puts the rank, the cost, the block and the bound at the end of a text.
 #[tactic(auto, unfolding(crate::specs::Report::times_text))]
-fn add_times(text: &mut Text, row: &Row) -> Result<(), AllocError>
+fn add_times(text: &mut Text, row: &Row) -> Result<(), OutOfMemory>
     ensures { OnOk result (text.new ≡ text.old ++ times_text row.now) }
 {
     add_number(text, " rank ", u64::from(row.rank))?;
@@ -95,7 +96,7 @@ fn add_times(text: &mut Text, row: &Row) -> Result<(), AllocError>
 
 /// Puts the line of a process at the end of a text.
 #[tactic(auto, unfolding(crate::specs::Report::process_text))]
-fn add_process(text: &mut Text, name: &Name, row: &Row) -> Result<(), AllocError>
+fn add_process(text: &mut Text, name: &Name, row: &Row) -> Result<(), OutOfMemory>
     ensures { OnOk result (text.new ≡ text.old ++ process_text name.now row.now) }
 {
     add_name(text, "process ", name)?;
@@ -106,7 +107,7 @@ fn add_process(text: &mut Text, name: &Name, row: &Row) -> Result<(), AllocError
 }
 
 /// Puts the lines of the processes at the end of a text.
-fn add_processes(text: &mut Text, names: &[Name], rows: &[Row]) -> Result<(), AllocError>
+fn add_processes(text: &mut Text, names: &[Name], rows: &[Row]) -> Result<(), OutOfMemory>
     requires { length names.now ≡ length rows.now }
     ensures { OnOk result (text.new ≡ text.old ++ processes_text names.now rows.now) }
 {
@@ -130,7 +131,7 @@ fn add_monitor(
     name: &Name,
     ceiling: Option<u16>,
     words: u32,
-) -> Result<(), AllocError>
+) -> Result<(), OutOfMemory>
     ensures { OnOk result (text.new ≡ text.old ++ monitor_text name.now ceiling words) }
 {
     add_name(text, "monitor ", name)?;
@@ -145,7 +146,7 @@ fn add_monitors(
     names: &[Name],
     ceilings: &[Option<u16>],
     words: &[u32],
-) -> Result<(), AllocError>
+) -> Result<(), OutOfMemory>
     requires ceilings { length names.now ≡ length ceilings.now }
     requires words { length names.now ≡ length words.now }
     ensures { OnOk result (text.new ≡ text.old ++ monitors_text names.now ceilings.now words.now) }
@@ -157,7 +158,7 @@ fn add_monitors(
 }
 
 /// Puts whether the program is timely at the end of a text.
-fn add_verdict(text: &mut Text, late: Option<&Name>) -> Result<(), AllocError>
+fn add_verdict(text: &mut Text, late: Option<&Name>) -> Result<(), OutOfMemory>
     ensures { OnOk result (text.new ≡ text.old ++ verdict_text (option_copied late.entry)) }
 {
     match late {
@@ -183,7 +184,7 @@ pub fn report(
     names: &ImageNames,
     program: &Name,
     table: &Table,
-) -> Result<Text, AllocError>
+) -> Result<Text, OutOfMemory>
     requires { IsNamed names.now table.now }
     ensures { IfOk result (λ text. text ≡ report_text names.now program.now table.now) }
 {

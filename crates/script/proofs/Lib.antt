@@ -5,4 +5,5 @@ pub mod Endings
 pub mod Once
 pub mod Fronts
 pub mod Right
+pub mod OnePass
 pub mod Faults

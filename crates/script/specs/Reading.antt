@@ -1,5 +1,5 @@
 -- What the reader keeps, and what it finds.
-use Rattle.std.specs.Prelude.{◌≡◌, ◌&&◌, not, ◌≤◌, ◌<◌, ℕ, List, [], ◌∷◌, length, Option, Some, None, All, codes, if◌then◌else◌, slice_index_or}
+use Rattle.std.specs.Prelude.{◌≡◌, ◌&&◌, ◌==◌, not, Bool, ◌≤◌, ◌<◌, ℕ, List, [], ◌∷◌, length, Option, Some, None, All, codes, if◌then◌else◌, slice_index_or}
 use Rattle.std.specs.Fmt.{signed_decimal}
 use Rattle.std.specs.Borrow.{Bor}
 use Rattle.text_fields.specs.Fields.{spaced}
@@ -20,6 +20,10 @@ abbrev pub seen : Line → Said
 seen (line_is.Set tick dev value) = set tick dev.now value
 seen (line_is.Event tick name) = event tick name.now
 seen (line_is.End tick) = end tick
+
+-- a byte of a word
+abbrev pub is_in_word : ℕ → Bool
+is_in_word b = not (b == 32) && not (b == 10)
 
 -- what stands behind the tick
 abbrev pub behind : Said → List ℕ

@@ -1,7 +1,7 @@
 //! Why a text is no script.
 
 use crate::refusal;
-use std::alloc::AllocError;
+use out_of_memory::OutOfMemory;
 use std::fmt::{self, Display, Formatter, Write};
 use thiserror::Error;
 
@@ -37,7 +37,7 @@ pub enum ScriptFault {
     },
     /// There was not enough memory.
     #[error("out of memory")]
-    Memory,
+    Memory(OutOfMemory),
 }
 
 /// The ticks of a fault that has some.
@@ -58,13 +58,14 @@ impl Display for Ticks {
     }
 }
 
-impl From<AllocError> for ScriptFault {
+impl From<OutOfMemory> for ScriptFault {
     ghost use Rattle.std.specs.Prelude.{◌≡◌};
+    ghost use Rattle.out_of_memory.specs.Refused.{refused};
     ghost use Rattle.script.specs.declared.fault.ScriptFault.TheVariants.{Memory};
 
-    ghost from_gives = { λ _ fault. fault ≡ Memory };
+    ghost from_gives = { λ _ fault. fault ≡ Memory refused };
 
-    fn from(_: AllocError) -> ScriptFault {
-        ScriptFault::Memory
+    fn from(error: OutOfMemory) -> ScriptFault {
+        ScriptFault::Memory(error)
     }
 }

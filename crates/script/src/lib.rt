@@ -22,6 +22,7 @@ mod numbers;
 mod one_answer_law;
 mod one_script_law;
 mod past;
+mod quick;
 mod read;
 mod reader;
 pub mod refusal;

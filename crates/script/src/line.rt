@@ -34,7 +34,7 @@ struct Setting<'a> {
 }
 
 /// The greatest tick of a line.
-const LAST_TICK: u64 = 999_999_999;
+pub const LAST_TICK: u64 = 999_999_999;
 
 /// The greatest end of a run.
 const LAST_END: u64 = 1_000_000_000;

@@ -7,20 +7,32 @@ ghost use Rattle.script.specs.Scripts.{in_device, event_number};
 
 use image::{DeviceName, ImageNames};
 use indexmap::IndexMap;
-use std::alloc::{AllocError, Global};
+use out_of_memory::OutOfMemory;
+use std::alloc::Global;
+use text_fields::is_same;
 
 /// Numbers by name.
 pub type SymbolNumbers<'a> = IndexMap<&'a [u8], u16>;
+
+/// So many names are compared before the map is asked.
+const FEW: usize = 4;
 
 /// The number of a name.
 pub fn find(numbers: &SymbolNumbers<'_>, name: &[u8]) -> Option<u16>
     ensures { result ≡ number_in numbers.now.entries name.now }
 {
+    for at in 0..FEW {
+        if let Some((key, number)) = numbers.get_index(at) {
+            if is_same(key, name) {
+                return Some(*number);
+            }
+        }
+    }
     numbers.get(name).copied()
 }
 
 /// Gives the name a number, unless it has one.
-fn add<'a>(numbers: &mut SymbolNumbers<'a>, name: &'a [u8], number: u16) -> Result<(), AllocError>
+fn add<'a>(numbers: &mut SymbolNumbers<'a>, name: &'a [u8], number: u16) -> Result<(), OutOfMemory>
     ensures { OnOk result (AddsNumber numbers.old.entries numbers.new.entries name.now number) }
 {
     if find(numbers, name).is_some() {
@@ -35,7 +47,7 @@ fn add_device<'a>(
     numbers: &mut SymbolNumbers<'a>,
     device: &'a DeviceName,
     number: u16,
-) -> Result<(), AllocError>
+) -> Result<(), OutOfMemory>
     ensures { OnOk result
         (AddsDevice numbers.old.entries numbers.new.entries device.now number) }
 {
@@ -49,7 +61,7 @@ fn add_device<'a>(
 pub fn device_numbers<'a>(
     alloc: Global,
     names: &'a ImageNames,
-) -> Result<SymbolNumbers<'a>, AllocError>
+) -> Result<SymbolNumbers<'a>, OutOfMemory>
     requires { length names.now.devices ≤ 2 ^ 16 }
     ensures { IfOk result (λ numbers. AreNumbers numbers.entries (in_device names.now)) }
 {
@@ -65,7 +77,7 @@ pub fn device_numbers<'a>(
 pub fn event_numbers<'a>(
     alloc: Global,
     names: &'a ImageNames,
-) -> Result<SymbolNumbers<'a>, AllocError>
+) -> Result<SymbolNumbers<'a>, OutOfMemory>
     requires { length names.now.events ≤ 2 ^ 16 }
     ensures { IfOk result (λ numbers. AreNumbers numbers.entries (event_number names.now)) }
 {

@@ -10,7 +10,8 @@ use crate::line::Line;
 use crate::numbers::{SymbolNumbers, find};
 use crate::script::ScriptLine;
 use image::ImageNames;
-use std::alloc::{AllocError, Global};
+use out_of_memory::OutOfMemory;
+use std::alloc::Global;
 use syntax_tree::List;
 
 /// The lines that were read, the tick of the last one, and by event that of its last occurrence.
@@ -69,7 +70,7 @@ fn frame_of(names: &ImageNames, number: u16) -> u32
 
 impl Past {
     /// Before the first line.
-    pub fn new(alloc: Global, names: &ImageNames) -> Result<Past, AllocError>
+    pub fn new(alloc: Global, names: &ImageNames) -> Result<Past, OutOfMemory>
         ensures past { IfOk result (λ past.
             IsPast names.now past.lines past.last past.occurred.items) }
         ensures none { IfOk result (λ past. past.lines ≡ []) }
@@ -147,7 +148,7 @@ impl Past {
     }
 
     /// One more line.
-    pub fn add(&mut self, names: &ImageNames, line: ScriptLine) -> Result<(), AllocError>
+    pub fn add(&mut self, names: &ImageNames, line: ScriptLine) -> Result<(), OutOfMemory>
         requires past { IsPast names.now self.old.lines self.old.last self.old.occurred.items }
         requires within { IsWithin names.now line }
         requires order { from_last (tick_of line) self.old.last ≡ true }

@@ -1,6 +1,7 @@
 //! Reading a script.
 
 ghost use Rattle.std.specs.Prelude.{◌≡◌, ◌<◌, ◌≤◌, ◌+◌, ◌^◌, ◌⊎◌, [], length, IfOk, IfErr, OnOk};
+ghost use Rattle.out_of_memory.specs.Refused.{refused};
 ghost use Rattle.script.specs.declared.fault.ScriptFault.TheVariants.{Memory};
 ghost use Rattle.script.specs.Scripts.{IsScript, event_number, in_device, longest_text, most_lines};
 ghost use Rattle.script.specs.Faults.{IsFault, IsFaultHere, IsFaultOfRest};
@@ -91,7 +92,8 @@ fn read_lines(
     requires events { AreNumbers events.now.entries (event_number names.now) }
     ensures script { IfOk result (λ script.
         IsScript names.now text.now script.lines script.end) }
-    ensures fault { IfErr result (λ fault. (fault ≡ Memory) ⊎ IsFault names.now text.now fault) }
+    ensures fault { IfErr result (λ fault. (fault ≡ Memory refused) ⊎
+        IsFault names.now text.now fault) }
 {
     let mut rest = text;
     while !rest.is_empty() {
@@ -129,7 +131,8 @@ fn read_from_start(
     requires events { AreNumbers events.now.entries (event_number names.now) }
     ensures script { IfOk result (λ script.
         IsScript names.now text.now script.lines script.end) }
-    ensures fault { IfErr result (λ fault. (fault ≡ Memory) ⊎ IsFault names.now text.now fault) }
+    ensures fault { IfErr result (λ fault. (fault ≡ Memory refused) ⊎
+        IsFault names.now text.now fault) }
 {
     let past = Past::new(alloc, names)?;
     read_lines(names, devices, events, past, text)
@@ -147,7 +150,8 @@ fn read_for(
     requires events { length names.now.events ≤ 2 ^ 16 }
     ensures script { IfOk result (λ script.
         IsScript names.now text.now script.lines script.end) }
-    ensures fault { IfErr result (λ fault. (fault ≡ Memory) ⊎ IsFault names.now text.now fault) }
+    ensures fault { IfErr result (λ fault. (fault ≡ Memory refused) ⊎
+        IsFault names.now text.now fault) }
 {
     let events = event_numbers(alloc, names)?;
     read_from_start(alloc, names, devices, &events, text)
@@ -165,7 +169,8 @@ pub fn read_script(alloc: Global, text: &[u8], names: &ImageNames) -> Result<Scr
     requires events { length names.now.events ≤ 2 ^ 16 }
     ensures script { IfOk result (λ script.
         IsScript names.now text.now script.lines script.end) }
-    ensures fault { IfErr result (λ fault. (fault ≡ Memory) ⊎ IsFault names.now text.now fault) }
+    ensures fault { IfErr result (λ fault. (fault ≡ Memory refused) ⊎
+        IsFault names.now text.now fault) }
 {
     if text.len() > LONGEST_TEXT {
         return Err(bad(refusal::LONG, 0));

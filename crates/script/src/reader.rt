@@ -11,17 +11,11 @@ use crate::fault::{Flaw, ScriptFault};
 use crate::line::{Line, read_line};
 use crate::numbers::SymbolNumbers;
 use crate::past::Past;
+use crate::quick::{First, quick_line};
 use crate::refusal;
 use crate::script::ScriptLine;
 use image::ImageNames;
 use text_fields::cut_at;
-
-/// The first line of some bytes, and the bytes after it.
-#[derive(Clone, Copy)]
-struct First<'a> {
-    line: Line<'a>,
-    rest: &'a [u8],
-}
 
 /// What the first line of some bytes means, and the bytes after it.
 #[derive(Clone, Copy)]
@@ -75,6 +69,17 @@ fn first_line(bytes: &[u8]) -> Option<First<'_>>
     }
 }
 
+/// The same, which tries first whether the line is in a form that most lines have.
+fn next_line(bytes: &[u8]) -> Option<First<'_>>
+    ensures found { IfSome result (λ first. Begins bytes.now (seen first.line) first.rest.now) }
+    ensures none { IfNone result ((said : Said) (rest : List ℕ) → ¬ Begins bytes.now said rest) }
+{
+    match quick_line(bytes) {
+        None => first_line(bytes),
+        Some(first) => Some(first),
+    }
+}
+
 /// What the first line of the bytes means after the lines read so far, or its fault.
 pub fn judge_next<'a>(
     names: &ImageNames,
@@ -92,7 +97,7 @@ pub fn judge_next<'a>(
     ensures fault { IfErr result (λ fault.
         IsLineFault names.now past.now.lines bytes.now number fault) }
 {
-    match first_line(bytes) {
+    match next_line(bytes) {
         None => Err(bad(refusal::FORM, number)),
         Some(First { line, rest }) => match past.judge(names, devices, events, line) {
             Err(flaw) => Err(fault(number, flaw)),

@@ -6,8 +6,9 @@ ghost use Rattle.syntax_tree.specs.declared.place.Place.{Place as SpecPlace};
 ghost use Rattle.static_calls.specs.Calls.{called, expr_calls, exprs_calls, ref_calls, stmt_calls, stmts_calls, answer_calls, routine_calls as routine_calls_of};
 ghost use Rattle.static_calls.specs.Tables.{declared_in};
 
+use out_of_memory::OutOfMemory;
 use static_declarations::Declarations;
-use std::alloc::{AllocError, Global};
+use std::alloc::Global;
 use syntax_tree::{Expr, Place, Ref, Routine, Stmt};
 
 /// A routine is called by the name at a place.
@@ -15,7 +16,7 @@ fn call(
     calls: &mut Vec<Place>,
     declarations: &Declarations<'_>,
     at: Place,
-) -> Result<(), AllocError>
+) -> Result<(), OutOfMemory>
     ensures { OnOk result ((more : List SpecPlace) → calls.new.items ++ more ≡ calls.old.items ++
         called (declared_in (placed declarations.now) at) more) }
 {
@@ -25,7 +26,11 @@ fn call(
     Ok(())
 }
 
-fn expr(calls: &mut Vec<Place>, declarations: &Declarations<'_>, e: &Expr) -> Result<(), AllocError>
+fn expr(
+    calls: &mut Vec<Place>,
+    declarations: &Declarations<'_>,
+    e: &Expr,
+) -> Result<(), OutOfMemory>
     ensures { OnOk result ((more : List SpecPlace) → calls.new.items ++ more ≡ calls.old.items ++
         expr_calls (declared_in (placed declarations.now)) (placed_expr e.now) more) }
 {
@@ -61,7 +66,7 @@ fn exprs(
     calls: &mut Vec<Place>,
     declarations: &Declarations<'_>,
     list: &[Expr],
-) -> Result<(), AllocError>
+) -> Result<(), OutOfMemory>
     ensures { OnOk result ((more : List SpecPlace) → calls.new.items ++ more ≡ calls.old.items ++
         exprs_calls (declared_in (placed declarations.now)) (placed_exprs list.now) more) }
 {
@@ -76,7 +81,7 @@ fn target(
     calls: &mut Vec<Place>,
     declarations: &Declarations<'_>,
     target: &Ref,
-) -> Result<(), AllocError>
+) -> Result<(), OutOfMemory>
     ensures { OnOk result ((more : List SpecPlace) → calls.new.items ++ more ≡ calls.old.items ++
         ref_calls (declared_in (placed declarations.now)) (placed_ref target.now) more) }
 {
@@ -91,7 +96,7 @@ fn stmts(
     calls: &mut Vec<Place>,
     declarations: &Declarations<'_>,
     list: &[Stmt],
-) -> Result<(), AllocError>
+) -> Result<(), OutOfMemory>
     ensures { OnOk result ((more : List SpecPlace) → calls.new.items ++ more ≡ calls.old.items ++
         stmts_calls (declared_in (placed declarations.now)) (placed_stmts list.now) more) }
 {
@@ -102,7 +107,11 @@ fn stmts(
 }
 
 #[cycle(stmt)]
-fn stmt(calls: &mut Vec<Place>, declarations: &Declarations<'_>, s: &Stmt) -> Result<(), AllocError>
+fn stmt(
+    calls: &mut Vec<Place>,
+    declarations: &Declarations<'_>,
+    s: &Stmt,
+) -> Result<(), OutOfMemory>
     ensures { OnOk result ((more : List SpecPlace) → calls.new.items ++ more ≡ calls.old.items ++
         stmt_calls (declared_in (placed declarations.now)) (placed_stmt s.now) more) }
 {
@@ -161,7 +170,7 @@ fn answer(
     calls: &mut Vec<Place>,
     declarations: &Declarations<'_>,
     value: &Option<Expr>,
-) -> Result<(), AllocError>
+) -> Result<(), OutOfMemory>
     ensures { OnOk result ((more : List SpecPlace) → calls.new.items ++ more ≡ calls.old.items ++
         answer_calls (declared_in (placed declarations.now))
         (optional placed_expr value.now) more) }
@@ -177,7 +186,7 @@ pub fn calls_of(
     alloc: Global,
     declarations: &Declarations<'_>,
     list: &[Stmt],
-) -> Result<Vec<Place>, AllocError>
+) -> Result<Vec<Place>, OutOfMemory>
     ensures { IfOk result (λ calls. calls.items ≡
         stmts_calls (declared_in (placed declarations.now)) (placed_stmts list.now) []) }
 {
@@ -191,7 +200,7 @@ pub fn routine_calls(
     alloc: Global,
     declarations: &Declarations<'_>,
     routine: &Routine,
-) -> Result<Vec<Place>, AllocError>
+) -> Result<Vec<Place>, OutOfMemory>
     ensures { IfOk result (λ calls. calls.items ≡
         routine_calls_of (declared_in (placed declarations.now)) (placed_routine routine.now)) }
 {

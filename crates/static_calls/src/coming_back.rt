@@ -11,8 +11,9 @@ use crate::handlers::is_marked_at;
 use crate::numbers::{RoutineIndex, number, numbers};
 use crate::routines::routines;
 use crate::rules_calls_graph::call_graph;
+use out_of_memory::OutOfMemory;
 use static_declarations::Declarations;
-use std::alloc::{AllocError, Global};
+use std::alloc::Global;
 use syntax_tree::{Place, Routine};
 
 /// The first of the callees that is marked.
@@ -33,7 +34,7 @@ fn marked_call(
     marks: &[bool],
     place: Place,
     routine: &Routine,
-) -> Result<Option<Place>, AllocError>
+) -> Result<Option<Place>, OutOfMemory>
     ensures { IfOk result (λ callee. callee ≡
         (if same_place routine.now.place place then
         marked_call_of (declared_in (placed declarations.now)) numbers.now.keys marks.now
@@ -54,7 +55,7 @@ fn marked_call_at(
     marks: &[bool],
     place: Place,
     routines: &[&Routine],
-) -> Result<Option<Place>, AllocError>
+) -> Result<Option<Place>, OutOfMemory>
     ensures { IfOk result (λ callee. callee ≡ marked_call_at_of
         (declared_in (placed declarations.now)) numbers.now.keys marks.now place
         (seen_routines routines.now)) }
@@ -75,7 +76,7 @@ fn way_among(
     numbers: &RoutineIndex,
     routines: &[&Routine],
     place: Place,
-) -> Result<Option<Place>, AllocError>
+) -> Result<Option<Place>, OutOfMemory>
     requires routines { seen_routines routines.now ≡ routines_of (placed declarations.now).decls }
     requires numbers { numbers.now.keys ≡ places (seen_routines routines.now) }
     ensures { IfOk result (λ callee. IsWayBack (placed declarations.now) place callee) }
@@ -102,7 +103,7 @@ pub fn way_back(
     alloc: Global,
     declarations: &Declarations<'_>,
     place: Place,
-) -> Result<Option<Place>, AllocError>
+) -> Result<Option<Place>, OutOfMemory>
     ensures { IfOk result (λ callee. IsWayBack (placed declarations.now) place callee) }
 {
     let list = routines(alloc, declarations.program().decls.as_slice())?;

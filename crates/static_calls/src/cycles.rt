@@ -7,7 +7,8 @@ ghost use Rattle.static_calls.specs.Graph.{Graph as SpecGraph, HasEdge, Reaches,
 use crate::graph::Graph;
 use crate::reach::is_marked;
 use crate::walk::numbers;
-use std::alloc::{AllocError, Global};
+use out_of_memory::OutOfMemory;
+use std::alloc::Global;
 use std::marker::Model;
 
 /// A graph of which it is known which nodes may reach themselves.
@@ -72,7 +73,7 @@ fn stays(numbers: &[usize], level: usize, row: &[usize]) -> bool
 
 /// Marks the nodes that have an edge to a node of the same number, or all nodes where an edge leads
 /// to a lesser number. Around a circle the number can only stay.
-fn suspects(alloc: Global, graph: &Graph, numbers: &[usize]) -> Result<Vec<bool>, AllocError>
+fn suspects(alloc: Global, graph: &Graph, numbers: &[usize]) -> Result<Vec<bool>, OutOfMemory>
     ensures size { IfOk result (λ marks. length marks.items ≡ length graph.now) }
     ensures marks { IfOk result (λ marks. MarksRounds marks.items graph.now) }
 {
@@ -86,7 +87,7 @@ fn suspects(alloc: Global, graph: &Graph, numbers: &[usize]) -> Result<Vec<bool>
 }
 
 impl Cycles {
-    pub fn new(alloc: Global, graph: Graph) -> Result<Cycles, AllocError>
+    pub fn new(alloc: Global, graph: Graph) -> Result<Cycles, OutOfMemory>
         ensures { IfOk result (λ c. c ≡ graph) }
     {
         let numbers = numbers(alloc, &graph)?;
@@ -96,7 +97,7 @@ impl Cycles {
 
     /// Whether a node reaches itself. It answers at once for a node that does not, and else in time
     /// in proportion to the nodes and edges that the node reaches.
-    pub fn comes_back(&self, alloc: Global, node: usize) -> Result<bool, AllocError>
+    pub fn comes_back(&self, alloc: Global, node: usize) -> Result<bool, OutOfMemory>
         requires { node < length self.now }
         ensures { IfOk result (λ back. IsTrue back ↔ Reaches self.now node node) }
     {

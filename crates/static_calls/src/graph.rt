@@ -3,7 +3,8 @@
 ghost use Rattle.std.specs.Prelude.{◌≡◌, ℕ, ◌<◌, ◌↔◌, [], ◌++◌, length, map, IfOk, OnOk, All, Contains, slice_index_or};
 ghost use Rattle.static_calls.specs.Graph.{HasEdge, HasEdges, rows_of, with_edge, turned};
 
-use std::alloc::{AllocError, Global};
+use out_of_memory::OutOfMemory;
+use std::alloc::Global;
 use std::marker::Model;
 
 /// A graph: for each of its nodes, the numbers below a size, the nodes to which its edges lead.
@@ -24,7 +25,7 @@ impl Model for Graph {
 }
 
 /// Adds an edge.
-fn add(rows: &mut [Vec<usize>], from: usize, to: usize) -> Result<(), AllocError>
+fn add(rows: &mut [Vec<usize>], from: usize, to: usize) -> Result<(), OutOfMemory>
     requires { from < length rows.old }
     ensures { OnOk result (rows_of rows.new ≡ with_edge (rows_of rows.old) from to) }
 {
@@ -34,7 +35,7 @@ fn add(rows: &mut [Vec<usize>], from: usize, to: usize) -> Result<(), AllocError
 }
 
 /// The rows of a graph that has no edge.
-fn no_edges(alloc: Global, size: usize) -> Result<Vec<Vec<usize>>, AllocError>
+fn no_edges(alloc: Global, size: usize) -> Result<Vec<Vec<usize>>, OutOfMemory>
     ensures size { IfOk result (λ rows. length rows.items ≡ size) }
     ensures none { IfOk result (λ rows. All (λ row. row.items ≡ []) rows.items) }
 {
@@ -46,7 +47,7 @@ fn no_edges(alloc: Global, size: usize) -> Result<Vec<Vec<usize>>, AllocError>
 }
 
 /// Lists the edges of a node, each turned round.
-fn turn_row(edges: &mut Vec<(usize, usize)>, node: usize, row: &[usize]) -> Result<(), AllocError>
+fn turn_row(edges: &mut Vec<(usize, usize)>, node: usize, row: &[usize]) -> Result<(), OutOfMemory>
     ensures { OnOk result (edges.new.items ≡ edges.old.items ++ map (turned node) row.now) }
 {
     for to in row {
@@ -57,7 +58,7 @@ fn turn_row(edges: &mut Vec<(usize, usize)>, node: usize, row: &[usize]) -> Resu
 
 impl Graph {
     /// The graph of that size with these edges.
-    pub fn new(alloc: Global, size: usize, edges: &[(usize, usize)]) -> Result<Graph, AllocError>
+    pub fn new(alloc: Global, size: usize, edges: &[(usize, usize)]) -> Result<Graph, OutOfMemory>
         requires { All (λ e. (e.0 < size) × (e.1 < size)) edges.now }
         ensures size { IfOk result (λ g. length g ≡ size) }
         ensures edges { IfOk result (λ g. HasEdges g edges.now) }
@@ -88,7 +89,7 @@ impl Graph {
     }
 
     /// The edges, each turned round.
-    fn turned_edges(&self, alloc: Global) -> Result<Vec<(usize, usize)>, AllocError>
+    fn turned_edges(&self, alloc: Global) -> Result<Vec<(usize, usize)>, OutOfMemory>
         ensures within { IfOk result (λ edges.
             All (λ e. (e.0 < length self.now) × (e.1 < length self.now)) edges.items) }
         ensures turned { IfOk result (λ edges. (a b : ℕ) →
@@ -102,7 +103,7 @@ impl Graph {
     }
 
     /// The graph with each edge turned round.
-    pub fn turned(&self, alloc: Global) -> Result<Graph, AllocError>
+    pub fn turned(&self, alloc: Global) -> Result<Graph, OutOfMemory>
         ensures size { IfOk result (λ g. length g ≡ length self.now) }
         ensures edges { IfOk result (λ g. (a b : ℕ) → HasEdge g b a ↔ HasEdge self.now a b) }
     {

@@ -10,9 +10,10 @@ use crate::calls::calls_of;
 use crate::is_marked;
 use crate::numbers::{RoutineIndex, number};
 use crate::waits::stmts_wait;
+use out_of_memory::OutOfMemory;
 use static_declarations::Declarations;
 use static_rule::{Violation, blame, rule};
-use std::alloc::{AllocError, Global};
+use std::alloc::Global;
 use syntax_tree::{Handler, Place, Process, Stmt};
 
 /// Whether the routines whose names stand at a place are marked.
@@ -41,7 +42,7 @@ fn come_to_wait(
     numbers: &RoutineIndex,
     marks: &[bool],
     list: &[Stmt],
-) -> Result<bool, AllocError>
+) -> Result<bool, OutOfMemory>
     ensures { IfOk result (λ waits. waits ≡ come_to_wait_of
         (declared_in (placed declarations.now)) numbers.now.keys marks.now
         (placed_stmts list.now)) }
@@ -61,7 +62,7 @@ fn handler_fault(
     marks: &[bool],
     place: Place,
     handler: &Option<Handler>,
-) -> Result<Option<Place>, AllocError>
+) -> Result<Option<Place>, OutOfMemory>
     ensures { IfOk result (λ fault. fault ≡ handler_fault_of
         (declared_in (placed declarations.now)) numbers.now.keys marks.now place
         (optional placed_handler handler.now)) }
@@ -83,7 +84,7 @@ pub fn first_waiting(
     numbers: &RoutineIndex,
     marks: &[bool],
     processes: &[&Process],
-) -> Result<Option<Violation>, AllocError>
+) -> Result<Option<Violation>, OutOfMemory>
     ensures { IfOk result (λ first. first ≡ noted
         (handler_rule (declared_in (placed declarations.now)) numbers.now.keys marks.now ∷ []) None
         (seen_processes processes.now)) }

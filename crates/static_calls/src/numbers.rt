@@ -9,15 +9,16 @@ ghost use Rattle.static_calls.specs.Tables.{declared_in, seen_routines, places, 
 use crate::calls::routine_calls;
 use crate::waits::stmts_wait;
 use indexmap::IndexSet;
+use out_of_memory::OutOfMemory;
 use static_declarations::Declarations;
-use std::alloc::{AllocError, Global};
+use std::alloc::Global;
 use syntax_tree::{Place, Routine};
 
 /// Places of routines, each by line and column. The number of a routine is its index.
 pub type RoutineIndex = IndexSet<(u32, u32)>;
 
 /// Gives the routines whose names stand at a place a number, unless they have one.
-fn add(numbers: &mut RoutineIndex, place: Place) -> Result<(), AllocError>
+fn add(numbers: &mut RoutineIndex, place: Place) -> Result<(), OutOfMemory>
     ensures { OnOk result (numbers.new.keys ≡ insert_key same_key numbers.old.keys (key_of place)) }
 {
     numbers.insert((place.line, place.col))?;
@@ -25,7 +26,7 @@ fn add(numbers: &mut RoutineIndex, place: Place) -> Result<(), AllocError>
 }
 
 /// Gives each routine a number; routines of one place have one number.
-pub fn numbers(alloc: Global, routines: &[&Routine]) -> Result<RoutineIndex, AllocError>
+pub fn numbers(alloc: Global, routines: &[&Routine]) -> Result<RoutineIndex, OutOfMemory>
     ensures { IfOk result (λ numbers. numbers.keys ≡ places (seen_routines routines.now)) }
 {
     let mut numbers = RoutineIndex::new(alloc);
@@ -49,7 +50,7 @@ fn add_edge(
     numbers: &RoutineIndex,
     from: usize,
     callee: Place,
-) -> Result<(), AllocError>
+) -> Result<(), OutOfMemory>
     ensures { OnOk result ((more : List (ℕ × ℕ)) → edges.new.items ++ more ≡ edges.old.items ++
         edge_to from (number_of numbers.now.keys callee) more) }
 {
@@ -65,7 +66,7 @@ fn add_edges(
     numbers: &RoutineIndex,
     from: usize,
     calls: &[Place],
-) -> Result<(), AllocError>
+) -> Result<(), OutOfMemory>
     ensures { OnOk result ((more : List (ℕ × ℕ)) → edges.new.items ++ more ≡ edges.old.items ++
         edges_to numbers.now.keys from calls.now more) }
 {
@@ -82,7 +83,7 @@ fn add_routine(
     declarations: &Declarations<'_>,
     numbers: &RoutineIndex,
     routine: &Routine,
-) -> Result<(), AllocError>
+) -> Result<(), OutOfMemory>
     ensures { OnOk result ((more : List (ℕ × ℕ)) → edges.new.items ++ more ≡ edges.old.items ++
         routine_edges (declared_in (placed declarations.now)) numbers.now.keys
         (placed_routine routine.now) more) }
@@ -100,7 +101,7 @@ pub fn edges(
     declarations: &Declarations<'_>,
     numbers: &RoutineIndex,
     routines: &[&Routine],
-) -> Result<Vec<(usize, usize)>, AllocError>
+) -> Result<Vec<(usize, usize)>, OutOfMemory>
     ensures { IfOk result (λ edges. edges.items ≡
         edges_of (declared_in (placed declarations.now)) numbers.now.keys
         (seen_routines routines.now) []) }
@@ -117,7 +118,7 @@ pub fn waiters(
     alloc: Global,
     numbers: &RoutineIndex,
     routines: &[&Routine],
-) -> Result<Vec<usize>, AllocError>
+) -> Result<Vec<usize>, OutOfMemory>
     ensures { IfOk result (λ waiters. waiters.items ≡
         waiters_of numbers.now.keys (seen_routines routines.now) []) }
 {

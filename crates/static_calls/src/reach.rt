@@ -5,7 +5,8 @@ ghost use Rattle.static_calls.specs.Graph.{marked, IsReached, ReachesOne};
 ghost use Rattle.static_calls.specs.Marks.{AreListed, AreMarked, AreSpread};
 
 use crate::graph::Graph;
-use std::alloc::{AllocError, Global};
+use out_of_memory::OutOfMemory;
+use std::alloc::Global;
 
 /// Whether a node is marked.
 pub fn is_marked(marks: &[bool], node: usize) -> bool
@@ -18,7 +19,7 @@ pub fn is_marked(marks: &[bool], node: usize) -> bool
 }
 
 /// Marks a node and lists it, unless it is marked.
-fn mark(marks: &mut [bool], found: &mut Vec<usize>, node: usize) -> Result<(), AllocError>
+fn mark(marks: &mut [bool], found: &mut Vec<usize>, node: usize) -> Result<(), OutOfMemory>
     requires { node < length marks.old }
     ensures { OnOk result (AreMarked marks.old found.old.items
         (node ∷ []) marks.new found.new.items) }
@@ -31,7 +32,7 @@ fn mark(marks: &mut [bool], found: &mut Vec<usize>, node: usize) -> Result<(), A
 }
 
 /// Marks nodes and lists them, apart from those that are marked.
-fn mark_all(marks: &mut [bool], found: &mut Vec<usize>, nodes: &[usize]) -> Result<(), AllocError>
+fn mark_all(marks: &mut [bool], found: &mut Vec<usize>, nodes: &[usize]) -> Result<(), OutOfMemory>
     requires { All (λ node. node < length marks.old) nodes.now }
     ensures { OnOk result (AreMarked marks.old found.old.items nodes.now marks.new
         found.new.items) }
@@ -44,7 +45,7 @@ fn mark_all(marks: &mut [bool], found: &mut Vec<usize>, nodes: &[usize]) -> Resu
 
 impl Graph {
     /// Marks and lists what the nodes that are listed reach.
-    fn spread(&self, marks: &mut [bool], found: &mut Vec<usize>) -> Result<(), AllocError>
+    fn spread(&self, marks: &mut [bool], found: &mut Vec<usize>) -> Result<(), OutOfMemory>
         requires size { length marks.old ≡ length self.now }
         requires listed { AreListed marks.old found.old.items }
         ensures { OnOk result (AreSpread self.now marks.old marks.new) }
@@ -59,7 +60,7 @@ impl Graph {
     }
 
     /// For each node whether it is one of the starts, or one of them reaches it.
-    pub fn reached(&self, alloc: Global, starts: &[usize]) -> Result<Vec<bool>, AllocError>
+    pub fn reached(&self, alloc: Global, starts: &[usize]) -> Result<Vec<bool>, OutOfMemory>
         requires { All (λ start. start < length self.now) starts.now }
         ensures size { IfOk result (λ marks. length marks.items ≡ length self.now) }
         ensures reached { IfOk result (λ marks. (node : ℕ) →
@@ -73,7 +74,7 @@ impl Graph {
     }
 
     /// For each node whether it is one of the ends, or reaches one of them.
-    pub fn reaching(&self, alloc: Global, ends: &[usize]) -> Result<Vec<bool>, AllocError>
+    pub fn reaching(&self, alloc: Global, ends: &[usize]) -> Result<Vec<bool>, OutOfMemory>
         requires { All (λ end. end < length self.now) ends.now }
         ensures size { IfOk result (λ marks. length marks.items ≡ length self.now) }
         ensures reaching { IfOk result (λ marks. (node : ℕ) →

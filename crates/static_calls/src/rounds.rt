@@ -8,8 +8,9 @@ ghost use Rattle.static_calls.specs.Tables.{seen_routines, ComesBack, OneComesBa
 
 use crate::Cycles;
 use crate::numbers::{RoutineIndex, number};
+use out_of_memory::OutOfMemory;
 use static_rule::{Violation, rule, sooner};
-use std::alloc::{AllocError, Global};
+use std::alloc::Global;
 use syntax_tree::Routine;
 
 /// Whether a routine reaches itself.
@@ -18,7 +19,7 @@ fn comes_back(
     numbers: &RoutineIndex,
     cycles: &Cycles,
     routine: &Routine,
-) -> Result<bool, AllocError>
+) -> Result<bool, OutOfMemory>
     requires { length cycles.now ≡ length numbers.now.keys }
     ensures { IfOk result (λ back. IsTrue back ↔ ComesBack numbers.now.keys cycles.now
         (placed_routine routine.now)) }
@@ -44,7 +45,7 @@ fn next_round(
     cycles: &Cycles,
     first: Option<Violation>,
     routine: &Routine,
-) -> Result<Option<Violation>, AllocError>
+) -> Result<Option<Violation>, OutOfMemory>
     requires { length cycles.now ≡ length numbers.now.keys }
     ensures { IfOk result (λ next. (rs : List (SpecRoutine SpecPlace)) →
         IsFirstOf (OneComesBack numbers.now.keys cycles.now rs) first →
@@ -71,7 +72,7 @@ pub fn first_round(
     numbers: &RoutineIndex,
     cycles: &Cycles,
     routines: &[&Routine],
-) -> Result<Option<Violation>, AllocError>
+) -> Result<Option<Violation>, OutOfMemory>
     requires { length cycles.now ≡ length numbers.now.keys }
     ensures { IfOk result (λ first. IsFirstOf
         (OneComesBack numbers.now.keys cycles.now (seen_routines routines.now)) first) }

@@ -6,11 +6,12 @@ ghost use Rattle.syntax_tree.specs.declared.place.Place.{Place as SpecPlace};
 ghost use Rattle.syntax_tree.specs.Parts.{routines as routines_of, processes as processes_of};
 ghost use Rattle.static_calls.specs.Tables.{seen_routines, seen_processes};
 
-use std::alloc::{AllocError, Global};
+use out_of_memory::OutOfMemory;
+use std::alloc::Global;
 use syntax_tree::{Declaration, Process, Routine};
 
 /// Lists routines behind those before.
-fn list_all<'a>(list: &mut Vec<&'a Routine>, routines: &'a [Routine]) -> Result<(), AllocError>
+fn list_all<'a>(list: &mut Vec<&'a Routine>, routines: &'a [Routine]) -> Result<(), OutOfMemory>
     ensures { OnOk result (seen_routines list.new.items ≡ seen_routines list.old.items ++
         map placed_routine routines.now) }
 {
@@ -21,7 +22,7 @@ fn list_all<'a>(list: &mut Vec<&'a Routine>, routines: &'a [Routine]) -> Result<
 }
 
 /// Lists the routines of a declaration.
-fn list_decl<'a>(list: &mut Vec<&'a Routine>, decl: &'a Declaration) -> Result<(), AllocError>
+fn list_decl<'a>(list: &mut Vec<&'a Routine>, decl: &'a Declaration) -> Result<(), OutOfMemory>
     ensures { OnOk result ((rest : List (SpecDecl SpecPlace)) → seen_routines list.new.items ++
         routines_of rest ≡ seen_routines list.old.items ++
         routines_of (placed_decl decl.now ∷ rest)) }
@@ -46,7 +47,10 @@ fn list_decl<'a>(list: &mut Vec<&'a Routine>, decl: &'a Declaration) -> Result<(
 }
 
 /// All routines and entries, in the order of the text.
-pub fn routines<'a>(alloc: Global, decls: &'a [Declaration]) -> Result<Vec<&'a Routine>, AllocError>
+pub fn routines<'a>(
+    alloc: Global,
+    decls: &'a [Declaration],
+) -> Result<Vec<&'a Routine>, OutOfMemory>
     ensures { IfOk result (λ list. seen_routines list.items ≡
         routines_of (map placed_decl decls.now)) }
 {
@@ -58,7 +62,7 @@ pub fn routines<'a>(alloc: Global, decls: &'a [Declaration]) -> Result<Vec<&'a R
 }
 
 /// Lists the process that a declaration declares, if it does.
-fn list_process<'a>(list: &mut Vec<&'a Process>, decl: &'a Declaration) -> Result<(), AllocError>
+fn list_process<'a>(list: &mut Vec<&'a Process>, decl: &'a Declaration) -> Result<(), OutOfMemory>
     ensures { OnOk result ((rest : List (SpecDecl SpecPlace)) → seen_processes list.new.items ++
         processes_of rest ≡ seen_processes list.old.items ++
         processes_of (placed_decl decl.now ∷ rest)) }
@@ -73,7 +77,7 @@ fn list_process<'a>(list: &mut Vec<&'a Process>, decl: &'a Declaration) -> Resul
 pub fn processes<'a>(
     alloc: Global,
     decls: &'a [Declaration],
-) -> Result<Vec<&'a Process>, AllocError>
+) -> Result<Vec<&'a Process>, OutOfMemory>
     ensures { IfOk result (λ list. seen_processes list.items ≡
         processes_of (map placed_decl decls.now)) }
 {

@@ -18,9 +18,10 @@ use crate::rounds::first_round;
 use crate::routines::{processes, routines};
 use crate::rules_calls_graph::{call_graph, coming_to_wait};
 use crate::{Cycles, Graph};
+use out_of_memory::OutOfMemory;
 use static_declarations::Declarations;
 use static_rule::{Violation, sooner};
-use std::alloc::{AllocError, Global};
+use std::alloc::Global;
 use syntax_tree::{Process, Routine};
 
 /// The first routine that reaches itself in the graph of calls.
@@ -29,7 +30,7 @@ fn first_circle(
     numbers: &RoutineIndex,
     graph: Graph,
     routines: &[&Routine],
-) -> Result<Option<Violation>, AllocError>
+) -> Result<Option<Violation>, OutOfMemory>
     requires { length graph ≡ length numbers.now.keys }
     ensures { IfOk result (λ first. IsFirstOf
         (OneComesBack numbers.now.keys graph (seen_routines routines.now)) first) }
@@ -46,7 +47,7 @@ fn first_in_graph(
     graph: Graph,
     routines: &[&Routine],
     processes: &[&Process],
-) -> Result<Option<Violation>, AllocError>
+) -> Result<Option<Violation>, OutOfMemory>
     requires routines { seen_routines routines.now ≡ routines_of (placed declarations.now).decls }
     requires processes { seen_processes processes.now ≡
         processes_of (placed declarations.now).decls }
@@ -68,7 +69,7 @@ fn first_among(
     declarations: &Declarations<'_>,
     routines: &[&Routine],
     processes: &[&Process],
-) -> Result<Option<Violation>, AllocError>
+) -> Result<Option<Violation>, OutOfMemory>
     requires routines { seen_routines routines.now ≡ routines_of (placed declarations.now).decls }
     requires processes { seen_processes processes.now ≡
         processes_of (placed declarations.now).decls }
@@ -84,7 +85,7 @@ fn first_among(
 pub fn first_broken(
     alloc: Global,
     declarations: &Declarations<'_>,
-) -> Result<Option<Violation>, AllocError>
+) -> Result<Option<Violation>, OutOfMemory>
     ensures { IfOk result (λ first. IsFirstOf (ReachFails (placed declarations.now)) first) }
 {
     let decls = declarations.program().decls.as_slice();

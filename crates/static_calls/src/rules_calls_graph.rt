@@ -7,8 +7,9 @@ ghost use Rattle.static_calls.specs.Tables.{declared_in, seen_routines, edges_of
 
 use crate::Graph;
 use crate::numbers::{RoutineIndex, edges, waiters};
+use out_of_memory::OutOfMemory;
 use static_declarations::Declarations;
-use std::alloc::{AllocError, Global};
+use std::alloc::Global;
 use syntax_tree::Routine;
 
 /// The graph of the calls of routines, by their numbers.
@@ -17,7 +18,7 @@ pub fn call_graph(
     declarations: &Declarations<'_>,
     numbers: &RoutineIndex,
     routines: &[&Routine],
-) -> Result<Graph, AllocError>
+) -> Result<Graph, OutOfMemory>
     ensures size { IfOk result (λ g. length g ≡ length numbers.now.keys) }
     ensures edges { IfOk result (λ g. HasEdges g
         (edges_of (declared_in (placed declarations.now)) numbers.now.keys
@@ -34,7 +35,7 @@ pub fn coming_to_wait(
     graph: &Graph,
     numbers: &RoutineIndex,
     routines: &[&Routine],
-) -> Result<Vec<bool>, AllocError>
+) -> Result<Vec<bool>, OutOfMemory>
     requires { length graph.now ≡ length numbers.now.keys }
     ensures { IfOk result (λ marks. (node : ℕ) →
         (marked marks.items node ≡ true) ↔ ReachesOne graph.now

@@ -4,7 +4,8 @@
 ghost use Rattle.std.specs.Prelude.{◌≡◌, length, IfOk};
 
 use crate::graph::Graph;
-use std::alloc::{AllocError, Global};
+use out_of_memory::OutOfMemory;
+use std::alloc::Global;
 
 /// What a walk meets: for each node the number of the turn in which it was entered, or the size of
 /// the graph, and the nodes in the order in which they were left.
@@ -31,7 +32,7 @@ fn walk_along(
     path: &mut Vec<(usize, usize)>,
     start: usize,
     turn: usize,
-) -> Result<(), AllocError> {
+) -> Result<(), OutOfMemory> {
     if enter(walk.turns.as_mut_slice(), start, turn) {
         path.push((start, 0))?;
     }
@@ -59,13 +60,13 @@ fn walk_from(
     walk: &mut Walk,
     start: usize,
     turn: usize,
-) -> Result<(), AllocError> {
+) -> Result<(), OutOfMemory> {
     let mut path = Vec::new(alloc);
     walk_along(graph, walk, &mut path, start, turn)
 }
 
 /// Walks from one start after the other.
-fn walk_all(alloc: Global, graph: &Graph, starts: &[usize]) -> Result<Walk, AllocError> {
+fn walk_all(alloc: Global, graph: &Graph, starts: &[usize]) -> Result<Walk, OutOfMemory> {
     let mut walk = Walk {
         turns: vec![in alloc; graph.size(); graph.size()]?,
         left: Vec::new(alloc),
@@ -79,7 +80,7 @@ fn walk_all(alloc: Global, graph: &Graph, starts: &[usize]) -> Result<Walk, Allo
 /// Numbers for the nodes: nodes that reach one another have the same, and along other edges the
 /// number rises. A walk goes through the graph, and a second one through the turned graph, from the
 /// nodes in the order in which the first left them, the last first.
-pub fn numbers(alloc: Global, graph: &Graph) -> Result<Vec<usize>, AllocError> {
+pub fn numbers(alloc: Global, graph: &Graph) -> Result<Vec<usize>, OutOfMemory> {
     let nodes: Vec<usize> = (0..graph.size()).collect(alloc)?;
     let mut order = walk_all(alloc, graph, nodes.as_slice())?.left;
     order.reverse();

@@ -11,8 +11,9 @@ ghost use Rattle.static_declarations.specs.Seen.{seen};
 use crate::thing::Entity;
 use crate::things::{Entities, things};
 use crate::values::{Values, named, value_of, values};
+use out_of_memory::OutOfMemory;
 use static_names::ResolvedProgram;
-use std::alloc::{AllocError, Global};
+use std::alloc::Global;
 use std::marker::Model;
 use syntax_tree::{Constant, Name, Place, Program};
 
@@ -44,7 +45,7 @@ impl<'a> Model for Declarations<'a> {
 
 impl<'a> Declarations<'a> {
     /// Goes once through the declarations of the program.
-    pub fn new(alloc: Global, named: &'a ResolvedProgram) -> Result<Declarations<'a>, AllocError>
+    pub fn new(alloc: Global, named: &'a ResolvedProgram) -> Result<Declarations<'a>, OutOfMemory>
         ensures { IfOk result (λ d. d ≡ named.now) }
     {
         let program = named.prog();

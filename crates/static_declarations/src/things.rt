@@ -8,8 +8,9 @@ ghost use Rattle.static_declarations.specs.Seen.{seen, known_things, Declared, n
 
 use crate::sort::{VarType, shape_of, sort_of};
 use crate::thing::Entity;
+use out_of_memory::OutOfMemory;
 use static_names::PlaceMap;
-use std::alloc::{AllocError, Global};
+use std::alloc::Global;
 use std::hash::BuildHasherDefault;
 use syntax_tree::{Declaration, Member, Param, Place, Program, Routine, Var};
 
@@ -17,7 +18,7 @@ use syntax_tree::{Declaration, Member, Param, Place, Program, Routine, Var};
 pub type Entities<'a> = PlaceMap<Entity<'a>>;
 
 /// Keeps one more declaration.
-fn keep<'a>(things: &mut Entities<'a>, place: Place, thing: Entity<'a>) -> Result<(), AllocError>
+fn keep<'a>(things: &mut Entities<'a>, place: Place, thing: Entity<'a>) -> Result<(), OutOfMemory>
     ensures { OnOk result ((more : List Declared) → learn (known_things things.new.entries) more ≡
         learn (known_things things.old.entries) ((place, seen thing.entry) ∷ more)) }
 {
@@ -29,7 +30,7 @@ fn vars<'a>(
     things: &mut Entities<'a>,
     owner: Option<Place>,
     list: &'a [Var],
-) -> Result<(), AllocError>
+) -> Result<(), OutOfMemory>
     ensures { OnOk result ((more : List Declared) → learn (known_things things.new.entries) more ≡
         learn (known_things things.old.entries)
         (vars_things owner (map placed_var list.now) more)) }
@@ -45,7 +46,7 @@ fn params<'a>(
     things: &mut Entities<'a>,
     owner: Option<Place>,
     list: &'a [Param],
-) -> Result<(), AllocError>
+) -> Result<(), OutOfMemory>
     ensures { OnOk result ((more : List Declared) → learn (known_things things.new.entries) more ≡
         learn (known_things things.old.entries)
         (params_things owner (map placed_param list.now) more)) }
@@ -62,7 +63,7 @@ fn routine<'a>(
     things: &mut Entities<'a>,
     is_entry: bool,
     routine: &'a Routine,
-) -> Result<(), AllocError>
+) -> Result<(), OutOfMemory>
     ensures { OnOk result ((more : List Declared) → learn (known_things things.new.entries) more ≡
         learn (known_things things.old.entries)
         (routine_things is_entry (placed_routine routine.now) more)) }
@@ -77,7 +78,7 @@ fn routines<'a>(
     things: &mut Entities<'a>,
     is_entry: bool,
     list: &'a [Routine],
-) -> Result<(), AllocError>
+) -> Result<(), OutOfMemory>
     ensures { OnOk result ((more : List Declared) → learn (known_things things.new.entries) more ≡
         learn (known_things things.old.entries)
         (routines_things is_entry (map placed_routine list.now) more)) }
@@ -88,7 +89,7 @@ fn routines<'a>(
     Ok(())
 }
 
-fn member<'a>(things: &mut Entities<'a>, member: &'a Member) -> Result<(), AllocError>
+fn member<'a>(things: &mut Entities<'a>, member: &'a Member) -> Result<(), OutOfMemory>
     ensures { OnOk result ((more : List Declared) → learn (known_things things.new.entries) more ≡
         learn (known_things things.old.entries) (member_things (placed_member member.now) more)) }
 {
@@ -104,7 +105,7 @@ fn member<'a>(things: &mut Entities<'a>, member: &'a Member) -> Result<(), Alloc
     Ok(())
 }
 
-fn members<'a>(things: &mut Entities<'a>, list: &'a [Member]) -> Result<(), AllocError>
+fn members<'a>(things: &mut Entities<'a>, list: &'a [Member]) -> Result<(), OutOfMemory>
     ensures { OnOk result ((more : List Declared) → learn (known_things things.new.entries) more ≡
         learn (known_things things.old.entries)
         (members_things (map placed_member list.now) more)) }
@@ -115,7 +116,7 @@ fn members<'a>(things: &mut Entities<'a>, list: &'a [Member]) -> Result<(), Allo
     Ok(())
 }
 
-fn decl<'a>(things: &mut Entities<'a>, decl: &'a Declaration) -> Result<(), AllocError>
+fn decl<'a>(things: &mut Entities<'a>, decl: &'a Declaration) -> Result<(), OutOfMemory>
     ensures { OnOk result ((more : List Declared) → learn (known_things things.new.entries) more ≡
         learn (known_things things.old.entries) (decl_things (placed_decl decl.now) more)) }
 {
@@ -141,7 +142,7 @@ fn decl<'a>(things: &mut Entities<'a>, decl: &'a Declaration) -> Result<(), Allo
 }
 
 /// All that stands declared outside of statements, in declarations.
-fn decls<'a>(things: &mut Entities<'a>, list: &'a [Declaration]) -> Result<(), AllocError>
+fn decls<'a>(things: &mut Entities<'a>, list: &'a [Declaration]) -> Result<(), OutOfMemory>
     ensures { OnOk result ((more : List Declared) → learn (known_things things.new.entries) more ≡
         learn (known_things things.old.entries) (decls_things (map placed_decl list.now) more)) }
 {
@@ -152,7 +153,7 @@ fn decls<'a>(things: &mut Entities<'a>, list: &'a [Declaration]) -> Result<(), A
 }
 
 /// All that a program declares outside of statements, its own name included.
-pub fn things<'a>(alloc: Global, program: &'a Program) -> Result<Entities<'a>, AllocError>
+pub fn things<'a>(alloc: Global, program: &'a Program) -> Result<Entities<'a>, OutOfMemory>
     ensures { IfOk result (λ things. known_things things.entries ≡
         learn nothing (decls_things (map placed_decl program.now.decls)
         ((program.now.place, other_thing) ∷ []))) }

@@ -6,7 +6,8 @@ ghost use Rattle.source_semantics.specs.Names.{signed};
 ghost use Rattle.static_declarations.specs.Seen.{number_value, kept_worth, amount, with_constant, with_decl, with_decls, no_worth};
 
 use indexmap::IndexMap;
-use std::alloc::{AllocError, Global};
+use out_of_memory::OutOfMemory;
+use std::alloc::Global;
 use syntax_tree::{Constant, Declaration, Value};
 
 /// A number by its sign and its size. Zero has either sign.
@@ -65,7 +66,7 @@ pub fn value_of(values: &Values<'_>, constant: &Constant) -> Number
 }
 
 /// Keeps the value of one more constant.
-fn keep<'a>(values: &mut Values<'a>, name: &'a [u8], number: Number) -> Result<(), AllocError>
+fn keep<'a>(values: &mut Values<'a>, name: &'a [u8], number: Number) -> Result<(), OutOfMemory>
     ensures { OnOk result (kept_worth values.new.entries ≡
         with_constant (kept_worth values.old.entries) name.now (number_value number)) }
 {
@@ -74,7 +75,7 @@ fn keep<'a>(values: &mut Values<'a>, name: &'a [u8], number: Number) -> Result<(
 }
 
 /// One more declaration.
-fn next<'a>(values: &mut Values<'a>, decl: &'a Declaration) -> Result<(), AllocError>
+fn next<'a>(values: &mut Values<'a>, decl: &'a Declaration) -> Result<(), OutOfMemory>
     ensures { OnOk result (kept_worth values.new.entries ≡
         with_decl (kept_worth values.old.entries) (plain_decl (placed_decl decl.now))) }
 {
@@ -86,7 +87,7 @@ fn next<'a>(values: &mut Values<'a>, decl: &'a Declaration) -> Result<(), AllocE
 }
 
 /// The constants of declarations, each with its value, which names those before it alone.
-pub fn values<'a>(alloc: Global, decls: &'a [Declaration]) -> Result<Values<'a>, AllocError>
+pub fn values<'a>(alloc: Global, decls: &'a [Declaration]) -> Result<Values<'a>, OutOfMemory>
     ensures { IfOk result (λ values. kept_worth values.entries ≡
         with_decls no_worth (map plain_decl (map placed_decl decls.now))) }
 {

@@ -35,4 +35,4 @@ pub record IsResolved (g : Prog Place) (ties : List (Key × Place)) : Type 0 whe
 -- why the program is refused: the first rule that fails, or want of memory
 abbrev pub IsFault : Prog Place → NameFault → Type 0
 IsFault g (fault_is.Rule number place) = IsFirst (Fails g) (record { number = number; place = place })
-IsFault g fault_is.Memory = Unit {0}
+IsFault g (fault_is.Memory _) = Unit {0}

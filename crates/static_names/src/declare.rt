@@ -10,7 +10,7 @@ use crate::findings::Findings;
 use crate::kind::{Declared, Kind};
 use crate::scope::{Scope, add_unless, find};
 use crate::scope_chain::{OuterScopes, TopScope};
-use std::alloc::AllocError;
+use out_of_memory::OutOfMemory;
 use syntax_tree::{Member, Monitor, Name, Param, Process, Routine, Var};
 
 /// Declares a name in a scope.
@@ -20,7 +20,7 @@ fn declare<'a>(
     outer: &OuterScopes<'_, 'a>,
     name: &'a Name,
     declared: Declared,
-) -> Result<(), AllocError>
+) -> Result<(), OutOfMemory>
     ensures { OnOk result (Scoped (outer_site outer.now).means findings.old
         (meaning scope.old.entries) ((name.now, declared) ∷ []) findings.new
         (meaning scope.new.entries) []) }
@@ -36,7 +36,7 @@ fn params<'a>(
     scope: &mut Scope<'a>,
     outer: &OuterScopes<'_, 'a>,
     list: &'a [Param],
-) -> Result<(), AllocError>
+) -> Result<(), OutOfMemory>
     ensures { OnOk result (Scoped (outer_site outer.now).means findings.old
         (meaning scope.old.entries) (map param_name (map placed_param list.now)) findings.new
         (meaning scope.new.entries) []) }
@@ -56,7 +56,7 @@ fn vars<'a>(
     scope: &mut Scope<'a>,
     outer: &OuterScopes<'_, 'a>,
     list: &'a [Var],
-) -> Result<(), AllocError>
+) -> Result<(), OutOfMemory>
     ensures { OnOk result (Scoped (outer_site outer.now).means findings.old
         (meaning scope.old.entries) (map var_name (map placed_var list.now)) findings.new
         (meaning scope.new.entries) []) }
@@ -76,7 +76,7 @@ fn member<'a>(
     scope: &mut Scope<'a>,
     outer: &OuterScopes<'_, 'a>,
     member: &'a Member,
-) -> Result<(), AllocError>
+) -> Result<(), OutOfMemory>
     ensures { OnOk result (Scoped (outer_site outer.now).means findings.old
         (meaning scope.old.entries) (member_name (placed_member member.now) ∷ []) findings.new
         (meaning scope.new.entries) []) }
@@ -104,7 +104,7 @@ fn members<'a>(
     scope: &mut Scope<'a>,
     outer: &OuterScopes<'_, 'a>,
     list: &'a [Member],
-) -> Result<(), AllocError>
+) -> Result<(), OutOfMemory>
     ensures { OnOk result (Scoped (outer_site outer.now).means findings.old
         (meaning scope.old.entries) (map member_name (map placed_member list.now)) findings.new
         (meaning scope.new.entries) []) }
@@ -120,7 +120,7 @@ fn entries<'a>(
     scope: &mut Scope<'a>,
     outer: &OuterScopes<'_, 'a>,
     list: &'a [Routine],
-) -> Result<(), AllocError>
+) -> Result<(), OutOfMemory>
     ensures { OnOk result (Scoped (outer_site outer.now).means findings.old
         (meaning scope.old.entries) (map name_of_entry (map placed_routine list.now)) findings.new
         (meaning scope.new.entries) []) }
@@ -140,7 +140,7 @@ fn routines<'a>(
     scope: &mut Scope<'a>,
     outer: &OuterScopes<'_, 'a>,
     list: &'a [Routine],
-) -> Result<(), AllocError>
+) -> Result<(), OutOfMemory>
     ensures { OnOk result (Scoped (outer_site outer.now).means findings.old
         (meaning scope.old.entries) (map name_of_routine (map placed_routine list.now)) findings.new
         (meaning scope.new.entries) []) }
@@ -161,7 +161,7 @@ pub fn routine<'a>(
     scope: &mut Scope<'a>,
     outer: &OuterScopes<'_, 'a>,
     routine: &'a Routine,
-) -> Result<(), AllocError>
+) -> Result<(), OutOfMemory>
     ensures { OnOk result (Scoped (outer_site outer.now).means findings.old
         (meaning scope.old.entries) (routine_scope (placed_routine routine.now)) findings.new
         (meaning scope.new.entries) []) }
@@ -176,7 +176,7 @@ pub fn monitor<'a>(
     scope: &mut Scope<'a>,
     top: &TopScope<'_, 'a>,
     monitor: &'a Monitor,
-) -> Result<(), AllocError>
+) -> Result<(), OutOfMemory>
     ensures { OnOk result (Scoped (top_site top.now).means findings.old (meaning scope.old.entries)
         (monitor_scope (placed_monitor monitor.now)) findings.new (meaning scope.new.entries) []) }
 {
@@ -191,7 +191,7 @@ pub fn process<'a>(
     scope: &mut Scope<'a>,
     top: &TopScope<'_, 'a>,
     process: &'a Process,
-) -> Result<(), AllocError>
+) -> Result<(), OutOfMemory>
     ensures { OnOk result (Scoped (top_site top.now).means findings.old (meaning scope.old.entries)
         (process_scope (placed_process process.now)) findings.new (meaning scope.new.entries) []) }
 {

@@ -11,7 +11,7 @@ use crate::findings::Findings;
 use crate::kind::NameUse;
 use crate::scope::Local;
 use crate::scope_chain::ScopeChain;
-use std::alloc::AllocError;
+use out_of_memory::OutOfMemory;
 use syntax_tree::{Constant, Expr, Op, Ref, Scalar, Type, Value};
 
 pub fn constant<'a>(
@@ -19,7 +19,7 @@ pub fn constant<'a>(
     around: &ScopeChain<'_, 'a>,
     loops: &[Local<'a>],
     constant: &Constant,
-) -> Result<(), AllocError>
+) -> Result<(), OutOfMemory>
     ensures { OnOk result ((more : List Occurrence) → noted findings.new more ≡
         noted findings.old (constant_names (site around.now loops.now)
         (placed_constant constant.now) more)) }
@@ -41,7 +41,7 @@ pub fn scalar<'a>(
     around: &ScopeChain<'_, 'a>,
     loops: &[Local<'a>],
     kind: &Scalar,
-) -> Result<(), AllocError>
+) -> Result<(), OutOfMemory>
     ensures { OnOk result ((more : List Occurrence) → noted findings.new more ≡
         noted findings.old (scalar_names (site around.now loops.now)
         (placed_scalar kind.now) more)) }
@@ -58,7 +58,7 @@ pub fn kind<'a>(
     around: &ScopeChain<'_, 'a>,
     loops: &[Local<'a>],
     kind: &Type,
-) -> Result<(), AllocError>
+) -> Result<(), OutOfMemory>
     ensures { OnOk result ((more : List Occurrence) → noted findings.new more ≡
         noted findings.old (kind_names (site around.now loops.now) (placed_kind kind.now) more)) }
 {
@@ -78,7 +78,7 @@ pub fn expr<'a>(
     around: &ScopeChain<'_, 'a>,
     loops: &[Local<'a>],
     e: &Expr,
-) -> Result<(), AllocError>
+) -> Result<(), OutOfMemory>
     ensures { OnOk result ((more : List Occurrence) → noted findings.new more ≡
         noted findings.old (expr_names (site around.now loops.now) (placed_expr e.now) more)) }
 {
@@ -117,7 +117,7 @@ fn operands<'a>(
     around: &ScopeChain<'_, 'a>,
     loops: &[Local<'a>],
     list: &[(Op, Expr)],
-) -> Result<(), AllocError>
+) -> Result<(), OutOfMemory>
     ensures { OnOk result ((more : List Occurrence) → noted findings.new more ≡
         noted findings.old (operands_names (site around.now loops.now)
         (placed_operands list.now) more)) }
@@ -134,7 +134,7 @@ pub fn exprs<'a>(
     around: &ScopeChain<'_, 'a>,
     loops: &[Local<'a>],
     list: &[Expr],
-) -> Result<(), AllocError>
+) -> Result<(), OutOfMemory>
     ensures { OnOk result ((more : List Occurrence) → noted findings.new more ≡
         noted findings.old (exprs_names (site around.now loops.now) (placed_exprs list.now) more)) }
 {
@@ -150,7 +150,7 @@ pub fn target<'a>(
     around: &ScopeChain<'_, 'a>,
     loops: &[Local<'a>],
     target: &Ref,
-) -> Result<(), AllocError>
+) -> Result<(), OutOfMemory>
     ensures { OnOk result ((more : List Occurrence) → noted findings.new more ≡
         noted findings.old (ref_names (site around.now loops.now) (placed_ref target.now) more)) }
 {

@@ -7,8 +7,9 @@ ghost use Rattle.static_names.specs.Findings.{blame as blamed, tie as tied, note
 use crate::errors::tri;
 use crate::kind::{Declared, NameUse, suits};
 use crate::near_places::PlaceMap;
+use out_of_memory::OutOfMemory;
 use static_rule::{Violation, rule};
-use std::alloc::{AllocError, Global};
+use std::alloc::Global;
 use std::hash::BuildHasherDefault;
 use std::marker::Model;
 use syntax_tree::{Name, Place};
@@ -45,7 +46,7 @@ impl Findings {
         static_rule::blame(&mut self.first, number, Some(place));
     }
 
-    fn tie(&mut self, place: Place, declared: Place) -> Result<(), AllocError>
+    fn tie(&mut self, place: Place, declared: Place) -> Result<(), OutOfMemory>
         ensures { OnOk result (self.new ≡ tied self.old place declared) }
     {
         self.ties.insert((place.line, place.col), declared)?;
@@ -58,7 +59,7 @@ impl Findings {
         place: Place,
         want: NameUse,
         means: Option<Declared>,
-    ) -> Result<(), AllocError>
+    ) -> Result<(), OutOfMemory>
         ensures { OnOk result (self.new ≡ note_use self.old place want means) }
     {
         match means {

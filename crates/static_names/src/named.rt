@@ -8,6 +8,7 @@ ghost use Rattle.static_names.specs.Resolved.{IsRead, IsNamed, IsFault};
 
 use crate::near_places::PlaceMap;
 use crate::program::findings;
+use out_of_memory::OutOfMemory;
 use std::alloc::Global;
 use std::marker::Model;
 use syntax_tree::{Place, Program};
@@ -23,7 +24,7 @@ pub enum NameFault {
     Rule { number: u8, place: Place },
     /// There was not enough memory.
     #[error("out of memory")]
-    Memory,
+    Memory(OutOfMemory),
 }
 
 /// A program of which no rule for names fails, with where each used name is declared.
@@ -61,7 +62,7 @@ pub fn name(alloc: Global, p: Program) -> Result<ResolvedProgram, NameFault>
 {
     let found = match findings(alloc, &p) {
         Ok(found) => found,
-        Err(_) => return Err(NameFault::Memory),
+        Err(error) => return Err(NameFault::Memory(error)),
     };
     match found.first {
         Some(broken) => Err(NameFault::Rule {

@@ -14,7 +14,8 @@ use crate::kind::NameUse;
 use crate::scope::Scope;
 use crate::scope_chain::{OuterScopes, ScopeChain, TopScope};
 use crate::stmt::stmts;
-use std::alloc::{AllocError, Global};
+use out_of_memory::OutOfMemory;
+use std::alloc::Global;
 use syntax_tree::{
     Constant, Declaration, Expr, Handler, Member, Monitor, Param, Process, Routine, Scalar, Stmt,
     Trigger, Var,
@@ -24,7 +25,7 @@ fn params<'a>(
     findings: &mut Findings,
     around: &ScopeChain<'_, 'a>,
     list: &[Param],
-) -> Result<(), AllocError>
+) -> Result<(), OutOfMemory>
     ensures { OnOk result ((more : List Occurrence) → noted findings.new more ≡
         noted findings.old (params_names (site around.now []) (map placed_param list.now) more)) }
 {
@@ -38,7 +39,7 @@ fn vars<'a>(
     findings: &mut Findings,
     around: &ScopeChain<'_, 'a>,
     list: &[Var],
-) -> Result<(), AllocError>
+) -> Result<(), OutOfMemory>
     ensures { OnOk result ((more : List Occurrence) → noted findings.new more ≡
         noted findings.old (vars_names (site around.now []) (map placed_var list.now) more)) }
 {
@@ -52,7 +53,7 @@ fn member<'a>(
     findings: &mut Findings,
     around: &ScopeChain<'_, 'a>,
     member: &Member,
-) -> Result<(), AllocError>
+) -> Result<(), OutOfMemory>
     ensures { OnOk result ((more : List Occurrence) → noted findings.new more ≡
         noted findings.old (member_inner (site around.now []) (placed_member member.now) more)) }
 {
@@ -66,7 +67,7 @@ fn members<'a>(
     findings: &mut Findings,
     around: &ScopeChain<'_, 'a>,
     list: &[Member],
-) -> Result<(), AllocError>
+) -> Result<(), OutOfMemory>
     ensures { OnOk result ((more : List Occurrence) → noted findings.new more ≡
         noted findings.old (members_names (site around.now []) (map placed_member list.now) more)) }
 {
@@ -80,7 +81,7 @@ fn constants<'a>(
     findings: &mut Findings,
     around: &ScopeChain<'_, 'a>,
     list: &[Constant],
-) -> Result<(), AllocError>
+) -> Result<(), OutOfMemory>
     ensures { OnOk result ((more : List Occurrence) → noted findings.new more ≡
         noted findings.old (constants_names (site around.now [])
         (map placed_constant list.now) more)) }
@@ -96,7 +97,7 @@ fn result<'a>(
     findings: &mut Findings,
     around: &ScopeChain<'_, 'a>,
     kind: &Option<Scalar>,
-) -> Result<(), AllocError>
+) -> Result<(), OutOfMemory>
     ensures { OnOk result ((more : List Occurrence) → noted findings.new more ≡
         noted findings.old (optional_names (scalar_names (site around.now []))
         (optional placed_scalar kind.now) more)) }
@@ -112,7 +113,7 @@ fn value<'a>(
     findings: &mut Findings,
     around: &ScopeChain<'_, 'a>,
     value: &Option<Expr>,
-) -> Result<(), AllocError>
+) -> Result<(), OutOfMemory>
     ensures { OnOk result ((more : List Occurrence) → noted findings.new more ≡
         noted findings.old (optional_names (expr_names (site around.now []))
         (optional placed_expr value.now) more)) }
@@ -129,7 +130,7 @@ fn body<'a>(
     findings: &mut Findings,
     around: &ScopeChain<'_, 'a>,
     list: &'a [Stmt],
-) -> Result<(), AllocError>
+) -> Result<(), OutOfMemory>
     ensures { OnOk result ((more : List Occurrence) → noted findings.new more ≡
         noted findings.old (stmts_names (site around.now []) (placed_stmts list.now) more)) }
 {
@@ -143,7 +144,7 @@ fn routine_parts<'a>(
     findings: &mut Findings,
     around: &ScopeChain<'_, 'a>,
     routine: &'a Routine,
-) -> Result<(), AllocError>
+) -> Result<(), OutOfMemory>
     ensures { OnOk result ((more : List Occurrence) → noted findings.new more ≡
         noted findings.old (routine_inner (site around.now []) (placed_routine routine.now) more)) }
 {
@@ -163,7 +164,7 @@ fn routine_with<'a>(
     outer: &OuterScopes<'_, 'a>,
     locals: &mut Scope<'a>,
     routine: &'a Routine,
-) -> Result<(), AllocError>
+) -> Result<(), OutOfMemory>
     requires { locals.old.entries ≡ [] }
     ensures { OnOk result ((more : List Occurrence) → noted findings.new more ≡
         noted findings.old (routine_names (outer_site outer.now)
@@ -182,7 +183,7 @@ fn routine<'a>(
     findings: &mut Findings,
     outer: &OuterScopes<'_, 'a>,
     routine: &'a Routine,
-) -> Result<(), AllocError>
+) -> Result<(), OutOfMemory>
     ensures { OnOk result ((more : List Occurrence) → noted findings.new more ≡
         noted findings.old (routine_names (outer_site outer.now)
         (placed_routine routine.now) more)) }
@@ -196,7 +197,7 @@ fn routines<'a>(
     findings: &mut Findings,
     outer: &OuterScopes<'_, 'a>,
     list: &'a [Routine],
-) -> Result<(), AllocError>
+) -> Result<(), OutOfMemory>
     ensures { OnOk result ((more : List Occurrence) → noted findings.new more ≡
         noted findings.old (routines_names (outer_site outer.now)
         (map placed_routine list.now) more)) }
@@ -213,7 +214,7 @@ fn monitor_parts<'a>(
     findings: &mut Findings,
     around: &ScopeChain<'_, 'a>,
     monitor: &'a Monitor,
-) -> Result<(), AllocError>
+) -> Result<(), OutOfMemory>
     requires { site around.now [] ≡ outer_site around.now.outer }
     ensures { OnOk result ((more : List Occurrence) → noted findings.new more ≡
         noted findings.old (monitor_inner (outer_site around.now.outer)
@@ -232,7 +233,7 @@ fn monitor_with<'a>(
     top: &TopScope<'_, 'a>,
     names: &mut Scope<'a>,
     monitor: &'a Monitor,
-) -> Result<(), AllocError>
+) -> Result<(), OutOfMemory>
     requires { names.old.entries ≡ [] }
     ensures { OnOk result ((more : List Occurrence) → noted findings.new more ≡
         noted findings.old (monitor_names (top_site top.now) (placed_monitor monitor.now) more)) }
@@ -255,7 +256,7 @@ fn monitor<'a>(
     findings: &mut Findings,
     top: &TopScope<'_, 'a>,
     monitor: &'a Monitor,
-) -> Result<(), AllocError>
+) -> Result<(), OutOfMemory>
     ensures { OnOk result ((more : List Occurrence) → noted findings.new more ≡
         noted findings.old (monitor_names (top_site top.now) (placed_monitor monitor.now) more)) }
 {
@@ -268,7 +269,7 @@ fn limit<'a>(
     findings: &mut Findings,
     around: &ScopeChain<'_, 'a>,
     limit: &Option<Constant>,
-) -> Result<(), AllocError>
+) -> Result<(), OutOfMemory>
     ensures { OnOk result ((more : List Occurrence) → noted findings.new more ≡
         noted findings.old (optional_names (constant_names (site around.now []))
         (optional placed_constant limit.now) more)) }
@@ -283,7 +284,7 @@ fn activation<'a>(
     findings: &mut Findings,
     around: &ScopeChain<'_, 'a>,
     activation: &Trigger,
-) -> Result<(), AllocError>
+) -> Result<(), OutOfMemory>
     ensures { OnOk result ((more : List Occurrence) → noted findings.new more ≡
         noted findings.old (activation_names (site around.now [])
         (placed_activation activation.now) more)) }
@@ -316,7 +317,7 @@ fn handler<'a>(
     findings: &mut Findings,
     around: &ScopeChain<'_, 'a>,
     handler: &'a Option<Handler>,
-) -> Result<(), AllocError>
+) -> Result<(), OutOfMemory>
     ensures { OnOk result ((more : List Occurrence) → noted findings.new more ≡
         noted findings.old (optional_names (handler_names (site around.now []))
         (optional placed_handler handler.now) more)) }
@@ -336,7 +337,7 @@ fn process_parts<'a>(
     findings: &mut Findings,
     around: &ScopeChain<'_, 'a>,
     process: &'a Process,
-) -> Result<(), AllocError>
+) -> Result<(), OutOfMemory>
     requires { site around.now [] ≡ outer_site around.now.outer }
     ensures { OnOk result ((more : List Occurrence) → noted findings.new more ≡
         noted findings.old (process_inner (outer_site around.now.outer)
@@ -358,7 +359,7 @@ fn process_with<'a>(
     top: &TopScope<'_, 'a>,
     names: &mut Scope<'a>,
     process: &'a Process,
-) -> Result<(), AllocError>
+) -> Result<(), OutOfMemory>
     requires { names.old.entries ≡ [] }
     ensures { OnOk result ((more : List Occurrence) → noted findings.new more ≡
         noted findings.old (process_names (top_site top.now) (placed_process process.now) more)) }
@@ -381,7 +382,7 @@ fn process<'a>(
     findings: &mut Findings,
     top: &TopScope<'_, 'a>,
     process: &'a Process,
-) -> Result<(), AllocError>
+) -> Result<(), OutOfMemory>
     ensures { OnOk result ((more : List Occurrence) → noted findings.new more ≡
         noted findings.old (process_names (top_site top.now) (placed_process process.now) more)) }
 {
@@ -395,7 +396,7 @@ pub fn decl<'a>(
     findings: &mut Findings,
     top: &TopScope<'_, 'a>,
     decl: &'a Declaration,
-) -> Result<(), AllocError>
+) -> Result<(), OutOfMemory>
     ensures { OnOk result ((more : List Occurrence) → noted findings.new more ≡
         noted findings.old (inner_names (top_site top.now) (placed_decl decl.now) more)) }
 {

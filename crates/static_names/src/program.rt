@@ -17,7 +17,8 @@ use crate::kind::{Declared, Kind};
 use crate::part::decl;
 use crate::scope::{Entries, Scope, add, add_entry, add_unless, find, set};
 use crate::scope_chain::TopScope;
-use std::alloc::{AllocError, Global};
+use out_of_memory::OutOfMemory;
+use std::alloc::Global;
 use syntax_tree::{Declaration, Name, Place, Program, Routine};
 
 /// Where a declaration has its name.
@@ -63,7 +64,7 @@ fn name_of(decl: &Declaration) -> &[u8]
 }
 
 /// Declares what is no constant.
-fn other<'a>(scope: &mut Scope<'a>, decl: &'a Declaration) -> Result<(), AllocError>
+fn other<'a>(scope: &mut Scope<'a>, decl: &'a Declaration) -> Result<(), OutOfMemory>
     ensures { OnOk result (meaning scope.new.entries ≡
         add_all (meaning scope.old.entries) (others_of (placed_decl decl.now ∷ []))) }
 {
@@ -84,7 +85,7 @@ fn other<'a>(scope: &mut Scope<'a>, decl: &'a Declaration) -> Result<(), AllocEr
     }
 }
 
-fn others<'a>(scope: &mut Scope<'a>, list: &'a [Declaration]) -> Result<(), AllocError>
+fn others<'a>(scope: &mut Scope<'a>, list: &'a [Declaration]) -> Result<(), OutOfMemory>
     ensures { OnOk result (meaning scope.new.entries ≡
         add_all (meaning scope.old.entries) (others_of (map placed_decl list.now))) }
 {
@@ -99,7 +100,7 @@ fn entries<'a>(
     entries: &mut Entries<'a>,
     monitor: Place,
     list: &'a [Routine],
-) -> Result<(), AllocError>
+) -> Result<(), OutOfMemory>
     ensures { OnOk result (entry_meaning entries.new.entries ≡
         add_entries (entry_meaning entries.old.entries) monitor
         (map entry_name (map placed_routine list.now))) }
@@ -115,7 +116,7 @@ fn entries<'a>(
 }
 
 /// The entries of a declaration, where it is a monitor.
-fn monitor<'a>(all: &mut Entries<'a>, decl: &'a Declaration) -> Result<(), AllocError>
+fn monitor<'a>(all: &mut Entries<'a>, decl: &'a Declaration) -> Result<(), OutOfMemory>
     ensures { OnOk result (entry_meaning all.new.entries ≡
         add_monitors (entry_meaning all.old.entries) (placed_decl decl.now ∷ [])) }
 {
@@ -125,7 +126,7 @@ fn monitor<'a>(all: &mut Entries<'a>, decl: &'a Declaration) -> Result<(), Alloc
     Ok(())
 }
 
-fn monitors<'a>(all: &mut Entries<'a>, list: &'a [Declaration]) -> Result<(), AllocError>
+fn monitors<'a>(all: &mut Entries<'a>, list: &'a [Declaration]) -> Result<(), OutOfMemory>
     ensures { OnOk result (entry_meaning all.new.entries ≡
         add_monitors (entry_meaning all.old.entries) (map placed_decl list.now)) }
 {
@@ -137,7 +138,11 @@ fn monitors<'a>(all: &mut Entries<'a>, list: &'a [Declaration]) -> Result<(), Al
 
 /// A constant reaches from here on, before what is declared later, unless its name is taken by what
 /// is declared before.
-fn reveal<'a>(taken: bool, program: &mut Scope<'a>, decl: &'a Declaration) -> Result<(), AllocError>
+fn reveal<'a>(
+    taken: bool,
+    program: &mut Scope<'a>,
+    decl: &'a Declaration,
+) -> Result<(), OutOfMemory>
     ensures { OnOk result ((seen : List (Bor PlainName × SpecDeclared))
         (rest : List (PlacedDecl SpecPlace)) →
         taken ≡ is_some (meaning seen (decl_name (placed_decl decl.now)).0) →
@@ -167,7 +172,7 @@ fn next<'a>(
     seen: &mut Scope<'a>,
     entries: &Entries<'a>,
     one: &'a Declaration,
-) -> Result<(), AllocError>
+) -> Result<(), OutOfMemory>
     ensures { OnOk result ((rest : List (PlacedDecl SpecPlace)) →
         IsNext (entry_meaning entries.now.entries) findings.old (meaning program.old.entries)
         (meaning seen.old.entries) (placed_decl one.now ∷ rest) findings.new
@@ -191,7 +196,7 @@ fn decls<'a>(
     seen: &mut Scope<'a>,
     entries: &Entries<'a>,
     list: &'a [Declaration],
-) -> Result<(), AllocError>
+) -> Result<(), OutOfMemory>
     ensures { OnOk result (IsNext (entry_meaning entries.now.entries) findings.old
         (meaning program.old.entries) (meaning seen.old.entries)
         (map placed_decl list.now) findings.new (meaning program.new.entries)
@@ -208,7 +213,7 @@ fn start<'a>(
     names: &mut Scope<'a>,
     seen: &mut Scope<'a>,
     program: &'a Program,
-) -> Result<(), AllocError>
+) -> Result<(), OutOfMemory>
     ensures names { OnOk result (meaning names.new.entries ≡
         add_all (added (meaning names.old.entries) (program_name (placed program.now)))
         (others_of (placed program.now).decls)) }
@@ -232,7 +237,7 @@ fn body_with<'a>(
     seen: &mut Scope<'a>,
     entries: &Entries<'a>,
     program: &'a Program,
-) -> Result<(), AllocError>
+) -> Result<(), OutOfMemory>
     requires names { names.old.entries ≡ [] }
     requires seen { seen.old.entries ≡ [] }
     ensures { let g = placed program.now in OnOk result
@@ -257,20 +262,20 @@ fn body<'a>(
     findings: &mut Findings,
     entries: &Entries<'a>,
     program: &'a Program,
-) -> Result<(), AllocError>
+) -> Result<(), OutOfMemory>
     ensures { let g = placed program.now in OnOk result
         ((more : List Occurrence) → noted findings.new more ≡
         noted findings.old (decls_names (entry_meaning entries.now.entries)
         (program_name g ∷ []) g.decls more)) }
 {
     let most = program.decls.len().saturating_add(1);
-    let mut names = tri!(Scope::with_capacity(alloc, most));
-    let mut seen = tri!(Scope::with_capacity(alloc, most));
+    let mut names = Scope::with_capacity(alloc, most)?;
+    let mut seen = Scope::with_capacity(alloc, most)?;
     body_with(alloc, findings, &mut names, &mut seen, entries, program)
 }
 
 /// The names of all declarations.
-fn whole(alloc: Global, findings: &mut Findings, program: &Program) -> Result<(), AllocError>
+fn whole(alloc: Global, findings: &mut Findings, program: &Program) -> Result<(), OutOfMemory>
     ensures { let g = placed program.now in OnOk result
         ((more : List Occurrence) → noted findings.new more ≡
         noted findings.old (decls_names (λ place. first (entries_at g.decls place))
@@ -282,7 +287,7 @@ fn whole(alloc: Global, findings: &mut Findings, program: &Program) -> Result<()
 }
 
 /// What is found of all names of a program.
-pub fn findings(alloc: Global, program: &Program) -> Result<Findings, AllocError>
+pub fn findings(alloc: Global, program: &Program) -> Result<Findings, OutOfMemory>
     ensures { IfOk result (λ f. f ≡ noted nothing (names_of (placed program.now))) }
 {
     let mut findings = Findings::new(alloc);

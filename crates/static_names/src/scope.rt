@@ -6,7 +6,7 @@ ghost use Rattle.static_names.specs.Seen.{meaning, meaning_in, add as added, put
 use crate::errors::tri;
 use crate::kind::Declared;
 use indexmap::IndexMap;
-use std::alloc::AllocError;
+use out_of_memory::OutOfMemory;
 use syntax_tree::Place;
 
 /// Names with where and as what they are declared, in the order of their declarations. Of two
@@ -56,7 +56,7 @@ pub fn find_in(scope: Option<&Scope<'_>>, name: &[u8]) -> Option<Declared>
 }
 
 /// Declares a name, in place of what the scope has.
-pub fn set<'a>(scope: &mut Scope<'a>, name: &'a [u8], declared: Declared) -> Result<(), AllocError>
+pub fn set<'a>(scope: &mut Scope<'a>, name: &'a [u8], declared: Declared) -> Result<(), OutOfMemory>
     ensures { OnOk result (meaning scope.new.entries ≡
         put (meaning scope.old.entries) (name.now, declared)) }
 {
@@ -70,7 +70,7 @@ pub fn add_unless<'a>(
     scope: &mut Scope<'a>,
     name: &'a [u8],
     declared: Declared,
-) -> Result<(), AllocError>
+) -> Result<(), OutOfMemory>
     requires { taken ≡ is_some (meaning scope.old.entries name.now) }
     ensures { OnOk result (meaning scope.new.entries ≡
         added (meaning scope.old.entries) (name.now, declared)) }
@@ -82,7 +82,7 @@ pub fn add_unless<'a>(
 }
 
 /// Declares a name, unless the scope has it.
-pub fn add<'a>(scope: &mut Scope<'a>, name: &'a [u8], declared: Declared) -> Result<(), AllocError>
+pub fn add<'a>(scope: &mut Scope<'a>, name: &'a [u8], declared: Declared) -> Result<(), OutOfMemory>
     ensures { OnOk result (meaning scope.new.entries ≡
         added (meaning scope.old.entries) (name.now, declared)) }
 {
@@ -116,7 +116,7 @@ pub fn add_entry<'a>(
     monitor: Place,
     name: &'a [u8],
     declared: Declared,
-) -> Result<(), AllocError>
+) -> Result<(), OutOfMemory>
     ensures { OnOk result (entry_meaning entries.new.entries ≡
         entry_added (entry_meaning entries.old.entries) monitor (name.now, declared)) }
 {

@@ -10,7 +10,7 @@ use crate::errors::tri;
 use crate::findings::Findings;
 use crate::kind::{Declared, Kind, NameUse};
 use crate::scope::{Entries, Local, Scope, find, find_entry, find_in, find_in_loops};
-use std::alloc::AllocError;
+use out_of_memory::OutOfMemory;
 use syntax_tree::{Name, Place};
 
 /// The program's names, and the entries of all monitors.
@@ -115,7 +115,7 @@ impl<'s, 'a> ScopeChain<'s, 'a> {
         name: &Name,
         place: Place,
         want: NameUse,
-    ) -> Result<(), AllocError>
+    ) -> Result<(), OutOfMemory>
         ensures { OnOk result (findings.new ≡
             note findings.old (uses (site self.now loops.now) name.now place want)) }
     {
@@ -129,7 +129,7 @@ impl<'s, 'a> ScopeChain<'s, 'a> {
         loops: &[Local<'a>],
         monitor: (&Name, Place),
         entry: (&Name, Place),
-    ) -> Result<(), AllocError>
+    ) -> Result<(), OutOfMemory>
         ensures { OnOk result ((more : List Occurrence) → noted findings.new more ≡
             noted findings.old (entry_names (site self.now loops.now) monitor.entry.0.now
             monitor.entry.1 entry.entry.0.now entry.entry.1 more)) }

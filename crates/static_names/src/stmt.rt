@@ -14,11 +14,11 @@ use crate::findings::Findings;
 use crate::kind::{Declared, Kind, NameUse};
 use crate::scope::Local;
 use crate::scope_chain::ScopeChain;
-use std::alloc::AllocError;
+use out_of_memory::OutOfMemory;
 use syntax_tree::{Constant, Expr, Name, Place, Ref, Stmt};
 
 /// Enters a loop.
-fn enter<'a>(loops: &mut Vec<Local<'a>>, name: &'a Name, place: Place) -> Result<(), AllocError>
+fn enter<'a>(loops: &mut Vec<Local<'a>>, name: &'a Name, place: Place) -> Result<(), OutOfMemory>
     ensures inner { OnOk result ((around : AroundValue) → site around loops.new.items ≡
         inside (loop_name name.now place ∷ []) (site around loops.old.items)) }
     ensures outer { OnOk result (take (length loops.new.items - 1) loops.new.items ≡
@@ -47,7 +47,7 @@ fn loop_head<'a>(
     loops: &[Local<'a>],
     variable: (&Name, Place),
     bounds: (&Constant, &Constant),
-) -> Result<(), AllocError>
+) -> Result<(), OutOfMemory>
     ensures { let here = site around.now loops.now in OnOk result
         ((more : List Occurrence) → noted findings.new more ≡
         noted findings.old (declarations here.means []
@@ -69,7 +69,7 @@ fn call_entry<'a>(
     monitor: (&Name, Place),
     entry: (&Name, Place),
     args: &[Expr],
-) -> Result<(), AllocError>
+) -> Result<(), OutOfMemory>
     ensures { let here = site around.now loops.now in OnOk result
         ((more : List Occurrence) → noted findings.new more ≡
         noted findings.old (entry_names here monitor.entry.0.now monitor.entry.1 entry.entry.0.now
@@ -86,7 +86,7 @@ fn assign_empty<'a>(
     loops: &[Local<'a>],
     to: &Ref,
     cond: (&Name, Place),
-) -> Result<(), AllocError>
+) -> Result<(), OutOfMemory>
     ensures { let here = site around.now loops.now in OnOk result
         ((more : List Occurrence) → noted findings.new more ≡
         noted findings.old (ref_names here (placed_ref to.now)
@@ -102,7 +102,7 @@ fn assignment<'a>(
     around: &ScopeChain<'_, 'a>,
     loops: &[Local<'a>],
     s: &Stmt,
-) -> Result<(), AllocError>
+) -> Result<(), OutOfMemory>
     ensures { OnOk result ((more : List Occurrence) → noted findings.new more ≡
         noted findings.old (names_if is_assignment (site around.now loops.now)
         (placed_stmt s.now) more)) }
@@ -146,7 +146,7 @@ fn call<'a>(
     around: &ScopeChain<'_, 'a>,
     loops: &[Local<'a>],
     s: &Stmt,
-) -> Result<(), AllocError>
+) -> Result<(), OutOfMemory>
     ensures { OnOk result ((more : List Occurrence) → noted findings.new more ≡
         noted findings.old (names_if is_call (site around.now loops.now)
         (placed_stmt s.now) more)) }
@@ -182,7 +182,7 @@ fn transfer<'a>(
     around: &ScopeChain<'_, 'a>,
     loops: &[Local<'a>],
     s: &Stmt,
-) -> Result<(), AllocError>
+) -> Result<(), OutOfMemory>
     ensures { OnOk result ((more : List Occurrence) → noted findings.new more ≡
         noted findings.old (names_if is_transfer (site around.now loops.now)
         (placed_stmt s.now) more)) }
@@ -216,7 +216,7 @@ fn condition<'a>(
     around: &ScopeChain<'_, 'a>,
     loops: &[Local<'a>],
     s: &Stmt,
-) -> Result<(), AllocError>
+) -> Result<(), OutOfMemory>
     ensures { OnOk result ((more : List Occurrence) → noted findings.new more ≡
         noted findings.old (names_if is_condition (site around.now loops.now)
         (placed_stmt s.now) more)) }
@@ -253,7 +253,7 @@ fn check<'a>(
     around: &ScopeChain<'_, 'a>,
     loops: &[Local<'a>],
     s: &Stmt,
-) -> Result<(), AllocError>
+) -> Result<(), OutOfMemory>
     ensures { OnOk result ((more : List Occurrence) → noted findings.new more ≡
         noted findings.old (names_if is_check (site around.now loops.now)
         (placed_stmt s.now) more)) }
@@ -273,7 +273,7 @@ fn plain<'a>(
     around: &ScopeChain<'_, 'a>,
     loops: &[Local<'a>],
     s: &Stmt,
-) -> Result<(), AllocError>
+) -> Result<(), OutOfMemory>
     ensures { OnOk result ((more : List Occurrence) → noted findings.new more ≡
         noted findings.old (names_if is_plain (site around.now loops.now)
         (placed_stmt s.now) more)) }
@@ -300,7 +300,7 @@ pub fn stmts<'a>(
     around: &ScopeChain<'_, 'a>,
     loops: &mut Vec<Local<'a>>,
     list: &'a [Stmt],
-) -> Result<(), AllocError>
+) -> Result<(), OutOfMemory>
     ensures names { OnOk result ((more : List Occurrence) → noted findings.new more ≡
         noted findings.old (stmts_names (site around.now loops.old.items)
         (placed_stmts list.now) more)) }
@@ -318,7 +318,7 @@ pub fn stmt<'a>(
     around: &ScopeChain<'_, 'a>,
     loops: &mut Vec<Local<'a>>,
     s: &'a Stmt,
-) -> Result<(), AllocError>
+) -> Result<(), OutOfMemory>
     ensures names { OnOk result ((more : List Occurrence) → noted findings.new more ≡
         noted findings.old (stmt_names (site around.now loops.old.items)
         (placed_stmt s.now) more)) }

@@ -10,9 +10,10 @@ ghost use Rattle.static_numbers.specs.Rules.{count_rules};
 
 use crate::places::NamePlaces;
 use crate::words::too_many;
+use out_of_memory::OutOfMemory;
 use static_declarations::Declarations;
 use static_rule::{Violation, blame, rule};
-use std::alloc::{AllocError, Global};
+use std::alloc::Global;
 use syntax_tree::Place;
 
 /// A program has at most so many processes, monitors, devices and events, each.
@@ -89,7 +90,7 @@ fn tried(declarations: &Declarations<'_>, places: &NamePlaces) -> Option<Violati
 pub fn first_broken(
     alloc: Global,
     declarations: &Declarations<'_>,
-) -> Result<Option<Violation>, AllocError>
+) -> Result<Option<Violation>, OutOfMemory>
     ensures { let g = placed declarations.now in IfOk result
         (IsFirstOf (FailsAmong (count_rules g) (g ∷ []))) }
 {

@@ -12,9 +12,10 @@ ghost use Rattle.static_numbers.specs.Rules.{event_rules};
 ghost use Rattle.static_numbers.specs.Seen.{held, known_uses};
 
 use indexmap::IndexMap;
+use out_of_memory::OutOfMemory;
 use static_declarations::Declarations;
 use static_rule::{Violation, blame, rule};
-use std::alloc::{AllocError, Global};
+use std::alloc::Global;
 use syntax_tree::{Declaration, Place, Process, Trigger};
 
 /// How many processes each event activates, by the line and column of its name.
@@ -31,7 +32,7 @@ fn uses_of(uses: &Uses, event: Place) -> u64
 }
 
 /// Notes one more process that the event activates.
-fn note_use(uses: &mut Uses, event: Place) -> Result<(), AllocError>
+fn note_use(uses: &mut Uses, event: Place) -> Result<(), OutOfMemory>
     ensures { OnOk result ((e : SpecPlace) → known_uses uses.new.entries e ≡
         (if same_place event e then held (known_uses uses.old.entries e +
         1) else known_uses uses.old.entries e)) }
@@ -46,7 +47,7 @@ fn process(
     uses: &mut Uses,
     declarations: &Declarations<'_>,
     process: &Process,
-) -> Result<(), AllocError>
+) -> Result<(), OutOfMemory>
     ensures { let declared = declared_at (names (placed declarations.now)) in OnOk result
         ((e : SpecPlace) (rest : List (SpecProcess SpecPlace)) →
         held (known_uses uses.new.entries e + users declared e rest) ≡
@@ -65,7 +66,7 @@ fn decl(
     uses: &mut Uses,
     declarations: &Declarations<'_>,
     decl: &Declaration,
-) -> Result<(), AllocError>
+) -> Result<(), OutOfMemory>
     ensures { let declared = declared_at (names (placed declarations.now)) in OnOk result
         ((e : SpecPlace) (rest : List (SpecDecl SpecPlace)) →
         held (known_uses uses.new.entries e + users declared e (processes rest)) ≡
@@ -79,7 +80,7 @@ fn decl(
 }
 
 /// Goes once through the processes.
-fn uses(alloc: Global, declarations: &Declarations<'_>) -> Result<Uses, AllocError>
+fn uses(alloc: Global, declarations: &Declarations<'_>) -> Result<Uses, OutOfMemory>
     ensures { let g = placed declarations.now in IfOk result
         (λ uses. (e : SpecPlace) → held (known_uses uses.entries e) ≡
         held (users (declared_at (names g)) e (processes g.decls))) }
@@ -118,7 +119,7 @@ fn event(first: &mut Option<Violation>, uses: &Uses, decl: &Declaration)
 pub fn first_broken(
     alloc: Global,
     declarations: &Declarations<'_>,
-) -> Result<Option<Violation>, AllocError>
+) -> Result<Option<Violation>, OutOfMemory>
     ensures { let g = placed declarations.now in IfOk result
         (IsFirstOf (FailsAmong (event_rules g) (events g.decls))) }
 {

@@ -12,9 +12,10 @@ ghost use Rattle.static_numbers.specs.Rules.{handler_rules};
 ghost use Rattle.static_numbers.specs.Seen.{Tries, HasValues};
 
 use indexmap::IndexSet;
+use out_of_memory::OutOfMemory;
 use static_declarations::Declarations;
 use static_rule::{Violation, blame, rule};
-use std::alloc::{AllocError, Global};
+use std::alloc::Global;
 use syntax_tree::{Constant, Declaration, Handler, Place};
 
 /// The values of numbers.
@@ -45,7 +46,7 @@ fn repeated(
     declarations: &Declarations<'_>,
     values: &mut Values,
     number: &Constant,
-) -> Result<Option<Place>, AllocError>
+) -> Result<Option<Place>, OutOfMemory>
     ensures place { let worth = value (placed declarations.now) in IfOk result
         (λ place. (before : List (SpecConstant SpecPlace)) →
         HasValues worth values.old.keys before → place ≡
@@ -67,7 +68,7 @@ fn number(
     declarations: &Declarations<'_>,
     values: &mut Values,
     number: &Constant,
-) -> Result<(), AllocError>
+) -> Result<(), OutOfMemory>
     ensures tried { let g = placed declarations.now in OnOk result
         ((before : List (SpecConstant SpecPlace)) → HasValues (value g) values.old.keys before →
         first.new ≡ note (handler_rules g) first.old
@@ -90,7 +91,7 @@ fn numbers(
     first: &mut Option<Violation>,
     declarations: &Declarations<'_>,
     list: &[Constant],
-) -> Result<(), AllocError>
+) -> Result<(), OutOfMemory>
     ensures { OnOk result (Tries (handler_rules (placed declarations.now)) first.old
         (handled [] (map placed_constant list.now)) first.new) }
 {
@@ -106,7 +107,7 @@ fn handler(
     first: &mut Option<Violation>,
     declarations: &Declarations<'_>,
     handler: &Option<Handler>,
-) -> Result<(), AllocError>
+) -> Result<(), OutOfMemory>
     ensures { OnOk result (Tries (handler_rules (placed declarations.now)) first.old
         (handler_numbers (optional placed_handler handler.now)) first.new) }
 {
@@ -121,7 +122,7 @@ fn decl(
     first: &mut Option<Violation>,
     declarations: &Declarations<'_>,
     decl: &Declaration,
-) -> Result<(), AllocError>
+) -> Result<(), OutOfMemory>
     ensures { let rules = handler_rules (placed declarations.now) in OnOk result
         ((rest : List (SpecDecl SpecPlace)) → noted rules first.new (all_handled (processes rest)) ≡
         noted rules first.old (all_handled (processes (placed_decl decl.now ∷ rest)))) }
@@ -136,7 +137,7 @@ fn decl(
 pub fn first_broken(
     alloc: Global,
     declarations: &Declarations<'_>,
-) -> Result<Option<Violation>, AllocError>
+) -> Result<Option<Violation>, OutOfMemory>
     ensures { let g = placed declarations.now in IfOk result
         (IsFirstOf (FailsAmong (handler_rules g) (all_handled (processes g.decls)))) }
 {

@@ -6,9 +6,10 @@ ghost use Rattle.static_rule.specs.First.{IsFirstOf};
 ghost use Rattle.static_numbers.specs.Rules.{LimitFails};
 
 use crate::{activations, bounds, counts, events, handlers};
+use out_of_memory::OutOfMemory;
 use static_declarations::Declarations;
 use static_rule::{Violation, sooner};
-use std::alloc::{AllocError, Global};
+use std::alloc::Global;
 
 /// The rule for declarations that fails first, by place and then by number; `None` exactly where
 /// none fails. By number: 32 where a lower bound is above its upper bound, 35 where a handler lists
@@ -21,7 +22,7 @@ use std::alloc::{AllocError, Global};
 pub fn first_broken(
     alloc: Global,
     declarations: &Declarations<'_>,
-) -> Result<Option<Violation>, AllocError>
+) -> Result<Option<Violation>, OutOfMemory>
     ensures { IfOk result (λ first. IsFirstOf (LimitFails (placed declarations.now)) first) }
 {
     let bounds = bounds::first_broken(declarations);

@@ -23,4 +23,4 @@ pub record IsChecked (g : Prog Place) : Type 0 where
 -- why the program is refused: the first rule that fails, or want of memory
 abbrev pub IsFault : Prog Place → RuleFault → Type 0
 IsFault g (fault_is.Rule number place) = IsFirst (Fails g) (record { number = number; place = place })
-IsFault g fault_is.Memory = Unit {0}
+IsFault g (fault_is.Memory _) = Unit {0}

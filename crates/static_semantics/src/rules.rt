@@ -15,10 +15,11 @@ ghost use Rattle.static_names.specs.Occurrences.{names, declared_at};
 ghost use Rattle.static_names.specs.Rules.{NamesAt, UsedAt};
 ghost use Rattle.static_semantics.specs.Static.{Fails, IsChecked, IsFault};
 
+use out_of_memory::OutOfMemory;
 use static_declarations::Declarations;
 use static_names::ResolvedProgram;
 use static_rule::{Violation, sooner};
-use std::alloc::{AllocError, Global};
+use std::alloc::Global;
 use std::marker::Model;
 use syntax_tree::{Place, Program};
 use thiserror::Error;
@@ -31,7 +32,7 @@ pub enum RuleFault {
     Rule { number: u8, place: Place },
     /// There was not enough memory.
     #[error("out of memory")]
-    Memory,
+    Memory(OutOfMemory),
 }
 
 /// A program that keeps to the rules for names and to all static rules. By the law of
@@ -58,7 +59,7 @@ impl Model for Checked {
 }
 
 /// The static rule that fails first, if any does.
-fn first_broken(alloc: Global, named: &ResolvedProgram) -> Result<Option<Violation>, AllocError>
+fn first_broken(alloc: Global, named: &ResolvedProgram) -> Result<Option<Violation>, OutOfMemory>
     ensures { IfOk result (λ first. IsFirstOf (Fails (placed named.now)) first) }
 {
     let declarations = Declarations::new(alloc, named)?;
@@ -81,7 +82,7 @@ pub fn check(alloc: Global, named: ResolvedProgram) -> Result<Checked, RuleFault
             number: broken.number,
             place: broken.place,
         }),
-        Err(_) => Err(RuleFault::Memory),
+        Err(error) => Err(RuleFault::Memory(error)),
     }
 }
 

@@ -1,5 +1,6 @@
 -- The laws of the tokens of a text.
 use Rattle.std.proofs.Common.{◌≡◌, ℕ, zero, suc, ◌+◌, ◌<◌, ◌≤◌, true, List, [], ◌∷◌, length, take, drop, slice_index_or, refl, ap, sym, ◌∙◌, subst, arith, ◌⊎◌, inl, inr, length-drop}
+use Rattle.out_of_memory.specs.Refused.{refused}
 use Rattle.syntax.specs.declared.fault.LexFault.{LexFault}
 use Rattle.syntax.specs.declared.fault.LexFault.TheVariants.{Byte, Literal, Ident, Long, Memory}
 use Rattle.syntax.specs.declared.lexer.Spot.{Spot}
@@ -48,7 +49,7 @@ tokens_or_fault text toks (Byte line col) listed fault = no_tokens nothing_bad t
 tokens_or_fault text toks (Literal line col) listed fault = no_tokens large_bad text toks line col listed fault
 tokens_or_fault text toks (Ident line col) listed fault = no_tokens long_bad text toks line col listed fault
 tokens_or_fault text toks Long listed fault = omega (arith, listed.short, fault)
-tokens_or_fault text toks Memory listed fault = fault
+tokens_or_fault text toks (Memory _) listed fault = fault
 
 -- two faults stand at one byte
 record AtOnePlace (Bad Worse : List ℕ → Type 0) (text : List ℕ) (line col line' col' : ℕ) : Type 0 where
@@ -86,31 +87,31 @@ one_fault text (Byte line col) (Byte line' col') a b = let same = one_place noth
 one_fault text (Byte line col) (Literal line' col') a b = let same = one_place nothing_bad large_bad text line col line' col' a b in absurd (nothing_not_longest _ same.worse.len same.bad same.worse.longest)
 one_fault text (Byte line col) (Ident line' col') a b = let same = one_place nothing_bad long_bad text line col line' col' a b in absurd (nothing_not_longest _ same.worse.len same.bad same.worse.longest)
 one_fault text (Byte line col) Long a b = absurd (too_long text line col a b)
-one_fault text (Byte line col) Memory a b = absurd b
+one_fault text (Byte line col) (Memory _) a b = absurd b
 one_fault text (Literal line col) (Byte line' col') a b = let same = one_place large_bad nothing_bad text line col line' col' a b in absurd (nothing_not_longest _ same.bad.len same.worse same.bad.longest)
 one_fault text (Literal line col) (Literal line' col') a b = let same = one_place large_bad large_bad text line col line' col' a b in λ i. Literal (same.same_line i) (same.same_col i)
 one_fault text (Literal line col) (Ident line' col') a b = let same = one_place large_bad long_bad text line col line' col' a b in absurd (large_not_long _ same.bad same.worse)
 one_fault text (Literal line col) Long a b = absurd (too_long text line col a b)
-one_fault text (Literal line col) Memory a b = absurd b
+one_fault text (Literal line col) (Memory _) a b = absurd b
 one_fault text (Ident line col) (Byte line' col') a b = let same = one_place long_bad nothing_bad text line col line' col' a b in absurd (nothing_not_longest _ same.bad.len same.worse same.bad.longest)
 one_fault text (Ident line col) (Literal line' col') a b = let same = one_place long_bad large_bad text line col line' col' a b in absurd (large_not_long _ same.worse same.bad)
 one_fault text (Ident line col) (Ident line' col') a b = let same = one_place long_bad long_bad text line col line' col' a b in λ i. Ident (same.same_line i) (same.same_col i)
 one_fault text (Ident line col) Long a b = absurd (too_long text line col a b)
-one_fault text (Ident line col) Memory a b = absurd b
+one_fault text (Ident line col) (Memory _) a b = absurd b
 one_fault text Long (Byte line col) a b = absurd (too_long text line col b a)
 one_fault text Long (Literal line col) a b = absurd (too_long text line col b a)
 one_fault text Long (Ident line col) a b = absurd (too_long text line col b a)
 one_fault text Long Long a b = refl
-one_fault text Long Memory a b = absurd b
-one_fault text Memory other a b = absurd a
+one_fault text Long (Memory _) a b = absurd b
+one_fault text (Memory _) other a b = absurd a
 
 -- ---- an answer that is the text's fault, unless memory is short
 
-pub only_memory : (text : List ℕ) (toks : List Token) (fault : LexFault) → (fault ≡ Memory) ⊎ Faulty text fault → tokens text toks → fault ≡ Memory
+pub only_memory : (text : List ℕ) (toks : List Token) (fault : LexFault) → (fault ≡ Memory refused) ⊎ Faulty text fault → tokens text toks → fault ≡ Memory refused
 only_memory text toks fault (inl is) listed = is
 only_memory text toks fault (inr faulty) listed = absurd (tokens_or_fault text toks fault listed faulty)
 
-pub only_fault : (text : List ℕ) (given fault : LexFault) → (given ≡ Memory) ⊎ Faulty text given → Faulty text fault → (given ≡ fault) ⊎ (given ≡ Memory)
+pub only_fault : (text : List ℕ) (given fault : LexFault) → (given ≡ Memory refused) ⊎ Faulty text given → Faulty text fault → (given ≡ fault) ⊎ (given ≡ Memory refused)
 only_fault text given fault (inl is) faulty = inr is
 only_fault text given fault (inr also) faulty = inl (one_fault text given fault also faulty)
 

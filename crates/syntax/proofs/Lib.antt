@@ -5,3 +5,4 @@ pub mod ReadLemmas
 pub mod KindLemmas
 pub mod CutLemmas
 pub mod LawLemmas
+pub mod Places

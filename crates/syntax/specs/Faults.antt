@@ -42,4 +42,4 @@ Faulty text (Byte line col) = HasFault BeginsNothing text line col
 Faulty text (Literal line col) = HasFault BeginsWithLargeLiteral text line col
 Faulty text (Ident line col) = HasFault BeginsWithLongName text line col
 Faulty text Long = longest_text < length text
-Faulty text Memory = ⊥
+Faulty text (Memory _) = ⊥

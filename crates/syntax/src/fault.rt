@@ -1,5 +1,6 @@
 //! Why a text has no tokens.
 
+use out_of_memory::OutOfMemory;
 use thiserror::Error;
 
 /// Why a text was refused. A place is a line and a byte in that line, both from 1. A fault of the
@@ -20,5 +21,5 @@ pub enum LexFault {
     Long,
     /// There was not enough memory for the tokens.
     #[error("out of memory")]
-    Memory,
+    Memory(OutOfMemory),
 }

@@ -1,6 +1,7 @@
 //! The lexer.
 
 ghost use Rattle.std.specs.Prelude.{◌≡◌, ◌+◌, ◌<◌, ◌≤◌, ◌^◌, ◌++◌, ◌∷◌, [], List as Listed, length, drop, ◌⊎◌, if◌then◌else◌, IfOk, IfErr, OnOk, IsErrOf, IsErrAnd, IsOkUnless};
+ghost use Rattle.out_of_memory.specs.Refused.{refused};
 ghost use Rattle.syntax.specs.declared.token.Token.{Token};
 ghost use Rattle.syntax.specs.declared.fault.LexFault.{LexFault};
 ghost use Rattle.syntax.specs.Faults.{Faulty};
@@ -84,11 +85,11 @@ fn bytes_from(text: &[u8], at: usize) -> &[u8]
 /// Puts the token at the end of the list.
 fn add(toks: &mut List<Token>, token: Token) -> Result<(), LexFault>
     ensures ok { OnOk result (toks.new ≡ toks.old ++ token ∷ []) }
-    ensures err { IfErr result (λ e. e ≡ LexFault.Memory) }
+    ensures err { IfErr result (λ e. e ≡ LexFault.Memory refused) }
 {
     match toks.push(token) {
         Ok(()) => Ok(()),
-        Err(_) => Err(LexFault::Memory),
+        Err(error) => Err(LexFault::Memory(error)),
     }
 }
 
@@ -100,7 +101,7 @@ fn step(text: &[u8], spot: Spot, toks: &mut List<Token>) -> Result<Spot, LexFaul
     requires read { IsRead text.now spot toks.old }
     ensures read { IfOk result (λ next. IsRead text.now next toks.new) }
     ensures further { IfOk result (λ next. spot.at < next.at) }
-    ensures err { IfErr result (λ e. (e ≡ LexFault.Memory) ⊎ Faulty text.now e) }
+    ensures err { IfErr result (λ e. (e ≡ LexFault.Memory refused) ⊎ Faulty text.now e) }
 {
     let rest = bytes_from(text, spot.at);
     match read(rest) {
@@ -135,12 +136,13 @@ fn step(text: &[u8], spot: Spot, toks: &mut List<Token>) -> Result<Spot, LexFaul
 pub fn lex(alloc: Global, text: &[u8]) -> Result<Tokens, LexFault>
     ensures list { IfOk result (λ toks. tokens text.now toks.list) }
     ensures end { IfOk result (λ toks. IsEnd text.now toks.end) }
-    ensures cause { IfErr result (λ fault. (fault ≡ LexFault.Memory) ⊎ Faulty text.now fault) }
+    ensures cause { IfErr result (λ fault. (fault ≡ LexFault.Memory refused) ⊎
+        Faulty text.now fault) }
     ensures long { longest_text < length text.now → IsErrOf result LexFault.Long }
     ensures only { (toks : Listed Token) → tokens text.now toks →
-        IsOkUnless result LexFault.Memory }
+        IsOkUnless result (LexFault.Memory refused) }
     ensures only_fault { (fault : LexFault) → Faulty text.now fault →
-        IsErrAnd result (λ given. (given ≡ fault) ⊎ (given ≡ LexFault.Memory)) }
+        IsErrAnd result (λ given. (given ≡ fault) ⊎ (given ≡ LexFault.Memory refused)) }
 {
     if text.len() > LONGEST_TEXT {
         return Err(LexFault::Long);

@@ -43,7 +43,7 @@ level-fails p h (suc n) ts f fails =
 -- what a lower level could not read, none above it can
 pub refused-above : (p : Parse Place (tree.Expr Place)) (h k : ℕ) (r : Refusal) (ts us vs : List (Tok Place)) → h ≤ k
     → Reads placed_expr (level p h ts) (Err r) us → Reads placed_expr (level p k ts) (Err r) vs
-refused-above p h k Memory ts us vs below fails = tt
+refused-above p h k (Memory _) ts us vs below fails = tt
 refused-above p h k (Syntax n) ts us vs below fails = let same : k ≡ (k - h) + h = omega arith in ap (λ j. level p j ts) same ∙ level-fails p h (k - h) ts _ fails
 refused-above p h k (Nesting n) ts us vs below fails = let same : k ≡ (k - h) + h = omega arith in ap (λ j. level p j ts) same ∙ level-fails p h (k - h) ts _ fails
 

@@ -20,7 +20,7 @@ IsPlaceIn toks p = ((at : ℕ) × (t : Token) × (slice_get toks.list at ≡ Som
 abbrev pub StandsIn : Tokens → SyntaxFault → Type 0
 StandsIn toks (Syntax p) = IsPlaceIn toks p
 StandsIn toks (Nesting p) = IsPlaceIn toks p
-StandsIn toks Memory = Unit {0}
+StandsIn toks (Memory _) = Unit {0}
 
 -- at this place stands the token that opens a level beyond the last: the tokens before it begin a
 -- program, and all levels are open there

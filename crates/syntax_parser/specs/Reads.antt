@@ -28,7 +28,7 @@ kind_at (t ∷ ts) = Some (kind_of t.word)
 -- from what was read, what is left and what the function returned
 abbrev pub Reads : {X Y : Type 0} → (X → Y) → Result (Y × List (Tok Place)) Fault → Result X Refusal → List (Tok Place) → Type 0
 Reads view read (Ok x) left = read ≡ Ok (view x, left)
-Reads view read (Err refusal.Memory) left = Unit {0}
+Reads view read (Err (refusal.Memory _)) left = Unit {0}
 Reads view read (Err (refusal.Syntax n)) left = read ≡ Err (syntax n)
 Reads view read (Err (refusal.Nesting n)) left = read ≡ Err (nesting n)
 
@@ -58,7 +58,7 @@ placed_range r = (tree.placed_constant r.0, tree.placed_constant r.1)
 -- the same of what is read to the last token
 abbrev pub Gives : {X Y : Type 0} → (X → Y) → Result Y Fault → Result X Refusal → Type 0
 Gives view read (Ok x) = read ≡ Ok (view x)
-Gives view read (Err refusal.Memory) = Unit {0}
+Gives view read (Err (refusal.Memory _)) = Unit {0}
 Gives view read (Err (refusal.Syntax n)) = read ≡ Err (syntax n)
 Gives view read (Err (refusal.Nesting n)) = read ≡ Err (nesting n)
 

@@ -1,6 +1,7 @@
 //! Reading constants and expressions.
 
 ghost use Rattle.std.specs.Prelude.{◌≡◌, ◌≤◌, ◌-◌, true, map, IfOk, IfErr};
+ghost use Rattle.out_of_memory.specs.Refused.{refused};
 ghost use Rattle.syntax_tree.specs.Placed.{placed_constant, placed_expr, op_of as placed_of};
 ghost use Rattle.syntax.specs.Words.{COMMA, keyword as keyword_word, sign as sign_word};
 ghost use Rattle.syntax.specs.ExprGrammar.{height as height_in};
@@ -9,6 +10,7 @@ ghost use Rattle.syntax_parser.specs.Reads.{Reads, row_from, with_front, placed_
 
 use crate::fault::{Refusal, made, tri};
 use crate::parser::Parser;
+use out_of_memory::OutOfMemory;
 use std::alloc::Global;
 use syntax::{TokenKind, keyword, sign};
 use syntax_tree::{Constant, Expr, List, Name, Op, Place, Value};
@@ -77,11 +79,11 @@ fn of_height(op: Option<Op>, height: u8) -> Option<Op>
 /// An expression in a box.
 pub(crate) fn boxed(alloc: Global, expr: Expr) -> Result<Box<Expr>, Refusal>
     ensures ok { IfOk result (λ b. b.value ≡ expr) }
-    ensures err { IfErr result (λ e. e ≡ Refusal.Memory) }
+    ensures err { IfErr result (λ e. e ≡ Refusal.Memory refused) }
 {
     match Box::new(alloc, expr) {
         Ok(it) => Ok(it),
-        Err(_) => Err(Refusal::Memory),
+        Err(error) => Err(Refusal::Memory(OutOfMemory::from(error))),
     }
 }
 

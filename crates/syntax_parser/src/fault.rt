@@ -1,5 +1,6 @@
 //! Why tokens have no tree.
 
+use out_of_memory::OutOfMemory;
 use syntax_tree::Place;
 use thiserror::Error;
 
@@ -14,13 +15,13 @@ pub enum SyntaxFault {
     Nesting(Place),
     /// There was not enough memory for the tree.
     #[error("out of memory")]
-    Memory,
+    Memory(OutOfMemory),
 }
 
 /// Why reading stopped. A fault has the number of tokens that are left from its own on.
 #[derive(Drop)]
 pub enum Refusal {
-    Memory,
+    Memory(OutOfMemory),
     Syntax { left: usize },
     Nesting { left: usize },
 }
@@ -37,12 +38,12 @@ macro_rules! tri {
 }
 
 /// What was made or stored; where there is no memory for it the function returns so. It spares what
-/// `tri` does, and that the failure is converted.
+/// `tri` does.
 macro_rules! made {
     ($made:expr) => {
         match $made {
             Ok(it) => it,
-            Err(_) => return Err(Refusal::Memory),
+            Err(error) => return Err(Refusal::Memory(out_of_memory::OutOfMemory::from(error))),
         }
     };
 }

@@ -1,6 +1,7 @@
 //! Reading a whole text.
 
 ghost use Rattle.std.specs.Prelude.{◌≡◌, List, ◌∷◌, ◌++◌, length, ◌⊎◌, IfOk, IfErr, MatchResult};
+ghost use Rattle.out_of_memory.specs.Refused.{refused};
 ghost use Rattle.syntax_tree.specs.Placed.{placed, Prog as SpecProg};
 ghost use Rattle.syntax_tree.specs.declared.place.Place.{Place as SpecPlace};
 ghost use Rattle.syntax.specs.declared.token.Token.{Token as SpecToken};
@@ -64,7 +65,7 @@ pub fn parse(alloc: Global, text: &[u8], tokens: &Tokens) -> Result<Program, Syn
     ensures found { IfOk result (λ g. tree text.now tokens.now.list (placed g)) }
     // What has these tokens is read, unless memory runs out.
     ensures only { (g : SpecProg SpecPlace) → tree text.now tokens.now.list g →
-        MatchResult result (λ p. placed p ≡ g) (λ f. f ≡ SyntaxFault.Memory) }
+        MatchResult result (λ p. placed p ≡ g) (λ f. f ≡ SyntaxFault.Memory refused) }
     // A fault stands at a token or at the end.
     ensures place { IfErr result (λ f. StandsIn tokens.now f) }
     // A fault of the grammar stands at the token with which the tokens read no longer begin a
@@ -76,11 +77,11 @@ pub fn parse(alloc: Global, text: &[u8], tokens: &Tokens) -> Result<Program, Syn
         OpensAt text.now tokens.now.list p }
     // Where a token opens level 65 it is the fault, unless memory runs out.
     ensures too_deep { (p : SpecPlace) → OpensAt text.now tokens.now.list p →
-        (result ≡ Err (SyntaxFault.Nesting p)) ⊎ (result ≡ Err SyntaxFault.Memory) }
+        (result ≡ Err (SyntaxFault.Nesting p)) ⊎ (result ≡ Err (SyntaxFault.Memory refused)) }
 {
     match read(alloc, text, tokens.as_slice()) {
         Ok(prog) => Ok(prog),
-        Err(Refusal::Memory) => Err(SyntaxFault::Memory),
+        Err(Refusal::Memory(error)) => Err(SyntaxFault::Memory(error)),
         Err(Refusal::Syntax { left }) => Err(SyntaxFault::Syntax(place_of(tokens, left))),
         Err(Refusal::Nesting { left }) => Err(SyntaxFault::Nesting(place_of(tokens, left))),
     }

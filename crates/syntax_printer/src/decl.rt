@@ -9,7 +9,7 @@ ghost use Rattle.syntax_printer.specs.Pages.{ended, put_lines, puts};
 ghost use Rattle.syntax_printer.specs.Canonical.{activation_words, constant_words, deadline_words, decl_lines, end_line as end_words, entry_lines, first_words, handler_lines, handler_words, header as header_words, kind_line, lines_of, listed, member_lines, monitor_lines, param_words, process_lines, process_words, program_lines, rest_of_routine, result_words, return_lines, routine_lines, scalar_words, var_lines};
 
 use crate::page::{Page, tri};
-use std::alloc::AllocError;
+use out_of_memory::OutOfMemory;
 use syntax::{keyword, sign};
 use syntax_tree::{
     Constant, Declaration, Expr, Handler, Member, Monitor, Name, Param, Process, Program, Routine,
@@ -37,14 +37,14 @@ fn kind_keyword(kind: RoutineKind) -> u8
 
 impl Page {
     /// The line that ends a declaration or the program.
-    fn end_name(&mut self, name: &Name) -> Result<(), AllocError>
+    fn end_name(&mut self, name: &Name) -> Result<(), OutOfMemory>
         ensures { OnOk result (self.new ≡ ended (puts self.old (end_words name.now))) }
     {
         self.named_line(keyword::END, name)
     }
 
     #[tactic(auto, using(crate::proofs::Steps::puts_append))]
-    fn range(&mut self, low: &Constant, high: &Constant) -> Result<(), AllocError>
+    fn range(&mut self, low: &Constant, high: &Constant) -> Result<(), OutOfMemory>
         ensures { OnOk result (self.new ≡ puts self.old
             (constant_words (placed_constant low.now) ++ w.RANGE ∷
             constant_words (placed_constant high.now))) }
@@ -54,7 +54,7 @@ impl Page {
         self.constant(high)
     }
 
-    fn scalar(&mut self, scalar: &Scalar) -> Result<(), AllocError>
+    fn scalar(&mut self, scalar: &Scalar) -> Result<(), OutOfMemory>
         ensures { OnOk result (self.new ≡ puts self.old (scalar_words (placed_scalar scalar.now))) }
     {
         match scalar {
@@ -65,7 +65,12 @@ impl Page {
     }
 
     #[tactic(auto, using(crate::proofs::Steps::puts_append))]
-    fn array(&mut self, low: &Constant, high: &Constant, element: &Scalar) -> Result<(), AllocError>
+    fn array(
+        &mut self,
+        low: &Constant,
+        high: &Constant,
+        element: &Scalar,
+    ) -> Result<(), OutOfMemory>
         ensures { OnOk result (self.new ≡ puts self.old
             (w.ARRAY ∷ (constant_words (placed_constant low.now) ++ w.RANGE ∷
             (constant_words (placed_constant high.now) ++ w.OF ∷
@@ -79,7 +84,7 @@ impl Page {
         self.scalar(element)
     }
 
-    fn kind(&mut self, kind: &Type) -> Result<(), AllocError>
+    fn kind(&mut self, kind: &Type) -> Result<(), OutOfMemory>
         ensures { OnOk result (self.new ≡ puts self.old (kind_line (placed_kind kind.now))) }
     {
         match kind {
@@ -88,7 +93,7 @@ impl Page {
         }
     }
 
-    fn var(&mut self, var: &Var) -> Result<(), AllocError>
+    fn var(&mut self, var: &Var) -> Result<(), OutOfMemory>
         ensures { OnOk result (self.new ≡ put_lines self.old (var_lines (placed_var var.now))) }
     {
         tri!(self.keyword(keyword::VAR));
@@ -98,7 +103,7 @@ impl Page {
         self.end_line()
     }
 
-    fn vars(&mut self, vars: &[Var]) -> Result<(), AllocError>
+    fn vars(&mut self, vars: &[Var]) -> Result<(), OutOfMemory>
         ensures { OnOk result (self.new ≡ put_lines self.old
             (lines_of var_lines (map placed_var vars.now))) }
     {
@@ -108,7 +113,7 @@ impl Page {
         Ok(())
     }
 
-    fn param(&mut self, param: &Param) -> Result<(), AllocError>
+    fn param(&mut self, param: &Param) -> Result<(), OutOfMemory>
         ensures { OnOk result (self.new ≡ puts self.old (param_words (placed_param param.now))) }
     {
         tri!(self.name(&param.name));
@@ -118,7 +123,7 @@ impl Page {
 
     /// Parameters, with commas between them.
     #[tactic(auto, using(crate::proofs::Steps::puts_append))]
-    fn params(&mut self, params: &[Param]) -> Result<(), AllocError>
+    fn params(&mut self, params: &[Param]) -> Result<(), OutOfMemory>
         ensures { OnOk result (self.new ≡ puts self.old
             (listed param_words (map placed_param params.now))) }
     {
@@ -134,7 +139,7 @@ impl Page {
     }
 
     /// The type of a function's result.
-    fn result(&mut self, kind: &Option<Scalar>) -> Result<(), AllocError>
+    fn result(&mut self, kind: &Option<Scalar>) -> Result<(), OutOfMemory>
         ensures { OnOk result (self.new ≡ puts self.old
             (result_words (optional placed_scalar kind.now))) }
     {
@@ -147,7 +152,7 @@ impl Page {
 
     /// The name of a routine, its parameters and the type of its result, behind an `entry` or not.
     #[tactic(auto, using(crate::proofs::Steps::puts_append))]
-    fn header(&mut self, routine: &Routine) -> Result<(), AllocError>
+    fn header(&mut self, routine: &Routine) -> Result<(), OutOfMemory>
         ensures { OnOk result (self.new ≡ ended
             (puts self.old (header_words (placed_routine routine.now)))) }
     {
@@ -161,7 +166,7 @@ impl Page {
     }
 
     /// The line of a function's result.
-    fn value(&mut self, value: &Option<Expr>) -> Result<(), AllocError>
+    fn value(&mut self, value: &Option<Expr>) -> Result<(), OutOfMemory>
         ensures { OnOk result (self.new ≡ put_lines self.old
             (return_lines (optional placed_expr value.now))) }
     {
@@ -173,7 +178,7 @@ impl Page {
 
     /// What follows the header of a routine.
     #[tactic(auto, using(crate::proofs::Steps::put_lines_append))]
-    fn rest_of(&mut self, routine: &Routine) -> Result<(), AllocError>
+    fn rest_of(&mut self, routine: &Routine) -> Result<(), OutOfMemory>
         ensures { OnOk result (self.new ≡ put_lines self.old
             (rest_of_routine (placed_routine routine.now))) }
     {
@@ -184,7 +189,7 @@ impl Page {
         self.end_name(&routine.close)
     }
 
-    fn routine(&mut self, routine: &Routine) -> Result<(), AllocError>
+    fn routine(&mut self, routine: &Routine) -> Result<(), OutOfMemory>
         ensures { OnOk result (self.new ≡ put_lines self.old
             (routine_lines (placed_routine routine.now))) }
     {
@@ -192,7 +197,7 @@ impl Page {
         self.rest_of(routine)
     }
 
-    fn routines(&mut self, routines: &[Routine]) -> Result<(), AllocError>
+    fn routines(&mut self, routines: &[Routine]) -> Result<(), OutOfMemory>
         ensures { OnOk result (self.new ≡ put_lines self.old
             (lines_of routine_lines (map placed_routine routines.now))) }
     {
@@ -202,7 +207,7 @@ impl Page {
         Ok(())
     }
 
-    fn entry_routine(&mut self, routine: &Routine) -> Result<(), AllocError>
+    fn entry_routine(&mut self, routine: &Routine) -> Result<(), OutOfMemory>
         ensures { OnOk result (self.new ≡ put_lines self.old
             (entry_lines (placed_routine routine.now))) }
     {
@@ -211,7 +216,7 @@ impl Page {
         self.rest_of(routine)
     }
 
-    fn entries(&mut self, entries: &[Routine]) -> Result<(), AllocError>
+    fn entries(&mut self, entries: &[Routine]) -> Result<(), OutOfMemory>
         ensures { OnOk result (self.new ≡ put_lines self.old
             (lines_of entry_lines (map placed_routine entries.now))) }
     {
@@ -221,7 +226,7 @@ impl Page {
         Ok(())
     }
 
-    fn member(&mut self, member: &Member) -> Result<(), AllocError>
+    fn member(&mut self, member: &Member) -> Result<(), OutOfMemory>
         ensures { OnOk result (self.new ≡ put_lines self.old
             (member_lines (placed_member member.now))) }
     {
@@ -231,7 +236,7 @@ impl Page {
         }
     }
 
-    fn members(&mut self, members: &[Member]) -> Result<(), AllocError>
+    fn members(&mut self, members: &[Member]) -> Result<(), OutOfMemory>
         ensures { OnOk result (self.new ≡ put_lines self.old
             (lines_of member_lines (map placed_member members.now))) }
     {
@@ -242,7 +247,7 @@ impl Page {
     }
 
     #[tactic(auto, using(crate::proofs::Steps::put_lines_append))]
-    fn monitor(&mut self, monitor: &Monitor) -> Result<(), AllocError>
+    fn monitor(&mut self, monitor: &Monitor) -> Result<(), OutOfMemory>
         ensures { OnOk result (self.new ≡ put_lines self.old
             (monitor_lines (placed_monitor monitor.now))) }
     {
@@ -253,7 +258,7 @@ impl Page {
     }
 
     /// The first activation of a process, where it is said.
-    fn first(&mut self, first: &Option<Constant>) -> Result<(), AllocError>
+    fn first(&mut self, first: &Option<Constant>) -> Result<(), OutOfMemory>
         ensures { OnOk result (self.new ≡ puts self.old
             (first_words (optional placed_constant first.now))) }
     {
@@ -267,7 +272,7 @@ impl Page {
     }
 
     /// The deadline of a process, where it is told.
-    fn deadline(&mut self, deadline: &Option<Constant>) -> Result<(), AllocError>
+    fn deadline(&mut self, deadline: &Option<Constant>) -> Result<(), OutOfMemory>
         ensures { OnOk result (self.new ≡ puts self.old
             (deadline_words (optional placed_constant deadline.now))) }
     {
@@ -280,7 +285,7 @@ impl Page {
 
     /// The frame of a process, and its deadline where it is told.
     #[tactic(auto, using(crate::proofs::Steps::puts_append))]
-    fn times(&mut self, frame: &Constant, deadline: &Option<Constant>) -> Result<(), AllocError>
+    fn times(&mut self, frame: &Constant, deadline: &Option<Constant>) -> Result<(), OutOfMemory>
         ensures { OnOk result (self.new ≡ puts self.old
             (w.FRAME ∷ (constant_words (placed_constant frame.now) ++
             deadline_words (optional placed_constant deadline.now)))) }
@@ -291,7 +296,7 @@ impl Page {
     }
 
     #[tactic(auto, using(crate::proofs::Steps::puts_append))]
-    fn activation(&mut self, activation: &Trigger) -> Result<(), AllocError>
+    fn activation(&mut self, activation: &Trigger) -> Result<(), OutOfMemory>
         ensures { OnOk result (self.new ≡ puts self.old
             (activation_words (placed_activation activation.now))) }
     {
@@ -320,7 +325,7 @@ impl Page {
 
     /// The numbers of a handler, with commas between them.
     #[tactic(auto, using(crate::proofs::Steps::puts_append))]
-    fn numbers(&mut self, numbers: &[Constant]) -> Result<(), AllocError>
+    fn numbers(&mut self, numbers: &[Constant]) -> Result<(), OutOfMemory>
         ensures { OnOk result (self.new ≡ puts self.old
             (listed constant_words (map placed_constant numbers.now))) }
     {
@@ -337,7 +342,7 @@ impl Page {
 
     /// The line that begins a handler.
     #[tactic(auto, using(crate::proofs::Steps::puts_append))]
-    fn handler_line(&mut self, numbers: &[Constant]) -> Result<(), AllocError>
+    fn handler_line(&mut self, numbers: &[Constant]) -> Result<(), OutOfMemory>
         ensures { OnOk result (self.new ≡ ended
             (puts self.old (handler_words (map placed_constant numbers.now)))) }
     {
@@ -348,7 +353,7 @@ impl Page {
         self.end_line()
     }
 
-    fn handler(&mut self, handler: &Option<Handler>) -> Result<(), AllocError>
+    fn handler(&mut self, handler: &Option<Handler>) -> Result<(), OutOfMemory>
         ensures { OnOk result (self.new ≡ put_lines self.old
             (handler_lines (optional placed_handler handler.now))) }
     {
@@ -360,7 +365,7 @@ impl Page {
     }
 
     /// The line that begins a process.
-    fn process_line(&mut self, process: &Process) -> Result<(), AllocError>
+    fn process_line(&mut self, process: &Process) -> Result<(), OutOfMemory>
         ensures { OnOk result (self.new ≡ ended
             (puts self.old (process_words (placed_process process.now)))) }
     {
@@ -372,7 +377,7 @@ impl Page {
     }
 
     #[tactic(auto, using(crate::proofs::Steps::put_lines_append))]
-    fn process(&mut self, process: &Process) -> Result<(), AllocError>
+    fn process(&mut self, process: &Process) -> Result<(), OutOfMemory>
         ensures { OnOk result (self.new ≡ put_lines self.old
             (process_lines (placed_process process.now))) }
     {
@@ -385,7 +390,7 @@ impl Page {
         self.end_name(&process.close)
     }
 
-    fn decl(&mut self, decl: &Declaration) -> Result<(), AllocError>
+    fn decl(&mut self, decl: &Declaration) -> Result<(), OutOfMemory>
         ensures { OnOk result (self.new ≡ put_lines self.old (decl_lines (placed_decl decl.now))) }
     {
         match decl {
@@ -409,7 +414,7 @@ impl Page {
         }
     }
 
-    fn decls(&mut self, decls: &[Declaration]) -> Result<(), AllocError>
+    fn decls(&mut self, decls: &[Declaration]) -> Result<(), OutOfMemory>
         ensures { OnOk result (self.new ≡ put_lines self.old
             (lines_of decl_lines (map placed_decl decls.now))) }
     {
@@ -421,7 +426,7 @@ impl Page {
 
     /// The whole program.
     #[tactic(auto, using(crate::proofs::Steps::put_lines_append))]
-    pub fn prog(&mut self, prog: &Program) -> Result<(), AllocError>
+    pub fn prog(&mut self, prog: &Program) -> Result<(), OutOfMemory>
         ensures { OnOk result (self.new ≡ put_lines self.old (program_lines (placed prog.now))) }
     {
         tri!(self.named_line(keyword::PROGRAM, &prog.name));

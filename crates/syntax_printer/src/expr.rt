@@ -8,13 +8,13 @@ ghost use Rattle.syntax_printer.specs.Pages.{put, puts};
 ghost use Rattle.syntax_printer.specs.Canonical.{constant_words, expr_words, operands_words, in_brackets, in_parens, ref_words};
 
 use crate::page::{Page, tri};
-use std::alloc::AllocError;
+use out_of_memory::OutOfMemory;
 use syntax::{keyword, sign};
 use syntax_tree::{Constant, Expr, Op, Ref, Value};
 
 impl Page {
     #[tactic(auto, using(crate::proofs::Steps::puts_append))]
-    pub fn constant(&mut self, constant: &Constant) -> Result<(), AllocError>
+    pub fn constant(&mut self, constant: &Constant) -> Result<(), OutOfMemory>
         ensures { OnOk result (self.new ≡ puts self.old
             (constant_words (placed_constant constant.now))) }
     {
@@ -29,7 +29,7 @@ impl Page {
     }
 
     /// The operator's sign or keyword.
-    fn operator(&mut self, op: Op) -> Result<(), AllocError>
+    fn operator(&mut self, op: Op) -> Result<(), OutOfMemory>
         ensures { OnOk result (self.new ≡ put self.old (op_word (op_of op))) }
     {
         match op {
@@ -52,7 +52,7 @@ impl Page {
     /// The index of an element in its brackets.
     #[cycle(expr)]
     #[tactic(auto, using(crate::proofs::Steps::puts_append))]
-    fn index(&mut self, index: &Expr) -> Result<(), AllocError>
+    fn index(&mut self, index: &Expr) -> Result<(), OutOfMemory>
         ensures { OnOk result (self.new ≡ puts self.old (in_brackets (placed_expr index.now))) }
     {
         tri!(self.sign(sign::LEFT_BRACKET));
@@ -63,7 +63,7 @@ impl Page {
     /// Arguments in parentheses, with commas between them.
     #[cycle(expr)]
     #[tactic(auto, using(crate::proofs::Steps::puts_append))]
-    pub fn args(&mut self, args: &[Expr]) -> Result<(), AllocError>
+    pub fn args(&mut self, args: &[Expr]) -> Result<(), OutOfMemory>
         ensures { OnOk result (self.new ≡ puts self.old (in_parens (placed_exprs args.now))) }
     {
         self.sign(sign::LEFT_PAREN)?;
@@ -80,7 +80,7 @@ impl Page {
 
     /// Operators, each with its right operand.
     #[cycle(expr)]
-    fn operands(&mut self, operands: &[(Op, Expr)]) -> Result<(), AllocError>
+    fn operands(&mut self, operands: &[(Op, Expr)]) -> Result<(), OutOfMemory>
         ensures { OnOk result (self.new ≡ puts self.old
             (operands_words (placed_operands operands.now))) }
     {
@@ -94,7 +94,7 @@ impl Page {
     /// An expression in parentheses.
     #[cycle(expr)]
     #[tactic(auto, using(crate::proofs::Steps::puts_append))]
-    fn paren(&mut self, inner: &Expr) -> Result<(), AllocError>
+    fn paren(&mut self, inner: &Expr) -> Result<(), OutOfMemory>
         ensures { OnOk result (self.new ≡ puts self.old
             (w.LEFT_PAREN ∷ (expr_words (placed_expr inner.now) ++ w.RIGHT_PAREN ∷ []))) }
     {
@@ -106,7 +106,7 @@ impl Page {
     /// The expression, in its line.
     #[cycle(expr)]
     #[tactic(auto, using(crate::proofs::Steps::puts_append))]
-    pub fn expr(&mut self, expr: &Expr) -> Result<(), AllocError>
+    pub fn expr(&mut self, expr: &Expr) -> Result<(), OutOfMemory>
         ensures { OnOk result (self.new ≡ puts self.old (expr_words (placed_expr expr.now))) }
     {
         match expr {
@@ -139,7 +139,7 @@ impl Page {
     }
 
     #[tactic(auto, using(crate::proofs::Steps::puts_append))]
-    pub fn reference(&mut self, target: &Ref) -> Result<(), AllocError>
+    pub fn reference(&mut self, target: &Ref) -> Result<(), OutOfMemory>
         ensures { OnOk result (self.new ≡ puts self.old (ref_words (placed_ref target.now))) }
     {
         tri!(self.name(&target.name));

@@ -6,7 +6,7 @@ ghost use Rattle.syntax.specs.Words as w;
 ghost use Rattle.syntax_printer.specs.Pages.{put, ended, gap as gap_of};
 
 use itoa::Buffer;
-use std::alloc::AllocError;
+use out_of_memory::OutOfMemory;
 use std::marker::Model;
 use syntax::{keyword_spelling, sign_spelling};
 use syntax_tree::{Name, Text};
@@ -48,7 +48,7 @@ fn gap(fresh: bool) -> &'static [u8]
 
 impl Page {
     /// A word with these bytes, after a space unless it is the first of its line.
-    fn word(&mut self, bytes: &[u8]) -> Result<(), AllocError>
+    fn word(&mut self, bytes: &[u8]) -> Result<(), OutOfMemory>
         ensures text { OnOk result (self.new.text ≡ (self.old.text ++ gap_of self.old.fresh) ++
             bytes.now) }
         ensures fresh { OnOk result (self.new.fresh ≡ false) }
@@ -60,14 +60,14 @@ impl Page {
     }
 
     #[tactic(auto, unfolding(crate::specs::Pages::put))]
-    pub fn name(&mut self, name: &Name) -> Result<(), AllocError>
+    pub fn name(&mut self, name: &Name) -> Result<(), OutOfMemory>
         ensures { OnOk result (self.new ≡ put self.old (w.named name.now)) }
     {
         self.word(name.as_bytes())
     }
 
     #[tactic(auto, unfolding(crate::specs::Pages::put))]
-    pub fn number(&mut self, value: u32) -> Result<(), AllocError>
+    pub fn number(&mut self, value: u32) -> Result<(), OutOfMemory>
         ensures { OnOk result (self.new ≡ put self.old (w.number value)) }
     {
         let mut digits = Buffer::new();
@@ -76,7 +76,7 @@ impl Page {
 
     /// The keyword at this place of the list of keywords.
     #[tactic(auto, unfolding(crate::specs::Pages::put), using(crate::proofs::Tables::word_at))]
-    pub fn keyword(&mut self, at: u8) -> Result<(), AllocError>
+    pub fn keyword(&mut self, at: u8) -> Result<(), OutOfMemory>
         requires { at < length keywords }
         ensures { OnOk result (self.new ≡ put self.old (w.keyword at)) }
     {
@@ -85,7 +85,7 @@ impl Page {
 
     /// The word that begins a deadline, which is a name to the lexer.
     #[tactic(auto, unfolding(crate::specs::Pages::put))]
-    pub fn deadline_word(&mut self) -> Result<(), AllocError>
+    pub fn deadline_word(&mut self) -> Result<(), OutOfMemory>
         ensures { OnOk result (self.new ≡ put self.old w.DEADLINE) }
     {
         self.word(b"deadline")
@@ -93,7 +93,7 @@ impl Page {
 
     /// The sign at this place of the list of signs.
     #[tactic(auto, unfolding(crate::specs::Pages::put), using(crate::proofs::Tables::word_at))]
-    pub fn sign(&mut self, at: u8) -> Result<(), AllocError>
+    pub fn sign(&mut self, at: u8) -> Result<(), OutOfMemory>
         requires { at < length signs }
         ensures { OnOk result (self.new ≡ put self.old (w.sign at)) }
     {
@@ -102,7 +102,7 @@ impl Page {
 
     /// The end of the line.
     #[tactic(auto, unfolding(crate::specs::Pages::ended))]
-    pub fn end_line(&mut self) -> Result<(), AllocError>
+    pub fn end_line(&mut self) -> Result<(), OutOfMemory>
         ensures { OnOk result (self.new ≡ ended self.old) }
     {
         self.text.extend(b"\n")?;

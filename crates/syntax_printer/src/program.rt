@@ -6,7 +6,8 @@ ghost use Rattle.syntax_tree.specs.Bare.{bare};
 ghost use Rattle.syntax_printer.specs.Canonical.{canonical};
 
 use crate::page::Page;
-use std::alloc::{AllocError, Global};
+use out_of_memory::OutOfMemory;
+use std::alloc::Global;
 use syntax_tree::{Program, Text};
 
 /// The canonical text of the program: a line for each of the program's first line, each `const`,
@@ -16,7 +17,7 @@ use syntax_tree::{Program, Text};
 /// # Errors
 ///
 /// Only where there is not enough memory for the text.
-pub fn print(alloc: Global, prog: &Program) -> Result<Text, AllocError>
+pub fn print(alloc: Global, prog: &Program) -> Result<Text, OutOfMemory>
     ensures { IfOk result (λ text. text ≡ canonical (bare (placed prog.now))) }
 {
     let mut page = Page {

@@ -8,13 +8,13 @@ ghost use Rattle.syntax_printer.specs.Pages.{put_lines, puts, ended};
 ghost use Rattle.syntax_printer.specs.Canonical.{constant_words, expr_words, for_line as for_words, if_line as if_words, in_parens, ref_words, stmt_lines, stmts_lines};
 
 use crate::page::{Page, tri};
-use std::alloc::AllocError;
+use out_of_memory::OutOfMemory;
 use syntax::{keyword, sign};
 use syntax_tree::{Constant, Expr, List, Name, Ref, Stmt};
 
 impl Page {
     /// A line of a keyword and a name.
-    pub fn named_line(&mut self, at: u8, name: &Name) -> Result<(), AllocError>
+    pub fn named_line(&mut self, at: u8, name: &Name) -> Result<(), OutOfMemory>
         requires { at < length keywords }
         ensures { OnOk result (self.new ≡ ended
             (puts self.old (w.keyword at ∷ w.named name.now ∷ []))) }
@@ -25,7 +25,7 @@ impl Page {
     }
 
     /// A line of one keyword.
-    pub fn keyword_line(&mut self, at: u8) -> Result<(), AllocError>
+    pub fn keyword_line(&mut self, at: u8) -> Result<(), OutOfMemory>
         requires { at < length keywords }
         ensures { OnOk result (self.new ≡ ended (puts self.old (w.keyword at ∷ []))) }
     {
@@ -34,7 +34,7 @@ impl Page {
     }
 
     /// A line of a keyword and an expression.
-    pub fn expr_line(&mut self, at: u8, expr: &Expr) -> Result<(), AllocError>
+    pub fn expr_line(&mut self, at: u8, expr: &Expr) -> Result<(), OutOfMemory>
         requires { at < length keywords }
         ensures { OnOk result (self.new ≡ ended
             (puts self.old (w.keyword at ∷ expr_words (placed_expr expr.now)))) }
@@ -45,7 +45,7 @@ impl Page {
     }
 
     /// The line that ends an `if` or a `for`.
-    fn end_keyword(&mut self, at: u8) -> Result<(), AllocError>
+    fn end_keyword(&mut self, at: u8) -> Result<(), OutOfMemory>
         requires { at < length keywords }
         ensures { OnOk result (self.new ≡ ended (puts self.old (w.END ∷ w.keyword at ∷ []))) }
     {
@@ -55,7 +55,7 @@ impl Page {
     }
 
     /// An entry of a monitor and its arguments.
-    fn entry(&mut self, mon: &Name, entry: &Name, args: &List<Expr>) -> Result<(), AllocError>
+    fn entry(&mut self, mon: &Name, entry: &Name, args: &List<Expr>) -> Result<(), OutOfMemory>
         ensures { OnOk result (self.new ≡ puts self.old
             (w.named mon.now ∷ w.DOT ∷ w.named entry.now ∷ in_parens (placed_exprs args.now))) }
     {
@@ -66,7 +66,7 @@ impl Page {
     }
 
     #[tactic(auto, using(crate::proofs::Steps::puts_append))]
-    fn assign(&mut self, target: &Ref, value: &Expr) -> Result<(), AllocError>
+    fn assign(&mut self, target: &Ref, value: &Expr) -> Result<(), OutOfMemory>
         ensures { OnOk result (self.new ≡ ended
             (puts self.old (ref_words (placed_ref target.now) ++ w.ASSIGN ∷
             expr_words (placed_expr value.now)))) }
@@ -84,7 +84,7 @@ impl Page {
         mon: &Name,
         entry: &Name,
         args: &List<Expr>,
-    ) -> Result<(), AllocError>
+    ) -> Result<(), OutOfMemory>
         ensures { OnOk result (self.new ≡ ended
             (puts self.old (ref_words (placed_ref target.now) ++ w.ASSIGN ∷ w.named mon.now ∷
             w.DOT ∷ w.named entry.now ∷ in_parens (placed_exprs args.now)))) }
@@ -96,7 +96,7 @@ impl Page {
     }
 
     #[tactic(auto, using(crate::proofs::Steps::puts_append))]
-    fn assign_empty(&mut self, target: &Ref, cond: &Name) -> Result<(), AllocError>
+    fn assign_empty(&mut self, target: &Ref, cond: &Name) -> Result<(), OutOfMemory>
         ensures { OnOk result (self.new ≡ ended
             (puts self.old (ref_words (placed_ref target.now) ++ w.ASSIGN ∷ w.EMPTY ∷
             w.named cond.now ∷ []))) }
@@ -108,7 +108,7 @@ impl Page {
 
     /// The line that begins an `if`.
     #[tactic(auto, using(crate::proofs::Steps::puts_append))]
-    fn if_line(&mut self, test: &Expr) -> Result<(), AllocError>
+    fn if_line(&mut self, test: &Expr) -> Result<(), OutOfMemory>
         ensures { OnOk result (self.new ≡ ended (puts self.old (if_words (placed_expr test.now)))) }
     {
         tri!(self.keyword(keyword::IF));
@@ -119,7 +119,7 @@ impl Page {
 
     /// The line that begins a `for`.
     #[tactic(auto, using(crate::proofs::Steps::puts_append))]
-    fn for_line(&mut self, name: &Name, low: &Constant, high: &Constant) -> Result<(), AllocError>
+    fn for_line(&mut self, name: &Name, low: &Constant, high: &Constant) -> Result<(), OutOfMemory>
         ensures { OnOk result (self.new ≡ ended
             (puts self.old (for_words name.now (placed_constant low.now)
             (placed_constant high.now)))) }
@@ -135,7 +135,7 @@ impl Page {
     }
 
     #[tactic(auto, using(crate::proofs::Steps::puts_append))]
-    fn wait(&mut self, cond: &Name, limit: &Constant, number: &Constant) -> Result<(), AllocError>
+    fn wait(&mut self, cond: &Name, limit: &Constant, number: &Constant) -> Result<(), OutOfMemory>
         ensures { OnOk result (self.new ≡ ended
             (puts self.old (w.WAIT ∷ w.named cond.now ∷ w.NO_LONGER_THAN ∷
             (constant_words (placed_constant limit.now) ++ w.COLON ∷
@@ -150,7 +150,7 @@ impl Page {
         self.end_line()
     }
 
-    fn call(&mut self, name: &Name, args: &List<Expr>) -> Result<(), AllocError>
+    fn call(&mut self, name: &Name, args: &List<Expr>) -> Result<(), OutOfMemory>
         ensures { OnOk result (self.new ≡ ended
             (puts self.old (w.named name.now ∷ in_parens (placed_exprs args.now)))) }
     {
@@ -159,7 +159,7 @@ impl Page {
         self.end_line()
     }
 
-    fn call_entry(&mut self, mon: &Name, entry: &Name, args: &List<Expr>) -> Result<(), AllocError>
+    fn call_entry(&mut self, mon: &Name, entry: &Name, args: &List<Expr>) -> Result<(), OutOfMemory>
         ensures { OnOk result (self.new ≡ ended
             (puts self.old (w.named mon.now ∷ w.DOT ∷ w.named entry.now ∷
             in_parens (placed_exprs args.now)))) }
@@ -168,7 +168,7 @@ impl Page {
         self.end_line()
     }
 
-    fn exit_when(&mut self, test: &Expr) -> Result<(), AllocError>
+    fn exit_when(&mut self, test: &Expr) -> Result<(), OutOfMemory>
         ensures { OnOk result (self.new ≡ ended
             (puts self.old (w.EXIT ∷ w.WHEN ∷ expr_words (placed_expr test.now)))) }
     {
@@ -176,7 +176,7 @@ impl Page {
         self.expr_line(keyword::WHEN, test)
     }
 
-    fn get(&mut self, device: &Name, target: &Ref) -> Result<(), AllocError>
+    fn get(&mut self, device: &Name, target: &Ref) -> Result<(), OutOfMemory>
         ensures { OnOk result (self.new ≡ ended
             (puts self.old (w.GET ∷ w.named device.now ∷ ref_words (placed_ref target.now)))) }
     {
@@ -186,7 +186,7 @@ impl Page {
         self.end_line()
     }
 
-    fn put(&mut self, device: &Name, value: &Expr) -> Result<(), AllocError>
+    fn put(&mut self, device: &Name, value: &Expr) -> Result<(), OutOfMemory>
         ensures { OnOk result (self.new ≡ ended
             (puts self.old (w.PUT ∷ w.named device.now ∷ expr_words (placed_expr value.now)))) }
     {
@@ -196,7 +196,7 @@ impl Page {
         self.end_line()
     }
 
-    fn except(&mut self, number: &Constant) -> Result<(), AllocError>
+    fn except(&mut self, number: &Constant) -> Result<(), OutOfMemory>
         ensures { OnOk result (self.new ≡ ended
             (puts self.old (w.EXCEPT ∷ constant_words (placed_constant number.now)))) }
     {
@@ -207,7 +207,7 @@ impl Page {
 
     /// The statement of one line, or the one that has others in it.
     #[cycle(stmt)]
-    fn stmt(&mut self, stmt: &Stmt) -> Result<(), AllocError>
+    fn stmt(&mut self, stmt: &Stmt) -> Result<(), OutOfMemory>
         ensures { OnOk result (self.new ≡ put_lines self.old (stmt_lines (placed_stmt stmt.now))) }
     {
         match stmt {
@@ -270,7 +270,7 @@ impl Page {
 
     /// Statements, one after another.
     #[cycle(stmt)]
-    pub fn stmts(&mut self, stmts: &[Stmt]) -> Result<(), AllocError>
+    pub fn stmts(&mut self, stmts: &[Stmt]) -> Result<(), OutOfMemory>
         ensures { OnOk result (self.new ≡ put_lines self.old
             (stmts_lines (placed_stmts stmts.now))) }
     {

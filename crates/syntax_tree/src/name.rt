@@ -2,7 +2,8 @@
 
 ghost use Rattle.std.specs.Prelude.{◌≡◌, ◌≤◌, length, take, IfOk};
 
-use std::alloc::{AllocError, Global};
+use out_of_memory::OutOfMemory;
+use std::alloc::Global;
 use std::hash::{Hash, Hasher};
 use std::marker::Model;
 
@@ -79,7 +80,7 @@ impl Eq for Name {
 }
 
 impl Name {
-    pub fn new(alloc: Global, bytes: &[u8]) -> Result<Name, AllocError>
+    pub fn new(alloc: Global, bytes: &[u8]) -> Result<Name, OutOfMemory>
         ensures { IfOk result (λ n. n ≡ bytes.now) }
     {
         let bytes = if bytes.len() <= SHORT {

@@ -2,7 +2,8 @@
 
 ghost use Rattle.std.specs.Prelude.{◌≡◌, [], ◌++◌, IfOk, OnOk, OnErr};
 
-use std::alloc::{AllocError, Global};
+use out_of_memory::OutOfMemory;
+use std::alloc::Global;
 use std::marker::Model;
 
 /// The bytes of a text.
@@ -30,7 +31,7 @@ impl Text {
     }
 
     /// A copy of the bytes.
-    pub fn from_bytes(alloc: Global, bytes: &[u8]) -> Result<Text, AllocError>
+    pub fn from_bytes(alloc: Global, bytes: &[u8]) -> Result<Text, OutOfMemory>
         ensures { IfOk result (λ text. text ≡ bytes.now) }
     {
         Ok(Text {
@@ -45,7 +46,7 @@ impl Text {
     }
 
     /// Puts the bytes at the end; where memory is short the text stays as it was.
-    pub fn extend(&mut self, bytes: &[u8]) -> Result<(), AllocError>
+    pub fn extend(&mut self, bytes: &[u8]) -> Result<(), OutOfMemory>
         ensures ok { OnOk result (self.new ≡ self.old ++ bytes.now) }
         ensures err { OnErr result (self.new ≡ self.old) }
     {

@@ -21,8 +21,9 @@ ghost use Rattle.table_reader.specs.Answer.{Answers};
 use command_answers::{Content, PrepareError, PreparedCall, Status, Store, put, read};
 use itoa::Buffer;
 use message_table::{long_message, table_message};
+use out_of_memory::OutOfMemory;
 use outside::Files;
-use std::alloc::{AllocError, Global};
+use std::alloc::Global;
 use syntax_tree::Text;
 use table_format::{TaskTable, table_text};
 use table_reader::{LONG_TABLE, LONGEST_TABLE, TableFault, read_table};
@@ -45,7 +46,7 @@ fn read_content(alloc: Global, content: &Content) -> Result<TaskTable, TableFaul
 }
 
 /// The line of a fault of a text that is no table: its number, and the line from 1 on, or 0.
-fn table_fault_line(alloc: Global, number: u8, line: u32) -> Result<Text, AllocError>
+fn table_fault_line(alloc: Global, number: u8, line: u32) -> Result<Text, OutOfMemory>
     ensures { IfOk result (λ text. text ≡ line_of_fault number line) }
 {
     let mut digits = Buffer::new();
@@ -65,7 +66,7 @@ fn message_of(
     content: &Content,
     number: u8,
     line: u32,
-) -> Result<Text, AllocError>
+) -> Result<Text, OutOfMemory>
     ensures { IfOk result (λ message. (text : List ℕ) → IsContent longest_text content.now text →
         message ≡ message_of.table_message file.now text number line) }
 {
@@ -82,7 +83,7 @@ fn line_of(
     file: &str,
     content: &Content,
     fault: TableFault,
-) -> Result<Text, AllocError>
+) -> Result<Text, OutOfMemory>
     ensures due { IfOk result (λ line. (text : List ℕ) → Answers text (Err fault) →
         IsTableDue text (told 2 line)) }
     ensures told { IfOk result (λ line. (text : List ℕ) → IsContent longest_text content.now text →
@@ -93,7 +94,7 @@ fn line_of(
             *message = message_of(alloc, file, content, number, line)?;
             table_fault_line(alloc, number, line)
         }
-        TableFault::Memory => Err(AllocError),
+        TableFault::Memory(error) => Err(error),
     }
 }
 
@@ -105,7 +106,7 @@ fn refuse<'a>(
     file: &str,
     content: &Content,
     fault: TableFault,
-) -> Result<PreparedCall<'a>, AllocError>
+) -> Result<PreparedCall<'a>, OutOfMemory>
     ensures due { IfOk result (λ act. (text : List ℕ) → Answers text (Err fault) →
         IsTableDue text (outcome_of act)) }
     ensures quiet { IfOk result IsQuiet }
@@ -121,7 +122,7 @@ fn store_program<'a>(
     alloc: Global,
     table: &TaskTable,
     target: &'a str,
-) -> Result<PreparedCall<'a>, AllocError>
+) -> Result<PreparedCall<'a>, OutOfMemory>
     ensures outcome { IfOk result (λ act. outcome_of act ≡ keeps (text_of_table table.now)) }
     ensures done { IfOk result (CanBeDone (Some target.now)) }
 {
@@ -145,7 +146,7 @@ fn table_act<'a>(
     tasks: &str,
     content: &Content,
     program: &'a str,
-) -> Result<PreparedCall<'a>, AllocError>
+) -> Result<PreparedCall<'a>, OutOfMemory>
     ensures due { IfOk result (λ act. (text : List ℕ) → IsContent longest_text content.now text →
         IsTableDue text (outcome_of act)) }
     ensures done { IfOk result (CanBeDone (Some program.now)) }
@@ -178,6 +179,6 @@ pub fn prepare_table<'a, F: Files>(
     let content = read(files, tasks, LONGEST_TABLE)?;
     match table_act(alloc, message, tasks, &content, program) {
         Ok(act) => Ok(act),
-        Err(_) => Err(PrepareError::Memory),
+        Err(error) => Err(PrepareError::Memory(error)),
     }
 }

@@ -10,7 +10,8 @@ use crate::TaskStay;
 use crate::parts::add_parts;
 use crate::spending::add_spending;
 use itoa::Buffer;
-use std::alloc::{AllocError, Global};
+use out_of_memory::OutOfMemory;
+use std::alloc::Global;
 use syntax_tree::Text;
 
 /// Whether the name is one of these.
@@ -21,7 +22,7 @@ fn is_listed(names: &[&[u8]], name: &[u8]) -> bool
 }
 
 /// Puts the monitor at the end of a list unless it is there.
-fn add_once<'a>(monitors: &mut Vec<&'a [u8]>, name: &'a [u8]) -> Result<(), AllocError>
+fn add_once<'a>(monitors: &mut Vec<&'a [u8]>, name: &'a [u8]) -> Result<(), OutOfMemory>
     ensures { OnOk result (seen monitors.new.items ≡ with_name (seen monitors.old.items) name.now) }
 {
     if is_listed(monitors.as_slice(), name) {
@@ -32,7 +33,10 @@ fn add_once<'a>(monitors: &mut Vec<&'a [u8]>, name: &'a [u8]) -> Result<(), Allo
 }
 
 /// The monitors of some stays, each once, in the order in which they stand first.
-pub fn monitor_names<'a>(alloc: Global, stays: &[&'a TaskStay]) -> Result<Vec<&'a [u8]>, AllocError>
+pub fn monitor_names<'a>(
+    alloc: Global,
+    stays: &[&'a TaskStay],
+) -> Result<Vec<&'a [u8]>, OutOfMemory>
     ensures { IfOk result (λ all. seen all.items ≡ monitors_of (seen stays.now)) }
 {
     let mut all = Vec::new(alloc);
@@ -50,7 +54,7 @@ fn has_ticks(all: &[u64], ticks: u64) -> bool
 }
 
 /// Puts the ticks at the end of a list unless they are there.
-fn add_new(all: &mut Vec<u64>, ticks: u64) -> Result<(), AllocError>
+fn add_new(all: &mut Vec<u64>, ticks: u64) -> Result<(), OutOfMemory>
     ensures { OnOk result (all.new.items ≡ with_ticks all.old.items ticks) }
 {
     if has_ticks(all.as_slice(), ticks) {
@@ -62,7 +66,7 @@ fn add_new(all: &mut Vec<u64>, ticks: u64) -> Result<(), AllocError>
 
 /// Puts the ticks of the stay at the end of a list, where it is one in the monitor of this name,
 /// unless they are there.
-fn add_ticks(all: &mut Vec<u64>, stay: &TaskStay, name: &[u8]) -> Result<(), AllocError>
+fn add_ticks(all: &mut Vec<u64>, stay: &TaskStay, name: &[u8]) -> Result<(), OutOfMemory>
     ensures { OnOk result (all.new.items ≡ with_stay name.now all.old.items stay.now) }
 {
     if name == stay.monitor.as_bytes() {
@@ -72,7 +76,11 @@ fn add_ticks(all: &mut Vec<u64>, stay: &TaskStay, name: &[u8]) -> Result<(), All
 }
 
 /// The different stays in the monitor of this name, in the order in which they stand first.
-fn ticks_in_monitor(alloc: Global, stays: &[&TaskStay], name: &[u8]) -> Result<Vec<u64>, AllocError>
+fn ticks_in_monitor(
+    alloc: Global,
+    stays: &[&TaskStay],
+    name: &[u8],
+) -> Result<Vec<u64>, OutOfMemory>
     ensures { IfOk result (λ all. all.items ≡ ticks_in name.now (seen stays.now)) }
 {
     let mut all = Vec::new(alloc);
@@ -83,7 +91,7 @@ fn ticks_in_monitor(alloc: Global, stays: &[&TaskStay], name: &[u8]) -> Result<V
 }
 
 /// Puts the entry for a stay at the end of a text.
-fn add_entry(text: &mut Text, tail: &[u8], ticks: u64) -> Result<(), AllocError>
+fn add_entry(text: &mut Text, tail: &[u8], ticks: u64) -> Result<(), OutOfMemory>
     ensures { OnOk result (text.new ≡ text.old ++ entries_text tail.now (ticks ∷ [])) }
 {
     let mut digits = Buffer::new();
@@ -95,7 +103,7 @@ fn add_entry(text: &mut Text, tail: &[u8], ticks: u64) -> Result<(), AllocError>
 }
 
 /// Puts the entries for some stays at the end of a text.
-fn add_entries(text: &mut Text, tail: &[u8], all: &[u64]) -> Result<(), AllocError>
+fn add_entries(text: &mut Text, tail: &[u8], all: &[u64]) -> Result<(), OutOfMemory>
     ensures { OnOk result (text.new ≡ text.old ++ entries_text tail.now all.now) }
 {
     for ticks in all {
@@ -111,7 +119,7 @@ pub fn add_monitor(
     tail: &[u8],
     stays: &[&TaskStay],
     name: &[u8],
-) -> Result<(), AllocError>
+) -> Result<(), OutOfMemory>
     ensures { OnOk result (text.new ≡ text.old ++
         declarations_text (monitor (monitor_with tail.now (seen stays.now) name.now) ∷ [])) }
 {

@@ -9,11 +9,12 @@ ghost use Rattle.table_format.specs.Parts.{are_met, first_free, made_with as mad
 use crate::parts::add_parts;
 use crate::{TaskLine, TaskStay, TaskTable};
 use itoa::Buffer;
-use std::alloc::{AllocError, Global};
+use out_of_memory::OutOfMemory;
+use std::alloc::Global;
 use syntax_tree::{List, Text};
 
 /// Puts some stays at the end of a list.
-fn add_stays<'a>(all: &mut Vec<&'a TaskStay>, stays: &'a [TaskStay]) -> Result<(), AllocError>
+fn add_stays<'a>(all: &mut Vec<&'a TaskStay>, stays: &'a [TaskStay]) -> Result<(), OutOfMemory>
     ensures { OnOk result (seen all.new.items ≡ seen all.old.items ++ stays.now) }
 {
     for stay in stays {
@@ -23,7 +24,7 @@ fn add_stays<'a>(all: &mut Vec<&'a TaskStay>, stays: &'a [TaskStay]) -> Result<(
 }
 
 /// The stays of some process lines, in order.
-pub fn all_stays(alloc: Global, tasks: &[TaskLine]) -> Result<Vec<&TaskStay>, AllocError>
+pub fn all_stays(alloc: Global, tasks: &[TaskLine]) -> Result<Vec<&TaskStay>, OutOfMemory>
     ensures { IfOk result (λ all. seen all.items ≡ flat_map (λ p. p.stays) tasks.now) }
 {
     let mut all = Vec::new(alloc);
@@ -34,7 +35,7 @@ pub fn all_stays(alloc: Global, tasks: &[TaskLine]) -> Result<Vec<&TaskStay>, Al
 }
 
 /// Puts the names of a process line but those of its monitors at the end of a list.
-fn add_task_names<'a>(all: &mut Vec<&'a [u8]>, task: &'a TaskLine) -> Result<(), AllocError>
+fn add_task_names<'a>(all: &mut Vec<&'a [u8]>, task: &'a TaskLine) -> Result<(), OutOfMemory>
     ensures { OnOk result (seen all.new.items ≡ seen all.old.items ++ task_names task.now) }
 {
     all.push(task.name.as_bytes())?;
@@ -48,7 +49,7 @@ fn add_task_names<'a>(all: &mut Vec<&'a [u8]>, task: &'a TaskLine) -> Result<(),
 }
 
 /// Puts the monitors of some stays at the end of a list.
-fn add_monitors<'a>(all: &mut Vec<&'a [u8]>, stays: &[&'a TaskStay]) -> Result<(), AllocError>
+fn add_monitors<'a>(all: &mut Vec<&'a [u8]>, stays: &[&'a TaskStay]) -> Result<(), OutOfMemory>
     ensures { OnOk result
         (seen all.new.items ≡ seen all.old.items ++ map (λ s. s.monitor) (seen stays.now)) }
 {
@@ -59,7 +60,7 @@ fn add_monitors<'a>(all: &mut Vec<&'a [u8]>, stays: &[&'a TaskStay]) -> Result<(
 }
 
 /// Puts the names of some process lines but those of their monitors at the end of a list.
-fn add_names<'a>(all: &mut Vec<&'a [u8]>, tasks: &'a [TaskLine]) -> Result<(), AllocError>
+fn add_names<'a>(all: &mut Vec<&'a [u8]>, tasks: &'a [TaskLine]) -> Result<(), OutOfMemory>
     ensures { OnOk result
         (seen all.new.items ≡ seen all.old.items ++ flat_map task_names tasks.now) }
 {
@@ -74,7 +75,7 @@ fn all_names<'a>(
     alloc: Global,
     table: &'a TaskTable,
     stays: &[&'a TaskStay],
-) -> Result<Vec<&'a [u8]>, AllocError>
+) -> Result<Vec<&'a [u8]>, OutOfMemory>
     requires { seen stays.now ≡ stays_of table.now }
     ensures { IfOk result (λ all. seen all.items ≡ names_of table.now) }
 {
@@ -86,7 +87,7 @@ fn all_names<'a>(
 }
 
 /// A name that is made of these parts.
-fn name_of(alloc: Global, parts: &[&[u8]]) -> Result<Text, AllocError>
+fn name_of(alloc: Global, parts: &[&[u8]]) -> Result<Text, OutOfMemory>
     ensures { IfOk result (λ name. name ≡ concat (seen parts.now)) }
 {
     let mut name = Text::new(alloc);
@@ -95,7 +96,7 @@ fn name_of(alloc: Global, parts: &[&[u8]]) -> Result<Text, AllocError>
 }
 
 /// Puts the name that is made of these parts at the end of a list.
-fn add_name(alloc: Global, made: &mut List<Text>, parts: &[&[u8]]) -> Result<(), AllocError>
+fn add_name(alloc: Global, made: &mut List<Text>, parts: &[&[u8]]) -> Result<(), OutOfMemory>
     ensures { OnOk result (made.new ≡ made.old ++ concat (seen parts.now) ∷ []) }
 {
     let name = name_of(alloc, parts)?;
@@ -108,7 +109,7 @@ fn add_entry(
     made: &mut List<Text>,
     ticks: u64,
     tail: &[u8],
-) -> Result<(), AllocError>
+) -> Result<(), OutOfMemory>
     ensures { OnOk result (made.new ≡ made.old ++ (stay_name ticks ++ tail.now) ∷ []) }
 {
     let mut digits = Buffer::new();
@@ -125,7 +126,7 @@ fn add_entries(
     made: &mut List<Text>,
     stays: &[&TaskStay],
     tail: &[u8],
-) -> Result<(), AllocError>
+) -> Result<(), OutOfMemory>
     ensures { OnOk result
         (made.new ≡ made.old ++ map (λ s. stay_name s.ticks ++ tail.now) (seen stays.now)) }
 {
@@ -136,7 +137,7 @@ fn add_entries(
 }
 
 /// The names that a program with these stays has besides those of its table, with this tail.
-fn made_with(alloc: Global, stays: &[&TaskStay], tail: &[u8]) -> Result<List<Text>, AllocError>
+fn made_with(alloc: Global, stays: &[&TaskStay], tail: &[u8]) -> Result<List<Text>, OutOfMemory>
     ensures { IfOk result (λ made. made ≡ made_of tail.now (seen stays.now)) }
 {
     let mut made = List::new(alloc);
@@ -163,7 +164,7 @@ fn is_any_made(names: &[&[u8]], made: &[Text]) -> bool
 }
 
 /// The tail of this number: nothing, then `_1`, `_2` and so on.
-fn tail_of(alloc: Global, number: usize) -> Result<Text, AllocError>
+fn tail_of(alloc: Global, number: usize) -> Result<Text, OutOfMemory>
     ensures { IfOk result (λ tail. tail ≡ tail_numbered number) }
 {
     if number == 0 {
@@ -179,7 +180,7 @@ fn is_in_the_way(
     names: &[&[u8]],
     stays: &[&TaskStay],
     tail: &[u8],
-) -> Result<bool, AllocError>
+) -> Result<bool, OutOfMemory>
     ensures { IfOk result (λ met. met ≡ are_met (seen names.now) (seen stays.now) tail.now) }
 {
     let made = made_with(alloc, stays, tail)?;
@@ -192,7 +193,7 @@ fn try_tail(
     names: &[&[u8]],
     stays: &[&TaskStay],
     number: usize,
-) -> Result<Option<Text>, AllocError>
+) -> Result<Option<Text>, OutOfMemory>
     ensures { IfOk result (λ found. found ≡ tried (seen names.now) (seen stays.now) number) }
 {
     let tail = tail_of(alloc, number)?;
@@ -203,7 +204,7 @@ fn try_tail(
 }
 
 /// The first tail with which no name that is made is one of these names.
-fn free_tail(alloc: Global, names: &[&[u8]], stays: &[&TaskStay]) -> Result<Text, AllocError>
+fn free_tail(alloc: Global, names: &[&[u8]], stays: &[&TaskStay]) -> Result<Text, OutOfMemory>
     ensures { IfOk result (λ tail. tail ≡ first_free (seen names.now) (seen stays.now)) }
 {
     let all = names.len() + 1;
@@ -216,7 +217,7 @@ fn free_tail(alloc: Global, names: &[&[u8]], stays: &[&TaskStay]) -> Result<Text
 }
 
 /// The tail of the names that the program of a table with these stays has besides its own.
-pub fn made_tail(alloc: Global, table: &TaskTable, stays: &[&TaskStay]) -> Result<Text, AllocError>
+pub fn made_tail(alloc: Global, table: &TaskTable, stays: &[&TaskStay]) -> Result<Text, OutOfMemory>
     requires { seen stays.now ≡ stays_of table.now }
     ensures { IfOk result (λ tail. tail ≡ tail_of_table table.now) }
 {

@@ -3,11 +3,11 @@
 ghost use Rattle.std.specs.Prelude.{◌≡◌, ◌++◌, map, OnOk};
 ghost use Rattle.std.specs.List.{concat};
 
-use std::alloc::AllocError;
+use out_of_memory::OutOfMemory;
 use syntax_tree::Text;
 
 /// Puts these bytes at the end of a text, part by part.
-pub fn add_parts(text: &mut Text, parts: &[&[u8]]) -> Result<(), AllocError>
+pub fn add_parts(text: &mut Text, parts: &[&[u8]]) -> Result<(), OutOfMemory>
     ensures { OnOk result (text.new ≡ text.old ++ concat (map (λ part. part.now) parts.now)) }
 {
     for part in parts {

@@ -10,11 +10,11 @@ use crate::parts::add_parts;
 use crate::spending::add_spending;
 use crate::{TaskLine, TaskStay};
 use itoa::Buffer;
-use std::alloc::AllocError;
+use out_of_memory::OutOfMemory;
 use syntax_tree::Text;
 
 /// Puts a number with these bytes before it, where there is one, at the end of a text.
-fn add_option(text: &mut Text, before: &[u8], number: Option<u64>) -> Result<(), AllocError>
+fn add_option(text: &mut Text, before: &[u8], number: Option<u64>) -> Result<(), OutOfMemory>
     ensures { OnOk result (text.new ≡ text.old ++ option_text before.now number) }
 {
     match number {
@@ -27,7 +27,7 @@ fn add_option(text: &mut Text, before: &[u8], number: Option<u64>) -> Result<(),
 }
 
 /// Puts what releases a process, its frame and its deadline at the end of a text.
-fn add_activation(text: &mut Text, task: &TaskLine) -> Result<(), AllocError>
+fn add_activation(text: &mut Text, task: &TaskLine) -> Result<(), OutOfMemory>
     ensures { OnOk result (text.new ≡ text.old ++ activation_text task.now) }
 {
     let mut digits = Buffer::new();
@@ -47,7 +47,7 @@ fn add_activation(text: &mut Text, task: &TaskLine) -> Result<(), AllocError>
 }
 
 /// Puts the calls in which a process stays in monitors at the end of a text.
-fn add_calls(text: &mut Text, tail: &[u8], stays: &[TaskStay]) -> Result<(), AllocError>
+fn add_calls(text: &mut Text, tail: &[u8], stays: &[TaskStay]) -> Result<(), OutOfMemory>
     ensures { OnOk result
         (text.new ≡ text.old ++ statements_text (map (stay_call tail.now) stays.now)) }
 {
@@ -73,7 +73,7 @@ fn ticks_left(task: &TaskLine) -> u64
 }
 
 /// Puts a process at the end of a text.
-pub fn add_process(text: &mut Text, tail: &[u8], task: &TaskLine) -> Result<(), AllocError>
+pub fn add_process(text: &mut Text, tail: &[u8], task: &TaskLine) -> Result<(), OutOfMemory>
     ensures { OnOk result (text.new ≡ text.old ++
         declarations_text (process (table_process tail.now task.now) ∷ [])) }
 {

@@ -6,11 +6,11 @@ ghost use Rattle.table_format.specs.Parts.{statements_text};
 
 use crate::parts::add_parts;
 use itoa::Buffer;
-use std::alloc::AllocError;
+use out_of_memory::OutOfMemory;
 use syntax_tree::Text;
 
 /// So many assignments that take 3 ticks each.
-fn add_threes(text: &mut Text, tail: &[u8], count: u64) -> Result<(), AllocError>
+fn add_threes(text: &mut Text, tail: &[u8], count: u64) -> Result<(), OutOfMemory>
     ensures { OnOk result (text.new ≡ text.old ++ statements_text (threes tail.now count)) }
 {
     for _ in 0..count {
@@ -20,7 +20,7 @@ fn add_threes(text: &mut Text, tail: &[u8], count: u64) -> Result<(), AllocError
 }
 
 /// Assignments that take so many ticks.
-fn add_assignments(text: &mut Text, tail: &[u8], ticks: u64) -> Result<(), AllocError>
+fn add_assignments(text: &mut Text, tail: &[u8], ticks: u64) -> Result<(), OutOfMemory>
     ensures { OnOk result
         (text.new ≡ text.old ++ statements_text (spend_by_assignments tail.now ticks)) }
 {
@@ -36,7 +36,7 @@ fn add_assignments(text: &mut Text, tail: &[u8], ticks: u64) -> Result<(), Alloc
 }
 
 /// A loop, where there is room for one, and assignments that take so many ticks.
-fn add_loop(text: &mut Text, tail: &[u8], ticks: u64) -> Result<(), AllocError>
+fn add_loop(text: &mut Text, tail: &[u8], ticks: u64) -> Result<(), OutOfMemory>
     ensures { OnOk result
         (text.new ≡ text.old ++ statements_text (spend_by_loop tail.now ticks)) }
 {
@@ -54,7 +54,7 @@ fn add_loop(text: &mut Text, tail: &[u8], ticks: u64) -> Result<(), AllocError>
 }
 
 /// Statements that take so many ticks, where these are 0, or 3 or more.
-pub fn add_spending(text: &mut Text, tail: &[u8], ticks: u64) -> Result<(), AllocError>
+pub fn add_spending(text: &mut Text, tail: &[u8], ticks: u64) -> Result<(), OutOfMemory>
     ensures { OnOk result (text.new ≡ text.old ++ statements_text (spend tail.now ticks)) }
 {
     if ticks < 10_023 {

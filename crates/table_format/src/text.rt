@@ -12,11 +12,12 @@ use crate::names::{all_stays, made_tail};
 use crate::parts::add_parts;
 use crate::processes::add_process;
 use crate::{TaskLine, TaskStay, TaskTable};
-use std::alloc::{AllocError, Global};
+use out_of_memory::OutOfMemory;
+use std::alloc::Global;
 use syntax_tree::{Name, Text};
 
 /// Puts the event of a process line, if it has one, at the end of a text.
-fn add_event(text: &mut Text, event: &Option<Name>) -> Result<(), AllocError>
+fn add_event(text: &mut Text, event: &Option<Name>) -> Result<(), OutOfMemory>
     ensures { OnOk result (text.new ≡ text.old ++ declarations_text (event_of event.now)) }
 {
     match event {
@@ -26,7 +27,7 @@ fn add_event(text: &mut Text, event: &Option<Name>) -> Result<(), AllocError>
 }
 
 /// Puts the events of some process lines at the end of a text.
-fn add_events(text: &mut Text, tasks: &[TaskLine]) -> Result<(), AllocError>
+fn add_events(text: &mut Text, tasks: &[TaskLine]) -> Result<(), OutOfMemory>
     ensures { OnOk result (text.new ≡ text.old ++
         declarations_text (flat_map (λ p. event_of p.event) tasks.now)) }
 {
@@ -43,7 +44,7 @@ fn add_monitors(
     tail: &[u8],
     stays: &[&TaskStay],
     names: &[&[u8]],
-) -> Result<(), AllocError>
+) -> Result<(), OutOfMemory>
     ensures { OnOk result (text.new ≡ text.old ++ declarations_text
         (map (λ name. monitor (monitor_with tail.now (seen stays.now) name)) (seen names.now))) }
 {
@@ -55,7 +56,7 @@ fn add_monitors(
 }
 
 /// Puts the processes of some process lines at the end of a text.
-fn add_processes(text: &mut Text, tail: &[u8], tasks: &[TaskLine]) -> Result<(), AllocError>
+fn add_processes(text: &mut Text, tail: &[u8], tasks: &[TaskLine]) -> Result<(), OutOfMemory>
     ensures { OnOk result (text.new ≡ text.old ++ declarations_text
         (map (λ p. process (table_process tail.now p)) tasks.now)) }
 {
@@ -71,7 +72,7 @@ fn add_all_monitors(
     text: &mut Text,
     tail: &[u8],
     stays: &[&TaskStay],
-) -> Result<(), AllocError>
+) -> Result<(), OutOfMemory>
     ensures { OnOk result (text.new ≡ text.old ++ declarations_text
         (map (λ name. monitor (monitor_with tail.now (seen stays.now) name))
         (monitors_of (seen stays.now)))) }
@@ -86,7 +87,7 @@ fn text_with(
     table: &TaskTable,
     stays: &[&TaskStay],
     tail: &[u8],
-) -> Result<Text, AllocError>
+) -> Result<Text, OutOfMemory>
     requires { seen stays.now ≡ stays_of table.now }
     ensures { IfOk result (λ text. text ≡ canonical (program_with tail.now table.now)) }
 {
@@ -107,7 +108,7 @@ fn text_with(
 /// # Errors
 ///
 /// Only where there is not enough memory.
-pub fn table_text(alloc: Global, table: &TaskTable) -> Result<Text, AllocError>
+pub fn table_text(alloc: Global, table: &TaskTable) -> Result<Text, OutOfMemory>
     ensures { IfOk result (λ text. text ≡ text_of_table table.now) }
 {
     let stays = all_stays(alloc, table.tasks.as_slice())?;

@@ -75,7 +75,7 @@ crowded t s p tasks test new pushed fails means =
 pub line_answer : (t : TaskTable) (s : SaidLine) (text bytes rest : List ℕ) (fault : TableFault) → length text ≤ longest_text → IsBegun t → text ≡ lines_before_end t ++ bytes
     → IsFormed s → bytes ≡ process_line s ++ rest → IsLineFault t s fault → IsFaultOf text fault
 line_answer t s text bytes rest (Bad number line) short begun so_far form is wrong = line_fault t s text bytes rest number line short begun so_far form is wrong.0 wrong.1
-line_answer t s text bytes rest Memory short begun so_far form is wrong = tt
+line_answer t s text bytes rest (Memory _) short begun so_far form is wrong = tt
 
 -- a fault of the text, as it is told
 told : (text : List ℕ) (fault : TableFault) (number line at : ℕ) → fault ≡ Bad number line → line ≡ at → IsTableFault text number at → IsFaultOf text fault

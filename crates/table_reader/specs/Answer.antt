@@ -9,7 +9,7 @@ use Rattle.table_reader.specs.declared.fault.TableFault.TheVariants.{Bad, Memory
 -- want of memory says nothing of the text
 abbrev pub IsFaultOf : List ℕ → TableFault → Type 0
 IsFaultOf text (Bad number line) = IsTableFault text number line
-IsFaultOf text Memory = Unit {0}
+IsFaultOf text (Memory _) = Unit {0}
 
 -- the text is the one spelling of the table, or has the fault
 abbrev pub Answers : List ℕ → Result TaskTable TableFault → Type 0

@@ -85,4 +85,4 @@ pub record IsAdded (old : TaskTable) (s : SaidLine) (new : TaskTable) : Type 0 w
 -- want of memory says nothing of the line
 abbrev pub IsLineFault : TaskTable → SaidLine → TableFault → Type 0
 IsLineFault t s (Bad number line) = IsLeast (Breaks t (meant s)) number × (line ≡ length t.tasks + 2)
-IsLineFault t s Memory = Unit {0}
+IsLineFault t s (Memory _) = Unit {0}

@@ -1,6 +1,6 @@
 //! Why a text is no task table.
 
-use std::alloc::AllocError;
+use out_of_memory::OutOfMemory;
 use thiserror::Error;
 
 /// Why a text was refused. Lines count from 1.
@@ -20,16 +20,17 @@ pub enum TableFault {
     Bad { number: u8, line: u32 },
     /// There was not enough memory.
     #[error("out of memory")]
-    Memory,
+    Memory(OutOfMemory),
 }
 
-impl From<AllocError> for TableFault {
+impl From<OutOfMemory> for TableFault {
     ghost use Rattle.std.specs.Prelude.{◌≡◌};
+    ghost use Rattle.out_of_memory.specs.Refused.{refused};
     ghost use Rattle.table_reader.specs.declared.fault.TableFault.TheVariants.{Memory};
 
-    ghost from_gives = { λ _ fault. fault ≡ Memory };
+    ghost from_gives = { λ _ fault. fault ≡ Memory refused };
 
-    fn from(_: AllocError) -> TableFault {
-        TableFault::Memory
+    fn from(error: OutOfMemory) -> TableFault {
+        TableFault::Memory(error)
     }
 }

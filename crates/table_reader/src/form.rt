@@ -9,7 +9,8 @@ ghost use Rattle.table_format.specs.Faults.{IsFormed, IsTableWord, is_numeral as
 ghost use Rattle.table_reader.specs.Reading.{bytes_of, line_seen, seen};
 
 use crate::line::{LineWords, StayWords};
-use std::alloc::{AllocError, Global};
+use out_of_memory::OutOfMemory;
+use std::alloc::Global;
 use syntax::keyword_at;
 use text_fields::cut_at;
 
@@ -77,7 +78,7 @@ pub fn is_name(word: &[u8]) -> bool
 }
 
 /// Puts the word, where there is one, at the end of a list.
-fn add_if<'a>(all: &mut Vec<&'a [u8]>, word: Option<&'a [u8]>) -> Result<(), AllocError>
+fn add_if<'a>(all: &mut Vec<&'a [u8]>, word: Option<&'a [u8]>) -> Result<(), OutOfMemory>
     ensures { OnOk result
         (seen all.new.items ≡ seen all.old.items ++ option_to_list (bytes_of word.entry)) }
 {
@@ -91,7 +92,7 @@ fn add_if<'a>(all: &mut Vec<&'a [u8]>, word: Option<&'a [u8]>) -> Result<(), All
 }
 
 /// Puts the monitors of some stays at the end of a list.
-fn add_monitors<'a>(all: &mut Vec<&'a [u8]>, stays: &[StayWords<'a>]) -> Result<(), AllocError>
+fn add_monitors<'a>(all: &mut Vec<&'a [u8]>, stays: &[StayWords<'a>]) -> Result<(), OutOfMemory>
     ensures { OnOk result
         (seen all.new.items ≡ seen all.old.items ++ map (λ s. s.monitor.now) stays.now) }
 {
@@ -102,7 +103,7 @@ fn add_monitors<'a>(all: &mut Vec<&'a [u8]>, stays: &[StayWords<'a>]) -> Result<
 }
 
 /// Puts the ticks of some stays at the end of a list.
-fn add_ticks<'a>(all: &mut Vec<&'a [u8]>, stays: &[StayWords<'a>]) -> Result<(), AllocError>
+fn add_ticks<'a>(all: &mut Vec<&'a [u8]>, stays: &[StayWords<'a>]) -> Result<(), OutOfMemory>
     ensures { OnOk result
         (seen all.new.items ≡ seen all.old.items ++ map (λ s. s.ticks.now) stays.now) }
 {
@@ -113,7 +114,7 @@ fn add_ticks<'a>(all: &mut Vec<&'a [u8]>, stays: &[StayWords<'a>]) -> Result<(),
 }
 
 /// The words in the places of names, in order.
-fn names_of<'a>(alloc: Global, line: &LineWords<'a>) -> Result<Vec<&'a [u8]>, AllocError>
+fn names_of<'a>(alloc: Global, line: &LineWords<'a>) -> Result<Vec<&'a [u8]>, OutOfMemory>
     ensures { IfOk result (λ names. seen names.items ≡ names_of_line (meant (line_seen line.now))) }
 {
     let mut names = Vec::new(alloc);
@@ -124,7 +125,7 @@ fn names_of<'a>(alloc: Global, line: &LineWords<'a>) -> Result<Vec<&'a [u8]>, Al
 }
 
 /// The words in the places of numbers.
-fn numbers_of<'a>(alloc: Global, line: &LineWords<'a>) -> Result<Vec<&'a [u8]>, AllocError>
+fn numbers_of<'a>(alloc: Global, line: &LineWords<'a>) -> Result<Vec<&'a [u8]>, OutOfMemory>
     ensures { IfOk result (λ words. seen words.items ≡ numbers (line_seen line.now)) }
 {
     let mut words = Vec::new(alloc);
@@ -173,7 +174,7 @@ fn are_names(words: &[&[u8]]) -> bool
 }
 
 /// Whether the words in the places of names are names.
-pub fn has_names(alloc: Global, line: &LineWords<'_>) -> Result<bool, AllocError>
+pub fn has_names(alloc: Global, line: &LineWords<'_>) -> Result<bool, OutOfMemory>
     ensures { IfOk result (λ right. IsTrue right ↔
         All IsName (names_of_line (meant (line_seen line.now)))) }
 {
@@ -189,7 +190,7 @@ fn is_one_activation(line: &LineWords<'_>) -> bool
 }
 
 /// Whether a line has the form of a process line.
-pub fn is_formed(alloc: Global, line: &LineWords<'_>) -> Result<bool, AllocError>
+pub fn is_formed(alloc: Global, line: &LineWords<'_>) -> Result<bool, OutOfMemory>
     ensures { IfOk result (λ formed. IsTrue formed ↔ IsFormed (line_seen line.now)) }
 {
     if !is_one_activation(line) {

@@ -8,7 +8,8 @@ ghost use Rattle.table_reader.specs.Judging.{is_among, is_event_taken, is_task_t
 ghost use Rattle.table_reader.specs.Reading.{line_seen};
 
 use crate::line::{LineWords, StayWords};
-use std::alloc::{AllocError, Global};
+use out_of_memory::OutOfMemory;
+use std::alloc::Global;
 use table_format::{TaskLine, TaskStay, TaskTable, all_stays, monitor_names};
 use text_fields::is_same;
 
@@ -124,7 +125,7 @@ pub fn can_be_met(task: &TaskLine) -> bool
 }
 
 /// Whether a table has at most 64 processes, 64 monitors and 512 stays.
-pub fn is_small(alloc: Global, table: &TaskTable) -> Result<bool, AllocError>
+pub fn is_small(alloc: Global, table: &TaskTable) -> Result<bool, OutOfMemory>
     ensures { IfOk result (λ small. IsTrue small ↔ IsSmall table.now) }
 {
     let stays = all_stays(alloc, table.tasks.as_slice())?;

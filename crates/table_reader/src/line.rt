@@ -5,7 +5,8 @@ ghost use Rattle.table_reader.specs.Reading.{head_read, head_seen, line_read, li
 ghost use Rattle.table_reader.specs.Words.{left};
 
 use crate::words::{Words, after_key, next_word, optional};
-use std::alloc::{AllocError, Global};
+use out_of_memory::OutOfMemory;
+use std::alloc::Global;
 
 /// A monitor and the ticks of a stay in it, as they are spelled.
 #[derive(Clone, Copy)]
@@ -85,7 +86,7 @@ fn read_stay(words: Words<'_>) -> Option<NextStay<'_>>
 }
 
 /// The stays to the end of a line, by their words; None where other words stand there.
-fn read_stays(alloc: Global, words: Words<'_>) -> Result<Option<Vec<StayWords<'_>>>, AllocError>
+fn read_stays(alloc: Global, words: Words<'_>) -> Result<Option<Vec<StayWords<'_>>>, OutOfMemory>
     ensures { IfOk result (λ stays. option_map (λ found. map stay_of found.items) stays ≡
         stays_read (left words.entry.rest)) }
 {
@@ -104,7 +105,7 @@ fn read_stays(alloc: Global, words: Words<'_>) -> Result<Option<Vec<StayWords<'_
 }
 
 /// The words of a process line, which is given without its LF; None where other words stand in it.
-pub fn read_line(alloc: Global, line: &[u8]) -> Result<Option<LineWords<'_>>, AllocError>
+pub fn read_line(alloc: Global, line: &[u8]) -> Result<Option<LineWords<'_>>, OutOfMemory>
     ensures { IfOk result (λ found. option_map line_seen found ≡ line_read line.now) }
 {
     let Some(front) = read_head(Words { rest: Some(line) }) else {

@@ -5,7 +5,8 @@ ghost use Rattle.std.specs.Prelude.{IfOk};
 
 use crate::form::{is_formed, is_table_word};
 use crate::line::{LineWords, read_line};
-use std::alloc::{AllocError, Global};
+use out_of_memory::OutOfMemory;
+use std::alloc::Global;
 use text_fields::{cut_at, is_same};
 
 /// What stands before the name of a table.
@@ -46,7 +47,7 @@ pub fn first_line(bytes: &[u8]) -> Option<FirstLine<'_>>
 }
 
 /// The words of a process line, which is given without its LF; None where it has no form.
-fn process_line(alloc: Global, line: &[u8]) -> Result<Option<LineWords<'_>>, AllocError>
+fn process_line(alloc: Global, line: &[u8]) -> Result<Option<LineWords<'_>>, OutOfMemory>
     ensures { IfOk result (λ words. IsProcess line.now words) }
 {
     match read_line(alloc, line)? {
@@ -62,7 +63,7 @@ fn process_line(alloc: Global, line: &[u8]) -> Result<Option<LineWords<'_>>, All
 }
 
 /// The next line of some bytes; None where it has no form.
-pub fn next_line(alloc: Global, bytes: &[u8]) -> Result<Option<NextLine<'_>>, AllocError>
+pub fn next_line(alloc: Global, bytes: &[u8]) -> Result<Option<NextLine<'_>>, OutOfMemory>
     ensures { IfOk result (λ next. IsNext bytes.now next) }
 {
     let Some(cut) = cut_at(bytes, b'\n') else {

@@ -16,7 +16,8 @@ use crate::line::LineWords;
 use crate::next::{NextLine, first_line, next_line};
 use crate::refusal::{self, LONG_TABLE};
 use crate::task::task_of;
-use std::alloc::{AllocError, Global};
+use out_of_memory::OutOfMemory;
+use std::alloc::Global;
 use syntax_tree::{List, Name};
 use table_format::{TaskLine, TaskTable};
 
@@ -40,7 +41,7 @@ fn name_fault(
     alloc: Global,
     table: &TaskTable,
     words: &LineWords<'_>,
-) -> Result<Option<u8>, AllocError>
+) -> Result<Option<u8>, OutOfMemory>
     ensures { IfOk result (λ fault. MatchOption fault
         (All IsName (names_of_line (meant (line_seen words.now)))
         × ¬ HasTakenName table.now (meant (line_seen words.now)))

@@ -10,7 +10,8 @@ ghost use Rattle.table_reader.specs.Judging.{AreNumbers, AreStays, HasNumerals, 
 ghost use Rattle.table_reader.specs.Reading.{bytes_of, line_seen, said_with, stay_of};
 
 use crate::line::{HeadWords, LineWords, StayWords};
-use std::alloc::{AllocError, Global};
+use out_of_memory::OutOfMemory;
+use std::alloc::Global;
 use syntax_tree::{List, Name};
 use table_format::{TaskLine, TaskStay};
 use text_fields::unsigned;
@@ -82,7 +83,7 @@ fn numbers_of(head: HeadWords<'_>) -> Option<Numbers>
 }
 
 /// The stays of these words; None where one is out of its range.
-fn stays_of(alloc: Global, words: &[StayWords<'_>]) -> Result<Option<List<TaskStay>>, AllocError>
+fn stays_of(alloc: Global, words: &[StayWords<'_>]) -> Result<Option<List<TaskStay>>, OutOfMemory>
     requires { All (λ s. IsTrue (is_numeral s.ticks.now)) words.now }
     ensures { IfOk result (λ found. MatchOption found
         (¬ All (λ s. IsInRange 3 1000000000 s.ticks) (map stay_meant (map stay_of words.now)))
@@ -100,7 +101,7 @@ fn stays_of(alloc: Global, words: &[StayWords<'_>]) -> Result<Option<List<TaskSt
 }
 
 /// The name of an event, where there is one.
-fn event_of(alloc: Global, word: Option<&[u8]>) -> Result<Option<Name>, AllocError>
+fn event_of(alloc: Global, word: Option<&[u8]>) -> Result<Option<Name>, OutOfMemory>
     ensures { IfOk result (λ event. event ≡ bytes_of word.entry) }
 {
     match word {
@@ -110,7 +111,7 @@ fn event_of(alloc: Global, word: Option<&[u8]>) -> Result<Option<Name>, AllocErr
 }
 
 /// The process line of these words; None where a number is out of its range.
-pub fn task_of(alloc: Global, line: &LineWords<'_>) -> Result<Option<TaskLine>, AllocError>
+pub fn task_of(alloc: Global, line: &LineWords<'_>) -> Result<Option<TaskLine>, OutOfMemory>
     requires { IsFormed (line_seen line.now) }
     ensures { IfOk result (λ found. MatchOption found (¬ IsInRanges (meant (line_seen line.now)))
         (λ task. (task ≡ meant (line_seen line.now)) × (said task ≡ line_seen line.now) × IsInRanges task)) }

@@ -2,15 +2,16 @@
 
 use edf_admission::{EdfFault, EdfImage};
 use image_loaded::{FileFault, Shape};
+use out_of_memory::OutOfMemory;
 use sched_demand::Judgement;
-use std::alloc::{AllocError, Global};
+use std::alloc::Global;
 use std::test::Fail;
 
 /// The shape that the bytes are.
 fn load(alloc: Global, bytes: &[u8]) -> Result<Shape, Fail> {
     match Shape::load(alloc, Vec::from_slice(alloc, bytes)?) {
         Ok(shape) => Ok(shape),
-        Err(FileFault::Memory) => Err(Fail::from(AllocError)),
+        Err(FileFault::Memory(error)) => Err(Fail::from(error)),
         Err(_) => Err(Fail::new("no shape")),
     }
 }
@@ -47,7 +48,7 @@ fn with_changes(
     alloc: Global,
     bytes: &[u8],
     changes: &[(usize, u8)],
-) -> Result<Vec<u8>, AllocError> {
+) -> Result<Vec<u8>, OutOfMemory> {
     let mut changed = Vec::from_slice(alloc, bytes)?;
     set(changed.as_mut_slice(), changes);
     Ok(changed)

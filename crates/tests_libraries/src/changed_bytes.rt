@@ -3,7 +3,8 @@
 use crate::images::load;
 use image_loaded::{FileFault, Image};
 use message_log::test_number;
-use std::alloc::{AllocError, Global};
+use out_of_memory::OutOfMemory;
+use std::alloc::Global;
 use std::test::Fail;
 
 /// A program whose one process does nothing, as an image of version 1.
@@ -59,7 +60,7 @@ fn told_fault(alloc: Global, fault: &FileFault) -> Result<String, Fail> {
             let number = test_number(fault.subject);
             Ok(format!(in alloc; "V{number} {} {}", fault.a, fault.b)?)
         }
-        FileFault::Memory => Err(Fail::from(AllocError)),
+        FileFault::Memory(error) => Err(Fail::from(error)),
     }
 }
 
@@ -77,7 +78,7 @@ fn set(bytes: &mut [u8], change: &Changed) {
     }
 }
 
-fn with_change(alloc: Global, bytes: &[u8], change: &Changed) -> Result<Vec<u8>, AllocError> {
+fn with_change(alloc: Global, bytes: &[u8], change: &Changed) -> Result<Vec<u8>, OutOfMemory> {
     let mut changed = Vec::from_slice(alloc, bytes)?;
     set(changed.as_mut_slice(), change);
     Ok(changed)

@@ -8,8 +8,9 @@ ghost use Rattle.event_log.specs.Reader.{IsReader};
 use base::{Act, Event};
 use event_log::{LogFault, LogReader, NameIndex, condition_names};
 use image::{DeviceName, EventName, ImageNames};
+use out_of_memory::OutOfMemory;
 use script::{Script, ScriptLine, read_script};
-use std::alloc::{AllocError, Global};
+use std::alloc::Global;
 use std::fmt::Display;
 use std::test::Fail;
 use syntax_tree::{List, Name};
@@ -19,7 +20,7 @@ fn add_device(
     devices: &mut List<DeviceName>,
     name: &[u8],
     out: bool,
-) -> Result<(), AllocError>
+) -> Result<(), OutOfMemory>
     ensures { OnOk result (length devices.new ≡ length devices.old + 1) }
 {
     let name = Name::new(alloc, name)?;
@@ -27,7 +28,7 @@ fn add_device(
 }
 
 /// An out device and an in device.
-fn add_devices(alloc: Global, devices: &mut List<DeviceName>) -> Result<(), AllocError>
+fn add_devices(alloc: Global, devices: &mut List<DeviceName>) -> Result<(), OutOfMemory>
     ensures { OnOk result (length devices.new ≡ length devices.old + 2) }
 {
     add_device(alloc, devices, b"valve", true)?;
@@ -35,7 +36,7 @@ fn add_devices(alloc: Global, devices: &mut List<DeviceName>) -> Result<(), Allo
 }
 
 /// The event `e`, whose process has frame 15.
-fn add_event(alloc: Global, events: &mut List<EventName>) -> Result<(), AllocError>
+fn add_event(alloc: Global, events: &mut List<EventName>) -> Result<(), OutOfMemory>
     ensures { OnOk result (length events.new ≡ length events.old + 1) }
 {
     let name = Name::new(alloc, b"e")?;
@@ -43,7 +44,7 @@ fn add_event(alloc: Global, events: &mut List<EventName>) -> Result<(), AllocErr
 }
 
 /// The process `p`.
-fn add_process(alloc: Global, processes: &mut List<Name>) -> Result<(), AllocError>
+fn add_process(alloc: Global, processes: &mut List<Name>) -> Result<(), OutOfMemory>
     ensures { OnOk result (length processes.new ≡ length processes.old + 1) }
 {
     let name = Name::new(alloc, b"p")?;
@@ -51,7 +52,7 @@ fn add_process(alloc: Global, processes: &mut List<Name>) -> Result<(), AllocErr
 }
 
 /// A process that an event releases, an out device and an in device.
-fn add_names(alloc: Global, names: &mut ImageNames) -> Result<(), AllocError>
+fn add_names(alloc: Global, names: &mut ImageNames) -> Result<(), OutOfMemory>
     ensures processes { OnOk result (length names.new.processes ≡ length names.old.processes + 1) }
     ensures monitors { names.new.monitors ≡ names.old.monitors }
     ensures conditions { names.new.conditions ≡ names.old.conditions }
@@ -64,7 +65,7 @@ fn add_names(alloc: Global, names: &mut ImageNames) -> Result<(), AllocError>
 }
 
 /// The same alone.
-fn some_names(alloc: Global) -> Result<ImageNames, AllocError>
+fn some_names(alloc: Global) -> Result<ImageNames, OutOfMemory>
     ensures devices { IfOk result (λ names. length names.devices ≤ 2 ^ 16) }
     ensures events { IfOk result (λ names. length names.events ≤ 2 ^ 16) }
     ensures few { IfOk result AreFew }

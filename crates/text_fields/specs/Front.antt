@@ -39,7 +39,7 @@ abbrev pub ◌>>=◌ : {A B : Type 0} → Result A FieldFault → (A → Result 
 
 -- want of memory says nothing; a fault is the one that reading gives
 abbrev pub Fails : {Y : Type 0} → FieldError → Result Y FieldFault → Type 0
-Fails errors.Memory read = Unit {0}
+Fails (errors.Memory _) read = Unit {0}
 Fails (errors.Fault f) read = read ≡ Err f
 
 -- the answer is what reading gives, in view

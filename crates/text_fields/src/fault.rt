@@ -1,9 +1,11 @@
 //! Why a text was refused.
 
 ghost use Rattle.std.specs.Prelude.{◌≡◌};
+ghost use Rattle.out_of_memory.specs.Refused.{refused};
 ghost use Rattle.text_fields.specs.declared.fault.FieldError.TheVariants.{Memory};
 
-use std::alloc::{AllocError, AllocFailed};
+use out_of_memory::OutOfMemory;
+use std::alloc::AllocFailed;
 
 /// What is wrong with a line, and how many bytes of the text are left from its beginning on.
 #[derive(Clone, Copy)]
@@ -15,22 +17,22 @@ pub struct FieldFault {
 /// Why a part was not read.
 #[derive(Drop)]
 pub enum FieldError {
-    Memory,
+    Memory(OutOfMemory),
     Fault(FieldFault),
 }
 
-impl From<AllocError> for FieldError {
-    ghost from_gives = { λ _ e. e ≡ Memory };
+impl From<OutOfMemory> for FieldError {
+    ghost from_gives = { λ _ e. e ≡ Memory refused };
 
-    fn from(_e: AllocError) -> FieldError {
-        FieldError::Memory
+    fn from(error: OutOfMemory) -> FieldError {
+        FieldError::Memory(error)
     }
 }
 
 impl<T: Drop> From<AllocFailed<T>> for FieldError {
-    ghost from_gives = { λ _ e. e ≡ Memory };
+    ghost from_gives = { λ _ e. e ≡ Memory refused };
 
-    fn from(_e: AllocFailed<T>) -> FieldError {
-        FieldError::Memory
+    fn from(error: AllocFailed<T>) -> FieldError {
+        FieldError::Memory(OutOfMemory::from(error))
     }
 }

@@ -13,11 +13,13 @@ mod cut;
 mod fault;
 pub mod fields_number;
 mod line_cursor;
+mod line_walk;
 pub mod numbers;
 pub mod refusal;
 
 pub use cut::{Cut, cut_at, is_same, is_word};
 pub use fault::{FieldError, FieldFault};
 pub use fields_number::unsigned;
-pub use line_cursor::{LineCursor, begins_with, end_line, note, skip};
+pub use line_cursor::LineCursor;
+pub use line_walk::{begins_with, end_line, note, skip};
 pub use numbers::{field, is_digit, is_numeral, numeral, short_field};

@@ -1,89 +1,14 @@
 //! A place in a line.
 
-ghost use Rattle.std.specs.Prelude.{◌≡◌, length, true};
-ghost use Rattle.text_fields.specs.Front.{Gives, front, begins, noted, skip as skip_read, end_read};
-
-use crate::fault::{FieldError, FieldFault};
-use crate::refusal;
+ghost use Rattle.std.specs.Prelude.{◌<◌, ◌^◌, length};
 
 /// A place in a line: the text from there on, how many bytes of the text were left where the line
-/// begins, and whether all before the place in the line is in its range.
+/// begins, and whether all before the place in the line is in its range. The text has fewer than
+/// 2^32 bytes.
 #[derive(Clone, Copy)]
 pub struct LineCursor<'a> {
     pub rest: &'a [u8],
     pub start: usize,
     pub is_fine: bool,
-}
-
-impl<'a> LineCursor<'a> {
-    /// The beginning of a line.
-    pub fn begin(rest: &'a [u8]) -> LineCursor<'a>
-        ensures { result ≡ record { rest = rest.entry; start = length rest.now; is_fine = true } }
-    {
-        LineCursor {
-            rest,
-            start: rest.len(),
-            is_fine: true,
-        }
-    }
-}
-
-/// Whether the bytes begin with the word.
-pub fn begins_with(bytes: &[u8], word: &[u8]) -> bool
-    ensures { result ≡ begins word.now bytes.now }
-{
-    if bytes.len() < word.len() {
-        return false;
-    }
-    let (front, _rest) = bytes.split_at(word.len());
-    front == word
-}
-
-/// The place after the word, which must stand there.
-#[tactic(auto, unfolding(crate::specs::Front::skip))]
-pub fn skip<'a>(at: LineCursor<'a>, word: &[u8]) -> Result<LineCursor<'a>, FieldError>
-    ensures { Gives front result (skip_read word.now (front at.entry)) }
-{
-    if !begins_with(at.rest, word) {
-        return Err(FieldError::Fault(FieldFault {
-            number: refusal::FORM,
-            left: at.start,
-        }));
-    }
-    let (_word, rest) = at.rest.split_at(word.len());
-    Ok(LineCursor {
-        rest,
-        start: at.start,
-        is_fine: at.is_fine,
-    })
-}
-
-/// The place, with a note whether something before it is in its range.
-pub fn note(at: LineCursor<'_>, holds: bool) -> LineCursor<'_>
-    ensures { front result ≡ noted (front at.entry) holds }
-{
-    LineCursor {
-        rest: at.rest,
-        start: at.start,
-        is_fine: at.is_fine && holds,
-    }
-}
-
-/// The beginning of the next line; this one must end here, and all in it be in its range.
-#[tactic(auto, unfolding(crate::specs::Front::end_read))]
-pub fn end_line(at: LineCursor<'_>) -> Result<LineCursor<'_>, FieldError>
-    ensures { Gives front result (end_read (front at.entry)) }
-{
-    let at = skip(at, b"\n")?;
-    if !at.is_fine {
-        return Err(FieldError::Fault(FieldFault {
-            number: refusal::RANGE,
-            left: at.start,
-        }));
-    }
-    Ok(LineCursor {
-        rest: at.rest,
-        start: at.rest.len(),
-        is_fine: true,
-    })
+    ghost short: { length rest.now < 2 ^ 32 },
 }

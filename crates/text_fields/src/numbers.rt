@@ -5,7 +5,8 @@ ghost use Rattle.text_fields.specs.Front.{Gives, front};
 ghost use Rattle.text_fields.specs.LineFields.{digits_len as digits_front, field_read, is_digit as digit_test, is_numeral as numeral_test, negative as negative_of, number_read, numeral_read, positive as positive_of, ranged as ranged_of, signed_read, small, value};
 
 use crate::fault::{FieldError, FieldFault};
-use crate::line_cursor::{LineCursor, begins_with, note, skip};
+use crate::line_cursor::LineCursor;
+use crate::line_walk::{begins_with, note, skip};
 use crate::refusal;
 
 /// Whether the byte is a digit.

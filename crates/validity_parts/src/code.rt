@@ -13,7 +13,7 @@ use faulty_part::{FaultyPart, PartFault, Subject};
 use image::RawImage;
 use loader::{CodeCosts, ProcessCost, known_routine, process_due, routine_due};
 use loader_code::PartCost;
-use std::alloc::AllocError;
+use out_of_memory::OutOfMemory;
 
 /// The fault of the routine behind those that are kept, which is declared to start there.
 fn wrong_routine(kept: &[PartCost], start: u32) -> PartFault
@@ -62,7 +62,7 @@ fn uncovered(address: usize) -> PartFault
 }
 
 /// The first routine whose start or code is wrong. Keeps what the code of those before it comes to.
-fn routines_fault(raw: &RawImage, parts: &mut CodeCosts) -> Result<Option<PartFault>, AllocError>
+fn routines_fault(raw: &RawImage, parts: &mut CodeCosts) -> Result<Option<PartFault>, OutOfMemory>
     requires known { parts.old.known ≡ [] }
     requires routines { parts.old.routines ≡ [] }
     requires end { parts.old.end ≡ 0 }
@@ -92,7 +92,7 @@ fn routines_fault(raw: &RawImage, parts: &mut CodeCosts) -> Result<Option<PartFa
 }
 
 /// The first process whose start or code is wrong, likewise.
-fn processes_fault(raw: &RawImage, parts: &mut CodeCosts) -> Result<Option<PartFault>, AllocError>
+fn processes_fault(raw: &RawImage, parts: &mut CodeCosts) -> Result<Option<PartFault>, OutOfMemory>
     requires routines { AreRoutines raw.now parts.old }
     requires processes { parts.old.processes ≡ [] }
     requires due { parts.old.end ≡ due_start (pieces (image_of raw.now)) (length raw.now.routines) }
@@ -125,7 +125,7 @@ fn processes_fault(raw: &RawImage, parts: &mut CodeCosts) -> Result<Option<PartF
 pub fn code_part_fault(
     raw: &RawImage,
     parts: &mut CodeCosts,
-) -> Result<Option<PartFault>, AllocError>
+) -> Result<Option<PartFault>, OutOfMemory>
     requires known { parts.old.known ≡ [] }
     requires routines { parts.old.routines ≡ [] }
     requires processes { parts.old.processes ≡ [] }

@@ -11,7 +11,8 @@ ghost use Rattle.validity_parts.specs.Found.{IsOwner, is_closer};
 use faulty_part::{FaultyPart, PartFault, Subject};
 use image::{RawImage, RawProcess, RawRoutine};
 use loader_code::{FaultNumbers, operand_fault};
-use std::alloc::{AllocError, Global};
+use out_of_memory::OutOfMemory;
+use std::alloc::Global;
 
 /// A piece of code, by its routine or process and its start.
 #[derive(Clone, Copy)]
@@ -88,7 +89,7 @@ fn at_address(raw: &RawImage, fault: FaultNumbers) -> Option<PartFault>
 
 /// The first instruction that breaks a rule, with the routine or process that its address belongs
 /// to; or that memory is short.
-pub fn operand_part_fault(alloc: Global, raw: &RawImage) -> Result<Option<PartFault>, AllocError>
+pub fn operand_part_fault(alloc: Global, raw: &RawImage) -> Result<Option<PartFault>, OutOfMemory>
     requires { length raw.now.processes ≤ 64 }
     ensures { IfOk result (λ found. found ≡ operand_part (image_of raw.now)) }
 {

@@ -19,10 +19,11 @@ use crate::sizes::size_part_fault;
 use faulty_part::{FaultyPart, PartFault, Subject};
 use image::RawImage;
 use loader::{CodeCosts, first_fault, handler_fault, longest_stays, task_set, waits_table};
-use std::alloc::{AllocError, Global};
+use out_of_memory::OutOfMemory;
+use std::alloc::Global;
 
 /// The first process with a wrong handler.
-fn handler_part_fault(alloc: Global, raw: &RawImage) -> Result<Option<PartFault>, AllocError>
+fn handler_part_fault(alloc: Global, raw: &RawImage) -> Result<Option<PartFault>, OutOfMemory>
     ensures { IfOk result (λ found. found ≡ handler_part (image_of raw.now)) }
 {
     let waits = waits_table(alloc, raw)?;
@@ -38,7 +39,7 @@ fn handler_part_fault(alloc: Global, raw: &RawImage) -> Result<Option<PartFault>
 }
 
 /// The first fault of a bound, where ranks, ceilings and blocks have none.
-fn bounds_fault(alloc: Global, raw: &RawImage) -> Result<Option<PartFault>, AllocError>
+fn bounds_fault(alloc: Global, raw: &RawImage) -> Result<Option<PartFault>, OutOfMemory>
     requires limits { HasLimits (image_of raw.now) }
     requires ranks { rank_fault (image_of raw.now) ≡ None }
     ensures { IfOk result (λ found. found ≡ bound_part (image_of raw.now)) }
@@ -48,7 +49,7 @@ fn bounds_fault(alloc: Global, raw: &RawImage) -> Result<Option<PartFault>, Allo
 }
 
 /// The first fault of a rank, a ceiling, a block or a bound.
-fn times_fault(alloc: Global, raw: &RawImage) -> Result<Option<PartFault>, AllocError>
+fn times_fault(alloc: Global, raw: &RawImage) -> Result<Option<PartFault>, OutOfMemory>
     requires { HasRanges raw.now }
     ensures { IfOk result (λ found. found ≡ times_part (image_of raw.now)) }
 {
@@ -76,7 +77,7 @@ fn fault_behind_code(
     alloc: Global,
     raw: &RawImage,
     parts: &CodeCosts,
-) -> Result<Option<PartFault>, AllocError>
+) -> Result<Option<PartFault>, OutOfMemory>
     requires ranges { HasRanges raw.now }
     requires parts { AreParts raw.now parts.now }
     ensures { IfOk result (λ found. found ≡ after_code (image_of raw.now)) }
@@ -91,7 +92,7 @@ fn fault_behind_code(
 }
 
 /// The first fault behind those of operands.
-fn fault_behind_operands(alloc: Global, raw: &RawImage) -> Result<Option<PartFault>, AllocError>
+fn fault_behind_operands(alloc: Global, raw: &RawImage) -> Result<Option<PartFault>, OutOfMemory>
     requires { HasRanges raw.now }
     ensures { IfOk result (λ found. found ≡ after_operands (image_of raw.now)) }
 {
@@ -103,7 +104,7 @@ fn fault_behind_operands(alloc: Global, raw: &RawImage) -> Result<Option<PartFau
 }
 
 /// The first fault of all.
-fn first_part(alloc: Global, raw: &RawImage) -> Result<Option<PartFault>, AllocError>
+fn first_part(alloc: Global, raw: &RawImage) -> Result<Option<PartFault>, OutOfMemory>
     requires { HasRanges raw.now }
     ensures { IfOk result (λ found. found ≡ defined_fault (image_of raw.now)) }
 {
@@ -115,7 +116,7 @@ fn first_part(alloc: Global, raw: &RawImage) -> Result<Option<PartFault>, AllocE
 
 /// The first test that the image fails, in the order of the tests, with its part and its subject;
 /// none exactly where the image is valid; or that memory is short.
-pub fn part_fault(alloc: Global, raw: &RawImage) -> Result<Option<PartFault>, AllocError>
+pub fn part_fault(alloc: Global, raw: &RawImage) -> Result<Option<PartFault>, OutOfMemory>
     requires { HasRanges raw.now }
     ensures { IfOk result (λ found. found ≡ defined_fault (image_of raw.now)) }
 {

@@ -11,9 +11,10 @@ ghost use Rattle.vm_runner.specs.Runnable.{IsRunnable};
 ghost use Rattle.vm_state.specs.Plan.{IsOf};
 
 use crate::traces::{end_all, note_all, see_all, traces_of};
+use out_of_memory::OutOfMemory;
 use run_chart::{Columns, Trace, end_of};
 use script::Script;
-use std::alloc::{AllocError, Global};
+use std::alloc::Global;
 use vm_runner::{Machine, Ranking};
 use vm_state::DecodedImage;
 
@@ -30,7 +31,7 @@ impl Course {
         alloc: Global,
         plan: &DecodedImage,
         script: &Script,
-    ) -> Result<Course, AllocError>
+    ) -> Result<Course, OutOfMemory>
         ghost image: { Image }
         requires plan { IsOf image plan.now }
         requires runnable { IsRunnable image (script_of script.now) }
@@ -125,7 +126,7 @@ impl Course {
         script: &Script,
         first: u64,
         end: u64,
-    ) -> Result<(), AllocError>
+    ) -> Result<(), OutOfMemory>
         ghost drawing: { Drawing }
         requires plan { IsOf drawing.image plan.now }
         requires script { drawing.script ≡ script_of script.now }
@@ -155,7 +156,7 @@ impl Course {
         script: &Script,
         columns: &Columns,
         column: usize,
-    ) -> Result<(), AllocError>
+    ) -> Result<(), OutOfMemory>
         ghost drawing: { Drawing }
         requires plan { IsOf drawing.image plan.now }
         requires script { drawing.script ≡ script_of script.now }
@@ -183,7 +184,7 @@ impl Course {
         plan: &DecodedImage,
         script: &Script,
         columns: &Columns,
-    ) -> Result<(), AllocError>
+    ) -> Result<(), OutOfMemory>
         ghost image: { Image }
         requires plan { IsOf image plan.now }
         requires runnable { IsRunnable image (script_of script.now) }

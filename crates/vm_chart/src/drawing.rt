@@ -11,9 +11,10 @@ ghost use Rattle.vm_state.specs.Plan.{IsOf};
 use crate::course::Course;
 use crate::lines::text_of;
 use image_bytes::ImageBytes;
+use out_of_memory::OutOfMemory;
 use run_chart::{Columns, columns_of};
 use script::Script;
-use std::alloc::{AllocError, Global};
+use std::alloc::Global;
 use syntax_tree::Text;
 use vm_state::DecodedImage;
 
@@ -25,7 +26,7 @@ fn chart_in(
     plan: &DecodedImage,
     script: &Script,
     columns: &Columns,
-) -> Result<Text, AllocError>
+) -> Result<Text, OutOfMemory>
     ghost drawing: { Drawing }
     requires drawing { drawing ≡ record {
       image = image.now.image;
@@ -57,7 +58,7 @@ pub fn chart(
     script: &Script,
     first: u64,
     end: u64,
-) -> Result<Text, AllocError>
+) -> Result<Text, OutOfMemory>
     requires plan { IsOf image.now.image plan.now }
     requires runnable { IsRunnable image.now.image (script_of script.now) }
     requires timely { All IsBeforeLastTick (events image.now.image (script_of script.now)) }

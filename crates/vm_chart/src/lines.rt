@@ -11,8 +11,9 @@ ghost use Rattle.run_chart.specs.Traces.{AreDrawn};
 
 use crate::put::{put_blanks, put_filled, put_number, put_summary};
 use image_bytes::ImageBytes;
+use out_of_memory::OutOfMemory;
 use run_chart::{Columns, Trace, first_tick};
-use std::alloc::{AllocError, Global};
+use std::alloc::Global;
 use syntax_tree::{Name, Text};
 
 /// How long the labels are, and the texts behind them.
@@ -34,7 +35,7 @@ fn label_len(names: &[Name]) -> usize
 }
 
 /// Puts a mark of the scale at its place.
-fn put_mark(text: &mut Text, columns: &Columns, mark: usize) -> Result<(), AllocError>
+fn put_mark(text: &mut Text, columns: &Columns, mark: usize) -> Result<(), OutOfMemory>
     requires few { AreFew columns.now }
     requires mark { 10 * mark < columns.now.count }
     ensures { OnOk result (text.new ≡
@@ -47,7 +48,7 @@ fn put_mark(text: &mut Text, columns: &Columns, mark: usize) -> Result<(), Alloc
 }
 
 /// The scale.
-fn scale(alloc: Global, columns: &Columns) -> Result<Text, AllocError>
+fn scale(alloc: Global, columns: &Columns) -> Result<Text, OutOfMemory>
     requires { AreFew columns.now }
     ensures { IfOk result (λ text. text ≡ scale columns.now) }
 {
@@ -59,7 +60,12 @@ fn scale(alloc: Global, columns: &Columns) -> Result<Text, AllocError>
 }
 
 /// Puts a label and a text, each filled to its length.
-fn put_front(text: &mut Text, lengths: Lengths, label: &[u8], body: &[u8]) -> Result<(), AllocError>
+fn put_front(
+    text: &mut Text,
+    lengths: Lengths,
+    label: &[u8],
+    body: &[u8],
+) -> Result<(), OutOfMemory>
     ensures { OnOk result (text.new ≡ text.old ++ (filled lengths.labels label.now ++
         (codes "  " ++ (filled lengths.texts body.now ++ codes "  ")))) }
 {
@@ -75,7 +81,7 @@ fn put_scale(
     lengths: Lengths,
     columns: &Columns,
     scale: &[u8],
-) -> Result<(), AllocError>
+) -> Result<(), OutOfMemory>
     ensures { OnOk result (text.new ≡ text.old ++ line lengths.labels lengths.texts
         (codes "tick") scale.now (codes "column " ++ decimal columns.now.width)) }
 {
@@ -102,7 +108,7 @@ fn put_trace(
     name: &[u8],
     trace: &Trace,
     bound: u32,
-) -> Result<(), AllocError>
+) -> Result<(), OutOfMemory>
     ensures { OnOk result (text.new ≡ text.old ++ line lengths.labels lengths.texts
         name.now trace.now.row (summary trace.now.ended trace.now.longest bound)) }
 {
@@ -119,7 +125,7 @@ fn put_process(
     columns: &Columns,
     traces: &[Trace],
     number: u16,
-) -> Result<(), AllocError>
+) -> Result<(), OutOfMemory>
     ghost script: { Lines }
     requires lengths { AreLengths image.now.names columns.now lengths }
     requires drawn { AreDrawn image.now.image script columns.now traces.now }
@@ -147,7 +153,7 @@ fn put_if(
     traces: &[Trace],
     rank: usize,
     number: u16,
-) -> Result<(), AllocError>
+) -> Result<(), OutOfMemory>
     ghost script: { Lines }
     requires lengths { AreLengths image.now.names columns.now lengths }
     requires drawn { AreDrawn image.now.image script columns.now traces.now }
@@ -170,7 +176,7 @@ fn put_rank(
     columns: &Columns,
     traces: &[Trace],
     rank: usize,
-) -> Result<(), AllocError>
+) -> Result<(), OutOfMemory>
     ghost script: { Lines }
     requires lengths { AreLengths image.now.names columns.now lengths }
     requires drawn { AreDrawn image.now.image script columns.now traces.now }
@@ -191,7 +197,7 @@ fn put_ranks(
     image: &ImageBytes,
     columns: &Columns,
     traces: &[Trace],
-) -> Result<(), AllocError>
+) -> Result<(), OutOfMemory>
     ghost script: { Lines }
     requires lengths { AreLengths image.now.names columns.now lengths }
     requires drawn { AreDrawn image.now.image script columns.now traces.now }
@@ -213,7 +219,7 @@ pub(crate) fn text_of(
     image: &ImageBytes,
     columns: &Columns,
     traces: &[Trace],
-) -> Result<Text, AllocError>
+) -> Result<Text, OutOfMemory>
     ghost script: { Lines }
     requires columns { AreFew columns.now }
     requires drawn { AreDrawn image.now.image script columns.now traces.now }

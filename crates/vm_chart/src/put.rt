@@ -4,11 +4,11 @@ ghost use Rattle.std.specs.Prelude.{◌≡◌, ◌++◌, OnOk, codes, decimal, r
 ghost use Rattle.run_chart.specs.Chart.{filled, longest_text, summary};
 
 use itoa::Buffer;
-use std::alloc::AllocError;
+use out_of_memory::OutOfMemory;
 use syntax_tree::Text;
 
 /// Puts so many blanks.
-pub(crate) fn put_blanks(text: &mut Text, count: usize) -> Result<(), AllocError>
+pub(crate) fn put_blanks(text: &mut Text, count: usize) -> Result<(), OutOfMemory>
     ensures { OnOk result (text.new ≡ text.old ++ replicate count 32) }
 {
     for _blank in 0..count {
@@ -18,7 +18,7 @@ pub(crate) fn put_blanks(text: &mut Text, count: usize) -> Result<(), AllocError
 }
 
 /// Puts bytes, filled with blanks to a length.
-pub(crate) fn put_filled(text: &mut Text, bytes: &[u8], len: usize) -> Result<(), AllocError>
+pub(crate) fn put_filled(text: &mut Text, bytes: &[u8], len: usize) -> Result<(), OutOfMemory>
     ensures { OnOk result (text.new ≡ text.old ++ filled len bytes.now) }
 {
     text.extend(bytes)?;
@@ -26,7 +26,7 @@ pub(crate) fn put_filled(text: &mut Text, bytes: &[u8], len: usize) -> Result<()
 }
 
 /// Puts a number.
-pub(crate) fn put_number(text: &mut Text, number: u64) -> Result<(), AllocError>
+pub(crate) fn put_number(text: &mut Text, number: u64) -> Result<(), OutOfMemory>
     ensures { OnOk result (text.new ≡ text.old ++ decimal number) }
 {
     let mut digits = Buffer::new();
@@ -34,7 +34,7 @@ pub(crate) fn put_number(text: &mut Text, number: u64) -> Result<(), AllocError>
 }
 
 /// Puts the longest response, if there is one.
-fn put_longest(text: &mut Text, longest: Option<u64>) -> Result<(), AllocError>
+fn put_longest(text: &mut Text, longest: Option<u64>) -> Result<(), OutOfMemory>
     ensures { OnOk result (text.new ≡ text.old ++ longest_text longest) }
 {
     match longest {
@@ -49,7 +49,7 @@ pub(crate) fn put_summary(
     ended: u64,
     longest: Option<u64>,
     bound: u32,
-) -> Result<(), AllocError>
+) -> Result<(), OutOfMemory>
     ensures { OnOk result (text.new ≡ text.old ++ summary ended longest bound) }
 {
     text.extend(b"ended ")?;

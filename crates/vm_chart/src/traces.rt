@@ -12,13 +12,14 @@ ghost use Rattle.vm_stretch.specs.RowLaws.{begun};
 
 use crate::letters::letter_on;
 use base::Event;
+use out_of_memory::OutOfMemory;
 use run_chart::Trace;
-use std::alloc::{AllocError, Global};
+use std::alloc::Global;
 use vm_state::{DecodedImage, MachineState};
 use vm_turn::choose;
 
 /// What is kept of so many processes before the first tick; an error says that memory is short.
-pub(crate) fn traces_of(alloc: Global, processes: usize) -> Result<Vec<Trace>, AllocError>
+pub(crate) fn traces_of(alloc: Global, processes: usize) -> Result<Vec<Trace>, OutOfMemory>
     ensures count { IfOk result (λ traces. length traces.items ≡ processes) }
     ensures fresh { IfOk result (λ traces. All IsFresh traces.items) }
 {
@@ -114,7 +115,7 @@ pub(crate) fn see_all(traces: &mut Vec<Trace>, plan: &DecodedImage, board: &Mach
 }
 
 /// The column is over for all processes; an error says that memory is short.
-pub(crate) fn end_all(traces: &mut Vec<Trace>) -> Result<(), AllocError>
+pub(crate) fn end_all(traces: &mut Vec<Trace>) -> Result<(), OutOfMemory>
     ghost drawing: { Drawing }
     requires columns { AreColumns drawing.columns }
     requires column { drawing.column < drawing.columns.count }

@@ -1,6 +1,6 @@
 -- Rows of operands and of locals, of which each frame has a part.
-use Rattle.std.proofs.Common.{Option, Some, None, inl, inr, append_assoc, ◌≡◌, ◌≤◌, ◌<◌, ◌+◌, ◌-◌, ◌*◌, ◌++◌, ℕ, zero, suc, List, [], ◌∷◌, length, reverse, map, take, drop, set, get_or, min, arith, refl, ap, sym, subst, ◌∙◌}
-use Rattle.std.specs.Prelude.{ℤ, pos, slice_get, slice_set, IsSome, IfSome}
+use Rattle.std.proofs.Common.{Option, Some, None, inl, inr, append_assoc, ◌≡◌, ◌≤◌, ◌<◌, ◌+◌, ◌-◌, ◌*◌, ◌++◌, ℕ, zero, suc, List, [], ◌∷◌, length, reverse, map, take, drop, set, get_or, arith, refl, ap, sym, subst, ◌∙◌}
+use Rattle.std.specs.Prelude.{ℤ, pos, IsSome, IfSome}
 use Rattle.std.proofs.Math.Seq.{take-set-lt}
 use Rattle.std.proofs.Math.ListN.{drop_of_length-le}
 use Rattle.std.proofs.lemmas.Bool.{cases_lt}

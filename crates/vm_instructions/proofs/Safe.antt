@@ -1,14 +1,17 @@
 -- What an instruction that is not stuck finds.
-use Rattle.std.proofs.Common.{◌≡◌, ◌≤◌, ◌<◌, ◌+◌, ◌-◌, ◌++◌, ℕ, zero, suc, List, [], ◌∷◌, Bool, true, false, Option, Some, None, length, refl, ap, sym, subst, ◌∙◌, arith}
+use Rattle.std.proofs.Common.{◌≡◌, ◌≤◌, ◌<◌, ◌+◌, ◌-◌, ℕ, zero, suc, List, [], ◌∷◌, Bool, true, false, Option, Some, None, length, reverse, take, refl, ap, sym, subst, ◌∙◌, arith}
 use Rattle.std.specs.Prelude.{unsigned_abs, ℤ, pos, negsuc, ◌+ℤ◌, ◌-ℤ◌, cond, slice_get, IsSome}
 use Rattle.std.proofs.lemmas.Option.{slice_get_within}
-use Rattle.std.proofs.lemmas.List.{length-append}
+use Rattle.std.proofs.lemmas.List.{length-append, length-map, length-reverse, length-take}
 use Rattle.machine_isa.specs.declared.instr.Instr.{Instr}
 use Rattle.machine_isa.specs.declared.instr.Instr.TheVariants as i
 use Rattle.machine_semantics.specs.Image.{Image, Routine}
-use Rattle.machine_semantics.specs.State.{Caller, Operand, Value, Counter, State, stack_of, zeros, stack_below}
-use Rattle.machine_semantics.specs.Effect.{Own, Outcome, Goes, Raises, Stuck, effect, load, store, word_at, take_one, one, element, set_own, set_local, set_shared, load_mon, store_mon, holding, is_reached, arguments, called, call, routine}
-use Rattle.vm_instructions.specs.Frames.{Frames, used}
+use Rattle.machine_semantics.specs.State.{Job, Caller, Operand, Value, Counter, zeros, stack_below}
+use Rattle.machine_semantics.specs.Effect.{Own, Outcome, Raises, Stuck, effect, load, store, word_at, take_one, one, element, set_own, set_local, set_shared, load_mon, store_mon, holding, count_from, give, back, is_reached, arguments, called, call}
+use Rattle.vm_instructions.specs.Frames.{IsValueFirst, operand_of, used}
+use Rattle.vm_instructions.specs.Stack.{Fits, own_in, stacked}
+use Rattle.vm_instructions.specs.declared.cursor.Cursor.{Cursor}
+use Rattle.vm_instructions.specs.declared.operand.Operand.{Operand as Row}
 use Rattle.vm_instructions.specs.declared.calls.RoutineHeader.{RoutineHeader as Called}
 use Rattle.vm_instructions.specs.Steps.{HasRoutine, HasWord, IsRoutine, ReachesFirst, ReachesLast, ReachesMonFirst, ReachesMonLast, is_inside_array}
 use Rattle.vm_stretch.specs.Silent.{IsWithin, is_silent, nowhere}
@@ -86,43 +89,68 @@ mon_first_of image room os o w low len go there safe =
     subst (λ (xs : List Operand). ReachesMonFirst image o.job.inside w low len xs) (sym is)
     (λ inside. there (w +ℤ (b.x -ℤ low)) a.x b.rest (inside_if (is_inside_array low len b.x) room (go (w +ℤ (b.x -ℤ low)) a.x (holding b.rest (holding a.rest o))) b.safe inside))
 
--- ---- by instruction, for the activation that code has
+-- ---- by instruction, where the innermost frame is at hand
 
-module _ (image : Image) (given : Instr) (job : Kept) (owned shared : List ℤ) where
+-- one operand more has a place in the row
+has_place : (room top : ℕ) (j : Job) (stack : List Row) (locals : List ℤ) → Fits room j top stack locals → length locals + suc (length (stacked top stack)) + stack_below j.callers ≤ room → top < length stack
+has_place room top j stack locals fits more = omega (arith, fits.0, fits.1, more, length-map (reverse (take top stack)) operand_of, length-reverse (take top stack), length-take top stack)
+
+gives_place : (room top : ℕ) (j : Job) (at : Cursor) (stack : List Row) (locals owned shared : List ℤ) (x : Option ℤ) → Fits room j at.top stack locals → IsWithin room (load x (own_in j at stack locals owned shared)) → at.top < length stack
+gives_place room top j at stack locals owned shared (Some z) fits safe = has_place room at.top j stack locals fits safe
+gives_place room top j at stack locals owned shared None fits safe = absurd safe
+
+counts_place : (room top : ℕ) (j : Job) (at : Cursor) (stack : List Row) (locals owned shared : List ℤ) (turns : ℤ) → Fits room j at.top stack locals → IsWithin room (count_from turns (own_in j at stack locals owned shared)) → at.top < length stack
+counts_place room top j at stack locals owned shared (pos n) fits safe = has_place room at.top j stack locals fits safe
+counts_place room top j at stack locals owned shared (negsuc n) fits safe = absurd safe
+
+module _ (image : Image) (given : Instr) (j : Job) (at : Cursor) (stack : List Row) (locals owned shared : List ℤ) (room : ℕ) where
   abbrev o : Own
-  o = own_of job owned shared
+  o = own_in j at stack locals owned shared
 
-  abbrev room : ℕ
-  room = job.frames.room
+  pub push_place : (z : ℤ) → given ≡ i.Push z → IsSafe image given o room → Fits room j at.top stack locals → at.top < length stack
+  push_place z is safe fits = has_place room at.top j stack locals fits (safe_at image given (i.Push z) o room is refl safe)
 
-  pub load_local_at : (w low len : ℤ) → given ≡ i.LoadLocalAt w low len → IsSafe image given o room → ReachesLast job.frames.locals w low len job.frames.operands
+  pub load_local_place : (w : ℤ) → given ≡ i.LoadLocal w → IsSafe image given o room → Fits room j at.top stack locals → at.top < length stack
+  load_local_place w is safe fits = gives_place room at.top j at stack locals owned shared (word_at locals w) fits (safe_at image given (i.LoadLocal w) o room is refl safe)
+
+  pub load_own_place : (w : ℤ) → given ≡ i.LoadOwn w → IsSafe image given o room → Fits room j at.top stack locals → at.top < length stack
+  load_own_place w is safe fits = gives_place room at.top j at stack locals owned shared (word_at owned w) fits (safe_at image given (i.LoadOwn w) o room is refl safe)
+
+  pub load_mon_place : (w : ℤ) → given ≡ i.LoadMon w → IsSafe image given o room → Fits room j at.top stack locals → at.top < length stack
+  load_mon_place w is safe fits =
+      gives_place room at.top j at stack locals owned shared (word_at shared w) fits (unstuck_if (is_reached image o.job.inside w) room (load (word_at shared w) o) (safe_at image given (i.LoadMon w) o room is refl safe)).1
+
+  pub repeats_place : (turns : ℤ) → given ≡ i.Repeats turns → IsSafe image given o room → Fits room j at.top stack locals → at.top < length stack
+  repeats_place turns is safe fits = counts_place room at.top j at stack locals owned shared turns fits (safe_at image given (i.Repeats turns) o room is refl safe)
+
+  pub load_local_at : (w low len : ℤ) → given ≡ i.LoadLocalAt w low len → IsSafe image given o room → ReachesLast locals w low len (stacked at.top stack)
   load_local_at w low len is safe =
-      last_of job.frames.locals room job.frames.operands o w low len (λ e p. load (word_at p.job.locals e) p) (λ e rest h. has_load job.frames.locals e room (holding rest o) h) (safe_at image given (i.LoadLocalAt w low len) o room is refl safe)
+      last_of locals room (stacked at.top stack) o w low len (λ e p. load (word_at p.job.locals e) p) (λ e rest h. has_load locals e room (holding rest o) h) (safe_at image given (i.LoadLocalAt w low len) o room is refl safe)
 
-  pub store_local_at : (w low len : ℤ) → given ≡ i.StoreLocalAt w low len → IsSafe image given o room → ReachesFirst job.frames.locals w low len job.frames.operands
+  pub store_local_at : (w low len : ℤ) → given ≡ i.StoreLocalAt w low len → IsSafe image given o room → ReachesFirst locals w low len (stacked at.top stack)
   store_local_at w low len is safe =
-      first_of job.frames.locals room job.frames.operands o w low len (λ e y p. store (word_at p.job.locals e) (set_local e y p)) (λ e y rest h. has_store job.frames.locals e room (set_local e y (holding rest o)) h) (safe_at image given (i.StoreLocalAt w low len) o room is refl safe)
+      first_of locals room (stacked at.top stack) o w low len (λ e y p. store (word_at p.job.locals e) (set_local e y p)) (λ e y rest h. has_store locals e room (set_local e y (holding rest o)) h) (safe_at image given (i.StoreLocalAt w low len) o room is refl safe)
 
-  pub load_own_at : (w low len : ℤ) → given ≡ i.LoadOwnAt w low len → IsSafe image given o room → ReachesLast owned w low len job.frames.operands
+  pub load_own_at : (w low len : ℤ) → given ≡ i.LoadOwnAt w low len → IsSafe image given o room → ReachesLast owned w low len (stacked at.top stack)
   load_own_at w low len is safe =
-      last_of owned room job.frames.operands o w low len (λ e p. load (word_at p.owned e) p) (λ e rest h. has_load owned e room (holding rest o) h) (safe_at image given (i.LoadOwnAt w low len) o room is refl safe)
+      last_of owned room (stacked at.top stack) o w low len (λ e p. load (word_at p.owned e) p) (λ e rest h. has_load owned e room (holding rest o) h) (safe_at image given (i.LoadOwnAt w low len) o room is refl safe)
 
-  pub store_own_at : (w low len : ℤ) → given ≡ i.StoreOwnAt w low len → IsSafe image given o room → ReachesFirst owned w low len job.frames.operands
+  pub store_own_at : (w low len : ℤ) → given ≡ i.StoreOwnAt w low len → IsSafe image given o room → ReachesFirst owned w low len (stacked at.top stack)
   store_own_at w low len is safe =
-      first_of owned room job.frames.operands o w low len (λ e y p. store (word_at p.owned e) (set_own e y p)) (λ e y rest h. has_store owned e room (set_own e y (holding rest o)) h) (safe_at image given (i.StoreOwnAt w low len) o room is refl safe)
+      first_of owned room (stacked at.top stack) o w low len (λ e y p. store (word_at p.owned e) (set_own e y p)) (λ e y rest h. has_store owned e room (set_own e y (holding rest o)) h) (safe_at image given (i.StoreOwnAt w low len) o room is refl safe)
 
-  pub load_mon_at : (w low len : ℤ) → given ≡ i.LoadMonAt w low len → IsSafe image given o room → ReachesLast shared w low len job.frames.operands × ReachesMonLast image o.job.inside w low len job.frames.operands
+  pub load_mon_at : (w low len : ℤ) → given ≡ i.LoadMonAt w low len → IsSafe image given o room → ReachesLast shared w low len (stacked at.top stack) × ReachesMonLast image o.job.inside w low len (stacked at.top stack)
   load_mon_at w low len is safe =
       let h = safe_at image given (i.LoadMonAt w low len) o room is refl safe in (
-        last_of shared room job.frames.operands o w low len (λ e p. load_mon image e p) (λ e rest k. has_load shared e room (holding rest o) (unstuck_if (is_reached image o.job.inside e) room (load (word_at shared e) (holding rest o)) k).1) h,
-        mon_last_of image room job.frames.operands o w low len (λ e p. load_mon image e p) (λ e rest k. (unstuck_if (is_reached image o.job.inside e) room (load (word_at shared e) (holding rest o)) k).0) h,
+        last_of shared room (stacked at.top stack) o w low len (λ e p. load_mon image e p) (λ e rest k. has_load shared e room (holding rest o) (unstuck_if (is_reached image o.job.inside e) room (load (word_at shared e) (holding rest o)) k).1) h,
+        mon_last_of image room (stacked at.top stack) o w low len (λ e p. load_mon image e p) (λ e rest k. (unstuck_if (is_reached image o.job.inside e) room (load (word_at shared e) (holding rest o)) k).0) h,
       )
 
-  pub store_mon_at : (w low len : ℤ) → given ≡ i.StoreMonAt w low len → IsSafe image given o room → ReachesFirst shared w low len job.frames.operands × ReachesMonFirst image o.job.inside w low len job.frames.operands
+  pub store_mon_at : (w low len : ℤ) → given ≡ i.StoreMonAt w low len → IsSafe image given o room → ReachesFirst shared w low len (stacked at.top stack) × ReachesMonFirst image o.job.inside w low len (stacked at.top stack)
   store_mon_at w low len is safe =
       let h = safe_at image given (i.StoreMonAt w low len) o room is refl safe in (
-        first_of shared room job.frames.operands o w low len (λ e y p. store_mon image e y p) (λ e y rest k. has_store shared e room (set_shared e y (holding rest o)) (unstuck_if (is_reached image o.job.inside e) room (store (word_at shared e) (set_shared e y (holding rest o))) k).1) h,
-        mon_first_of image room job.frames.operands o w low len (λ e y p. store_mon image e y p) (λ e y rest k. (unstuck_if (is_reached image o.job.inside e) room (store (word_at shared e) (set_shared e y (holding rest o))) k).0) h,
+        first_of shared room (stacked at.top stack) o w low len (λ e y p. store_mon image e y p) (λ e y rest k. has_store shared e room (set_shared e y (holding rest o)) (unstuck_if (is_reached image o.job.inside e) room (store (word_at shared e) (set_shared e y (holding rest o))) k).1) h,
+        mon_first_of image room (stacked at.top stack) o w low len (λ e y p. store_mon image e y p) (λ e y rest k. (unstuck_if (is_reached image o.job.inside e) room (store (word_at shared e) (set_shared e y (holding rest o))) k).0) h,
       )
 
   pub load_mon_reached : (w : ℤ) → given ≡ i.LoadMon w → IsSafe image given o room → is_reached image o.job.inside w ≡ true
@@ -130,7 +158,7 @@ module _ (image : Image) (given : Instr) (job : Kept) (owned shared : List ℤ) 
 
   pub store_mon_reached : (w : ℤ) → given ≡ i.StoreMon w → IsSafe image given o room → is_reached image o.job.inside w ≡ true
   store_mon_reached w is safe =
-      let a = one_of room job.frames.operands o (λ x p. store_mon image w x p) (safe_at image given (i.StoreMon w) o room is refl safe) in
+      let a = one_of room (stacked at.top stack) o (λ x p. store_mon image w x p) (safe_at image given (i.StoreMon w) o room is refl safe) in
       (unstuck_if (is_reached image o.job.inside w) room (store (word_at shared w) (set_shared w a.x (holding a.rest o))) a.safe).0
 
 -- ---- calls
@@ -195,3 +223,17 @@ found image routines number job r calls at =
     let same : calls.r ≡ r = cc (calls.there, at_n) in
     let f : Found image number calls.r job = record { known = calls.known; order = calls.order; taken = calls.taken; room = calls.room } in
     subst (λ (x : Called). Found image number x job) same f
+
+-- ---- back to the caller
+
+has_caller : (room : ℕ) (cs : List Caller) (o : Own) (go : Own → Own) → IsWithin room (back cs o go) → 0 < length cs
+has_caller room [] o go safe = absurd safe
+has_caller room (c ∷ cs) o go safe = omega arith
+
+pub ret_called : (image : Image) (o : Own) (room : ℕ) → IsSafe image i.Return o room → 0 < length o.job.callers
+ret_called image o room safe = has_caller room o.job.callers o (λ p. p) (safe refl)
+
+pub ret_value_found : (image : Image) (o : Own) (room : ℕ) → IsSafe image i.ReturnValue o room → IsValueFirst o.job.operands × (0 < length o.job.callers)
+ret_value_found image o room safe =
+    let a = one_of room o.job.operands o (λ x p. back p.job.callers p (give x)) (safe refl) in
+    (subst (λ (os : List Operand). IsValueFirst os) (sym a.is) tt, has_caller room o.job.callers (holding a.rest o) (give a.x) a.safe)

@@ -1,5 +1,5 @@
 -- The frames of a process.
-use Rattle.std.specs.Prelude.{◌+◌, ◌*◌, ◌++◌, ℕ, ℤ, pos, List, [], ◌∷◌, length}
+use Rattle.std.specs.Prelude.{◌+◌, ◌++◌, ℕ, ℤ, pos, List, [], ◌∷◌, length}
 use Rattle.machine_semantics.specs.State.{Operand, Value, Counter, Caller, stack_below, zeros}
 use Rattle.vm_instructions.specs.declared.operand.Operand.{Operand as Kept}
 use Rattle.vm_instructions.specs.declared.operand.Operand.TheVariants as kept

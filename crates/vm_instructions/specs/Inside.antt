@@ -1,5 +1,5 @@
 -- Frames as code keeps them.
-use Rattle.std.specs.Prelude.{◌≡◌, ◌≤◌, ◌+◌, ◌-◌, ◌*◌, ℕ, ℤ, List, [], ◌∷◌, length, reverse, map, take, drop, vec_capacity}
+use Rattle.std.specs.Prelude.{◌≡◌, ◌≤◌, ◌+◌, ◌*◌, ℕ, ℤ, List, [], ◌∷◌, length, reverse, map, take, drop, vec_capacity}
 use Rattle.machine_semantics.specs.State.{Operand, Caller}
 use Rattle.vm_instructions.specs.declared.operand.Operand.{Operand as Kept}
 use Rattle.vm_instructions.specs.declared.frames.Mark.{Mark}

@@ -3,7 +3,7 @@ use Rattle.std.specs.Prelude.{◌≡◌, ◌≤◌, ◌*◌, ℕ, ℤ, true, fal
 use Rattle.machine_isa.specs.declared.instr.Instr.{Instr}
 use Rattle.machine_semantics.specs.Image.{Image, Process, Routine, end_of}
 use Rattle.machine_semantics.specs.State.{Job, State}
-use Rattle.machine_semantics.specs.Effect.{Own, Outcome, Goes, Raises, effect}
+use Rattle.machine_semantics.specs.Effect.{Own, Goes, Raises, effect}
 use Rattle.machine_semantics.specs.Starts.{raised, released}
 use Rattle.vm_instructions.specs.declared.calls.RoutineHeader.{RoutineHeader as Called}
 use Rattle.vm_instructions.specs.declared.step_result.StepResult.{StepResult}

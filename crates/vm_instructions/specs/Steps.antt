@@ -4,12 +4,14 @@ use Rattle.machine_isa.specs.declared.instr.Instr.{Instr}
 use Rattle.machine_isa.specs.declared.instr.Instr.TheVariants as i
 use Rattle.machine_semantics.specs.Image.{Image, Routine}
 use Rattle.vm_instructions.specs.declared.calls.RoutineHeader.{RoutineHeader as Called}
-use Rattle.machine_semantics.specs.State.{Operand, Value, Counter, Job, State}
+use Rattle.machine_semantics.specs.State.{Operand, Value, Counter, State}
 use Rattle.base.specs.Words.{is_zero}
-use Rattle.machine_semantics.specs.Effect.{Own, Outcome, Goes, Raises, Stuck, effect, is_reached, routine}
-use Rattle.vm_instructions.specs.Frames.{Frames, IsCounterFirst, with_operands}
+use Rattle.machine_semantics.specs.Effect.{Own, Outcome, Goes, Raises, Stuck, effect, holding, is_reached, routine}
+use Rattle.vm_instructions.specs.Frames.{Frames, IsCounterFirst}
 use Rattle.vm_instructions.specs.declared.step_result.StepResult.{StepResult}
 use Rattle.vm_instructions.specs.declared.step_result.StepResult.TheVariants as came
+use Rattle.vm_instructions.specs.declared.within.Within.{Within}
+use Rattle.vm_instructions.specs.declared.within.Within.TheVariants as within
 
 -- with these frames
 abbrev pub with_frames : Frames → Own → Own
@@ -21,9 +23,21 @@ comes_to came.Done o = Goes o
 comes_to (came.Raises number) o = Raises number
 comes_to came.Seen o = Stuck
 
--- the effect of the instruction on these frames, whatever else the process has, is this
-abbrev pub Does : Instr → Frames → StepResult → Frames → Type 0
-Does instr old result new = (image : Image) (s : State) (o : Own) → effect image s instr (with_frames old o) ≡ comes_to result (with_frames new o)
+-- the outcome that leaves this, within a frame
+abbrev pub leaves : Within → Own → Outcome
+leaves within.Done o = Goes o
+leaves (within.Raises number) o = Raises number
+leaves _ o = Stuck
+
+-- the effect of the instruction on these operands, whatever else the process has, is this
+abbrev pub Does : Instr → List Operand → Within → List Operand → Type 0
+Does instr old result new = (image : Image) (s : State) (o : Own) → effect image s instr (holding old o) ≡ leaves result (holding new o)
+
+-- it is done, or an exception is raised
+abbrev pub Acts : Within → Type 0
+Acts within.Done = Unit {0}
+Acts (within.Raises n) = Unit {0}
+Acts _ = ⊥
 
 -- what the instruction keeps of the frames where it raises; and what the stack has room for
 abbrev pub Keeps : StepResult → Frames → Frames → Type 0
@@ -32,15 +46,14 @@ Keeps (came.Raises n) old new = (new.room ≡ old.room) × (new.locals ≡ old.l
 Keeps came.Seen old new = ⊥
 
 -- no word is changed where the instruction raises
-abbrev pub KeepsWords : StepResult → List ℤ → List ℤ → Type 0
-KeepsWords came.Done old new = Unit {0}
-KeepsWords (came.Raises n) old new = new ≡ old
-KeepsWords came.Seen old new = ⊥
+abbrev pub KeepsWords : Within → List ℤ → List ℤ → Type 0
+KeepsWords (within.Raises n) old new = new ≡ old
+KeepsWords _ old new = Unit {0}
 
 -- the number is given, or the exception raised
-abbrev pub Answers : Result ℤ ℕ → Frames → StepResult → Frames → Type 0
-Answers (Ok z) old result new = (result ≡ came.Done) × (new ≡ with_operands (Value z ∷ old.operands) old)
-Answers (Err n) old result new = (result ≡ came.Raises n) × (new ≡ old)
+abbrev pub Answers : Result ℤ ℕ → List Operand → Within → List Operand → Type 0
+Answers (Ok z) old result new = (result ≡ within.Done) × (new ≡ Value z ∷ old)
+Answers (Err n) old result new = (result ≡ within.Raises n) × (new ≡ old)
 
 -- there is a word with this number
 abbrev pub HasWord : List ℤ → ℤ → Type 0
@@ -55,16 +68,25 @@ with_owned words o = record o { owned = words }
 abbrev pub with_shared : List ℤ → Own → Own
 with_shared words o = record o { shared = words }
 
--- the effect on these frames and these words of the process
-abbrev pub DoesOwned : Instr → Frames → List ℤ → StepResult → Frames → List ℤ → Type 0
-DoesOwned instr old words result new words_new =
-    (image : Image) (s : State) (o : Own) → effect image s instr (with_owned words (with_frames old o)) ≡ comes_to result (with_owned words_new (with_frames new o))
+-- with these locals
+abbrev pub with_locals : List ℤ → Own → Own
+with_locals words o = record o { job = record (o.job) { locals = words } }
 
--- the effect on these frames and these words of monitors, where the process is inside the monitor
+-- the effect on these operands and these locals
+abbrev pub DoesLocal : Instr → List Operand → List ℤ → Within → List Operand → List ℤ → Type 0
+DoesLocal instr old words result new words_new =
+    (image : Image) (s : State) (o : Own) → effect image s instr (with_locals words (holding old o)) ≡ leaves result (with_locals words_new (holding new o))
+
+-- the effect on these operands and these words of the process
+abbrev pub DoesOwned : Instr → List Operand → List ℤ → Within → List Operand → List ℤ → Type 0
+DoesOwned instr old words result new words_new =
+    (image : Image) (s : State) (o : Own) → effect image s instr (with_owned words (holding old o)) ≡ leaves result (with_owned words_new (holding new o))
+
+-- the effect on these operands and these words of monitors, where the process is inside the monitor
 -- of the word
-abbrev pub DoesShared : ℤ → Instr → Frames → List ℤ → StepResult → Frames → List ℤ → Type 0
+abbrev pub DoesShared : ℤ → Instr → List Operand → List ℤ → Within → List Operand → List ℤ → Type 0
 DoesShared w instr old words result new words_new =
-    (image : Image) (s : State) (o : Own) → is_reached image o.job.inside w ≡ true → effect image s instr (with_shared words (with_frames old o)) ≡ comes_to result (with_shared words_new (with_frames new o))
+    (image : Image) (s : State) (o : Own) → is_reached image o.job.inside w ≡ true → effect image s instr (with_shared words (holding old o)) ≡ leaves result (with_shared words_new (holding new o))
 
 -- the index is inside
 abbrev pub is_inside_array : ℤ → ℤ → ℤ → Bool
@@ -161,12 +183,17 @@ abbrev pub ReachesMonFirst : Image → Option ℕ → ℤ → ℤ → ℤ → Li
 ReachesMonFirst image inside w low len (Value y ∷ Value x ∷ rest) = ReachesMon image inside w low len x
 ReachesMonFirst image inside w low len _ = ⊥
 
--- the effect on these frames and these words of monitors, where the process is inside the monitor
+-- the effect on these operands and these words of monitors, where the process is inside the monitor
 -- of the element
-abbrev pub LoadsShared : ℤ → ℤ → ℤ → Frames → List ℤ → StepResult → Frames → Type 0
+abbrev pub LoadsShared : ℤ → ℤ → ℤ → List Operand → List ℤ → Within → List Operand → Type 0
 LoadsShared w low len old words result new =
-    (image : Image) (s : State) (o : Own) → ReachesMonLast image o.job.inside w low len old.operands → effect image s (i.LoadMonAt w low len) (with_shared words (with_frames old o)) ≡ comes_to result (with_shared words (with_frames new o))
+    (image : Image) (s : State) (o : Own) → ReachesMonLast image o.job.inside w low len old → effect image s (i.LoadMonAt w low len) (with_shared words (holding old o)) ≡ leaves result (with_shared words (holding new o))
 
-abbrev pub StoresShared : ℤ → ℤ → ℤ → Frames → List ℤ → StepResult → Frames → List ℤ → Type 0
+abbrev pub StoresShared : ℤ → ℤ → ℤ → List Operand → List ℤ → Within → List Operand → List ℤ → Type 0
 StoresShared w low len old words result new words_new =
-    (image : Image) (s : State) (o : Own) → ReachesMonFirst image o.job.inside w low len old.operands → effect image s (i.StoreMonAt w low len) (with_shared words (with_frames old o)) ≡ comes_to result (with_shared words_new (with_frames new o))
+    (image : Image) (s : State) (o : Own) → ReachesMonFirst image o.job.inside w low len old → effect image s (i.StoreMonAt w low len) (with_shared words (holding old o)) ≡ leaves result (with_shared words_new (holding new o))
+
+-- the effect on these operands at this place
+abbrev pub DoesTo : Instr → List Operand → ℕ → Within → List Operand → ℕ → Type 0
+DoesTo instr old place result new place_new =
+    (image : Image) (s : State) (o : Own) → effect image s instr (at_place place (holding old o)) ≡ leaves result (at_place place_new (holding new o))

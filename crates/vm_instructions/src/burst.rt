@@ -1,17 +1,18 @@
 //! A row of instructions.
 
-ghost use Rattle.std.specs.Prelude.{◌≡◌, ◌<◌, ◌-◌, length, slice_get, Some};
-ghost use Rattle.machine_isa.specs.Ticks.{ticks as ticks_of};
+ghost use Rattle.std.specs.Prelude.{◌≡◌};
 ghost use Rattle.vm_instructions.specs.Rows.{Runs};
 ghost use Rattle.vm_instructions.specs.Silent.{IsOf, own_of};
 ghost use Rattle.vm_stretch.specs.Silent.{IsSafeFor};
 ghost use Rattle.machine_semantics.specs.Image.{Image};
 
-use crate::StepResult;
 use crate::activation::Activation;
 use crate::calls::RoutineHeader;
-use crate::step::step_in_row;
-use machine_isa::{Instr, ticks};
+use crate::innermost::run_innermost;
+use crate::step::go_beyond;
+use crate::step_result::StepResult;
+use crate::within::Within;
+use machine_isa::Instr;
 
 /// Why a row of instructions ended.
 #[derive(Clone, Copy)]
@@ -22,24 +23,6 @@ pub enum Halt {
     Raises { left: u64, number: u16 },
     /// The ticks of an instruction that others see have passed, and it is still to be done.
     Sees { left: u64 },
-}
-
-/// The instruction at an address.
-#[inline(always)]
-fn fetch(code: &[Instr], place: usize) -> Instr
-    requires { place < length code.now }
-    ensures { slice_get code.now place ≡ Some result }
-{
-    code[place]
-}
-
-/// How many ticks are left of an instruction.
-#[inline(always)]
-fn left_of(instr: &Instr, done: u32) -> u64
-    requires { done < ticks_of instr.now }
-    ensures { result ≡ ticks_of instr.now - done }
-{
-    u64::from(ticks(instr) - done)
 }
 
 /// Runs a process, which has no ticks to burn, for so many ticks, up to an instruction that others
@@ -61,21 +44,15 @@ pub fn run(
     ensures room { job.new.frames.room ≡ job.old.frames.room }
 {
     let mut left = budget;
-    while left > 0 {
-        let instr = fetch(code, job.place);
-        let need = left_of(&instr, job.done);
-        if need > left {
-            job.done += left as u32;
+    loop {
+        let came = run_innermost(code, job, owned, shared, &mut left);
+        if let Within::Done = came {
             return Halt::Spent;
         }
-        left -= need;
-        job.done = 0;
-        job.place += 1;
-        match step_in_row(code, routines, job, owned, shared, instr) {
+        match go_beyond(routines, job, owned, shared, came) {
             StepResult::Done => {}
             StepResult::Raises(number) => return Halt::Raises { left, number },
             StepResult::Seen => return Halt::Sees { left },
         }
     }
-    Halt::Spent
 }

@@ -1,13 +1,14 @@
 //! The frames of a process.
 
-ghost use Rattle.machine_semantics.specs.State.{own_locals, zeros, Value, Counter};
+ghost use Rattle.machine_semantics.specs.State.{own_locals, zeros, Value};
 ghost use Rattle.vm_instructions.specs.Inside.{part};
 ghost use Rattle.machine_semantics.specs.Effect.{arguments};
-ghost use Rattle.std.specs.Prelude.{vec_len, ◌++◌, ◌-◌, take, ◌≡◌, ◌<◌, ◌≤◌, ◌+◌, ◌*◌, ◌∷◌, ℕ, [], length, slice_index_or, slice_get, slice_set, Some, pos, IfOk, IfSome, IsSome, map};
-ghost use Rattle.vm_instructions.specs.Frames.{Frames as Standing, AreTwoFirst, IsCounterFirst, IsValueFirst, called, operand_of, used, value, with_operands};
+ghost use Rattle.std.specs.Prelude.{vec_len, ◌++◌, ◌-◌, take, ◌≡◌, ◌<◌, ◌≤◌, ◌+◌, ◌*◌, ◌∷◌, ℕ, [], length, slice_index_or, pos, IfOk, IfSome, IsSome, map};
+ghost use Rattle.vm_instructions.specs.Frames.{Frames as Standing, IsValueFirst, called, operand_of, used, value, with_operands};
 
 use crate::operand::Operand;
-use std::alloc::{AllocError, Global};
+use out_of_memory::OutOfMemory;
+use std::alloc::Global;
 use std::marker::Model;
 
 /// Where a caller's frame begins, and where it goes on.
@@ -21,15 +22,15 @@ struct Mark {
 /// The frames of a process, the innermost last. Once made, they take no memory.
 #[derive(Drop)]
 pub struct Frames {
-    operands: Vec<Operand>,
-    locals: Vec<i32>,
+    pub(crate) operands: Vec<Operand>,
+    pub(crate) locals: Vec<i32>,
     marks: Vec<Mark>,
     /// Where the innermost frame's operands begin, and how many operands there are.
-    floor: usize,
-    top: usize,
+    pub(crate) floor: usize,
+    pub(crate) top: usize,
     /// Where the innermost frame's locals begin, and how many locals there are.
-    base: usize,
-    size: usize,
+    pub(crate) base: usize,
+    pub(crate) size: usize,
 }
 
 impl Model for Frames {
@@ -106,7 +107,7 @@ impl Frames {
     ghost use Rattle.vm_instructions.specs.Frames.{Frames as Standing};
 
     /// No frame, with so many words of stack. It takes all the memory that the frames need.
-    pub fn new(alloc: Global, room: usize) -> Result<Frames, AllocError>
+    pub fn new(alloc: Global, room: usize) -> Result<Frames, OutOfMemory>
         ensures { IfOk result (λ frames. frames ≡
             record { room = room; locals = []; operands = []; callers = [] }) }
     {
@@ -163,24 +164,6 @@ impl Frames {
         self.operands[self.top]
     }
 
-    /// A local.
-    #[inline(always)]
-    pub fn local(&self, place: usize) -> i32
-        requires { place < length self.now.locals }
-        ensures { slice_get self.now.locals place ≡ Some result }
-    {
-        self.locals[self.base + place]
-    }
-
-    /// Puts a value in a local.
-    #[inline(always)]
-    pub fn set_local(&mut self, place: usize, value: i32)
-        requires { place < length self.old.locals }
-        ensures { self.new ≡ record self.old { locals = slice_set self.old.locals place value } }
-    {
-        self.locals[self.base + place] = value;
-    }
-
     /// Takes the top operand, which is a value.
     #[inline(always)]
     pub fn take(&mut self) -> i32
@@ -194,19 +177,6 @@ impl Frames {
         }
     }
 
-    /// Takes the top operand, which is a counter.
-    #[inline(always)]
-    pub fn take_counter(&mut self) -> u32
-        requires { IsCounterFirst self.old.operands }
-        ensures taken { self.old ≡ with_operands (Counter result ∷ self.new.operands) self.new }
-        ensures room { used self.new < self.new.room }
-    {
-        match self.pop() {
-            Operand::Counter(turns) => turns,
-            Operand::Value(_) => unreachable!(),
-        }
-    }
-
     /// Puts a value on top.
     #[inline(always)]
     pub fn give(&mut self, value: i32)
@@ -214,19 +184,6 @@ impl Frames {
         ensures { self.new ≡ with_operands (Value value ∷ self.old.operands) self.old }
     {
         self.push(Operand::Value(value));
-    }
-
-    /// Takes the two top operands, which are values; the first was given first.
-    #[inline(always)]
-    pub fn take_two(&mut self) -> (i32, i32)
-        requires { AreTwoFirst self.old.operands }
-        ensures taken { self.old ≡ with_operands
-            (Value result.1 ∷ Value result.0 ∷ self.new.operands) self.new }
-        ensures room { used self.new < self.new.room }
-    {
-        let y = self.take();
-        let x = self.take();
-        (x, y)
     }
 
     /// Calls: takes so many values as the first locals of a new frame, whose other locals are 0.

@@ -3,19 +3,26 @@
 //! `frames` keeps the frames of a process: operands in one row, locals in another, a mark for each
 //! call in progress (`specs/Frames.antt`). `step` does an instruction on operands, words, jumps,
 //! loops and calls (`specs/Steps.antt`). `burst` runs a process over many of them at once
-//! (`specs/Rows.antt`). Each is equal to the effect that the meaning gives.
+//! (`specs/Rows.antt`): `row` those within one frame, with the frame's operands and locals as slices
+//! that `innermost` takes out, by `within`, which does an instruction that stays in its frame
+//! (`specs/Within.antt`). Each is equal to the effect that the meaning gives.
 #![tactic(auto)]
 
 mod activation;
 mod burst;
 pub mod calls;
+mod cursor;
 mod frames;
-pub mod jumps;
+mod innermost;
+mod jumps;
 mod operand;
-pub mod operands;
+mod operands;
+mod row;
+mod stack;
 pub mod step;
 mod step_result;
-pub mod words;
+mod within;
+mod words;
 
 pub use activation::{Activation, Ends};
 pub use burst::{Halt, run};

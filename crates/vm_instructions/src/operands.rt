@@ -1,213 +1,250 @@
 //! Instructions on operands alone.
 
-ghost use Rattle.std.specs.Prelude.{◌≡◌, ◌<◌, ◌∷◌};
+ghost use Rattle.std.specs.Prelude.{◌≡◌, ◌<◌, ◌≤◌, ◌∷◌, length};
 ghost use Rattle.machine_isa.specs.declared.instr.Instr.TheVariants as i;
-ghost use Rattle.vm_instructions.specs.Frames.{AreTwoFirst, IsValueFirst, used, with_operands};
+ghost use Rattle.vm_instructions.specs.Frames.{AreTwoFirst, IsValueFirst};
 ghost use Rattle.machine_semantics.specs.State.{Value};
 ghost use Rattle.base.specs.Words.{of_bool};
-ghost use Rattle.vm_instructions.specs.Steps.{Answers, Does, Keeps};
+ghost use Rattle.vm_instructions.specs.Stack.{Stays, stacked};
+ghost use Rattle.vm_instructions.specs.Steps.{Acts, Answers, Does};
 
-use crate::Frames;
-use crate::step_result::StepResult;
+use crate::operand::Operand;
+use crate::stack::{give, take, take_two};
+use crate::within::Within;
 use base::{add32, div32, mod32, mul32, neg32, sub32};
 
 /// Gives a number, or raises.
 #[inline(always)]
-fn answer(frames: &mut Frames, answer: Result<i32, u16>) -> StepResult
-    requires { used frames.old < frames.old.room }
-    ensures { Answers answer frames.old result frames.new }
+fn answer(top: &mut usize, stack: &mut [Operand], answer: Result<i32, u16>) -> Within
+    requires { top.old < length stack.old }
+    ensures answers { Answers answer (stacked top.old stack.old) result (stacked top.new stack.new) }
+    ensures stays { Stays top.new stack.old stack.new }
 {
     match answer {
         Ok(value) => {
-            frames.give(value);
-            StepResult::Done
+            give(top, stack, value);
+            Within::Done
         }
-        Err(number) => StepResult::Raises(number),
+        Err(number) => Within::Raises(number),
     }
 }
 
 /// Gives 1 or 0.
 #[inline(always)]
-fn truth(frames: &mut Frames, holds: bool) -> StepResult
-    requires { used frames.old < frames.old.room }
-    ensures result { result ≡ StepResult.Done }
-    ensures given { frames.new ≡ with_operands
-        (Value (of_bool holds) ∷ frames.old.operands) frames.old }
+fn truth(top: &mut usize, stack: &mut [Operand], holds: bool) -> Within
+    requires { top.old < length stack.old }
+    ensures result { result ≡ Within.Done }
+    ensures given { stacked top.new stack.new ≡
+        Value (of_bool holds) ∷ stacked top.old stack.old }
+    ensures stays { Stays top.new stack.old stack.new }
 {
-    frames.give(i32::from(holds));
-    StepResult::Done
+    give(top, stack, i32::from(holds));
+    Within::Done
 }
 
 #[inline(always)]
-pub fn push(frames: &mut Frames, value: i32) -> StepResult
-    requires { used frames.old < frames.old.room }
-    ensures does { Does (i.Push value) frames.old result frames.new }
-    ensures keeps { Keeps result frames.old frames.new }
+pub(crate) fn push(top: &mut usize, stack: &mut [Operand], value: i32) -> Within
+    requires { top.old < length stack.old }
+    ensures does { Does (i.Push value) (stacked top.old stack.old) result (stacked top.new stack.new) }
+    ensures acts { Acts result }
+    ensures stays { Stays top.new stack.old stack.new }
 {
-    frames.give(value);
-    StepResult::Done
+    give(top, stack, value);
+    Within::Done
 }
 
 #[inline(always)]
-pub fn add(frames: &mut Frames) -> StepResult
-    requires { AreTwoFirst frames.old.operands }
-    ensures does { Does i.Add frames.old result frames.new }
-    ensures keeps { Keeps result frames.old frames.new }
+pub(crate) fn add(top: &mut usize, stack: &mut [Operand]) -> Within
+    requires first { AreTwoFirst (stacked top.old stack.old) }
+    requires within { top.old ≤ length stack.old }
+    ensures does { Does i.Add (stacked top.old stack.old) result (stacked top.new stack.new) }
+    ensures acts { Acts result }
+    ensures stays { Stays top.new stack.old stack.new }
 {
-    let (x, y) = frames.take_two();
-    answer(frames, add32(x, y))
+    let (x, y) = take_two(top, stack);
+    answer(top, stack, add32(x, y))
 }
 
 #[inline(always)]
-pub fn sub(frames: &mut Frames) -> StepResult
-    requires { AreTwoFirst frames.old.operands }
-    ensures does { Does i.Sub frames.old result frames.new }
-    ensures keeps { Keeps result frames.old frames.new }
+pub(crate) fn sub(top: &mut usize, stack: &mut [Operand]) -> Within
+    requires first { AreTwoFirst (stacked top.old stack.old) }
+    requires within { top.old ≤ length stack.old }
+    ensures does { Does i.Sub (stacked top.old stack.old) result (stacked top.new stack.new) }
+    ensures acts { Acts result }
+    ensures stays { Stays top.new stack.old stack.new }
 {
-    let (x, y) = frames.take_two();
-    answer(frames, sub32(x, y))
+    let (x, y) = take_two(top, stack);
+    answer(top, stack, sub32(x, y))
 }
 
 #[inline(always)]
-pub fn rem(frames: &mut Frames) -> StepResult
-    requires { AreTwoFirst frames.old.operands }
-    ensures does { Does i.Mod frames.old result frames.new }
-    ensures keeps { Keeps result frames.old frames.new }
+pub(crate) fn rem(top: &mut usize, stack: &mut [Operand]) -> Within
+    requires first { AreTwoFirst (stacked top.old stack.old) }
+    requires within { top.old ≤ length stack.old }
+    ensures does { Does i.Mod (stacked top.old stack.old) result (stacked top.new stack.new) }
+    ensures acts { Acts result }
+    ensures stays { Stays top.new stack.old stack.new }
 {
-    let (x, y) = frames.take_two();
-    answer(frames, mod32(x, y))
+    let (x, y) = take_two(top, stack);
+    answer(top, stack, mod32(x, y))
 }
 
 #[inline(always)]
-pub fn lt(frames: &mut Frames) -> StepResult
-    requires { AreTwoFirst frames.old.operands }
-    ensures does { Does i.Lt frames.old result frames.new }
-    ensures keeps { Keeps result frames.old frames.new }
+pub(crate) fn lt(top: &mut usize, stack: &mut [Operand]) -> Within
+    requires first { AreTwoFirst (stacked top.old stack.old) }
+    requires within { top.old ≤ length stack.old }
+    ensures does { Does i.Lt (stacked top.old stack.old) result (stacked top.new stack.new) }
+    ensures acts { Acts result }
+    ensures stays { Stays top.new stack.old stack.new }
 {
-    let (x, y) = frames.take_two();
-    truth(frames, x < y)
+    let (x, y) = take_two(top, stack);
+    truth(top, stack, x < y)
 }
 
 #[inline(always)]
-pub fn range(frames: &mut Frames, low: i32, high: i32) -> StepResult
-    requires { IsValueFirst frames.old.operands }
-    ensures does { Does (i.Range low high) frames.old result frames.new }
-    ensures keeps { Keeps result frames.old frames.new }
+pub(crate) fn range(top: &mut usize, stack: &mut [Operand], low: i32, high: i32) -> Within
+    requires first { IsValueFirst (stacked top.old stack.old) }
+    requires within { top.old ≤ length stack.old }
+    ensures does { Does (i.Range low high) (stacked top.old stack.old) result (stacked top.new stack.new) }
+    ensures acts { Acts result }
+    ensures stays { Stays top.new stack.old stack.new }
 {
-    let x = frames.take();
+    let x = take(top, stack);
     if x < low || x > high {
-        return StepResult::Raises(3);
+        return Within::Raises(3);
     }
-    frames.give(x);
-    StepResult::Done
+    give(top, stack, x);
+    Within::Done
 }
 
 #[inline(always)]
-pub fn neg(frames: &mut Frames) -> StepResult
-    requires { IsValueFirst frames.old.operands }
-    ensures does { Does i.Neg frames.old result frames.new }
-    ensures keeps { Keeps result frames.old frames.new }
+pub(crate) fn neg(top: &mut usize, stack: &mut [Operand]) -> Within
+    requires first { IsValueFirst (stacked top.old stack.old) }
+    requires within { top.old ≤ length stack.old }
+    ensures does { Does i.Neg (stacked top.old stack.old) result (stacked top.new stack.new) }
+    ensures acts { Acts result }
+    ensures stays { Stays top.new stack.old stack.new }
 {
-    let x = frames.take();
-    answer(frames, neg32(x))
+    let x = take(top, stack);
+    answer(top, stack, neg32(x))
 }
 
 #[inline(always)]
-pub fn not(frames: &mut Frames) -> StepResult
-    requires { IsValueFirst frames.old.operands }
-    ensures does { Does i.Not frames.old result frames.new }
-    ensures keeps { Keeps result frames.old frames.new }
+pub(crate) fn not(top: &mut usize, stack: &mut [Operand]) -> Within
+    requires first { IsValueFirst (stacked top.old stack.old) }
+    requires within { top.old ≤ length stack.old }
+    ensures does { Does i.Not (stacked top.old stack.old) result (stacked top.new stack.new) }
+    ensures acts { Acts result }
+    ensures stays { Stays top.new stack.old stack.new }
 {
-    let x = frames.take();
-    truth(frames, x == 0)
+    let x = take(top, stack);
+    truth(top, stack, x == 0)
 }
 
 #[inline(always)]
-pub fn and(frames: &mut Frames) -> StepResult
-    requires { AreTwoFirst frames.old.operands }
-    ensures does { Does i.And frames.old result frames.new }
-    ensures keeps { Keeps result frames.old frames.new }
+pub(crate) fn and(top: &mut usize, stack: &mut [Operand]) -> Within
+    requires first { AreTwoFirst (stacked top.old stack.old) }
+    requires within { top.old ≤ length stack.old }
+    ensures does { Does i.And (stacked top.old stack.old) result (stacked top.new stack.new) }
+    ensures acts { Acts result }
+    ensures stays { Stays top.new stack.old stack.new }
 {
-    let (x, y) = frames.take_two();
-    truth(frames, x != 0 && y != 0)
+    let (x, y) = take_two(top, stack);
+    truth(top, stack, x != 0 && y != 0)
 }
 
 #[inline(always)]
-pub fn or(frames: &mut Frames) -> StepResult
-    requires { AreTwoFirst frames.old.operands }
-    ensures does { Does i.Or frames.old result frames.new }
-    ensures keeps { Keeps result frames.old frames.new }
+pub(crate) fn or(top: &mut usize, stack: &mut [Operand]) -> Within
+    requires first { AreTwoFirst (stacked top.old stack.old) }
+    requires within { top.old ≤ length stack.old }
+    ensures does { Does i.Or (stacked top.old stack.old) result (stacked top.new stack.new) }
+    ensures acts { Acts result }
+    ensures stays { Stays top.new stack.old stack.new }
 {
-    let (x, y) = frames.take_two();
-    truth(frames, x != 0 || y != 0)
+    let (x, y) = take_two(top, stack);
+    truth(top, stack, x != 0 || y != 0)
 }
 
 #[inline(always)]
-pub fn mul(frames: &mut Frames) -> StepResult
-    requires { AreTwoFirst frames.old.operands }
-    ensures does { Does i.Mul frames.old result frames.new }
-    ensures keeps { Keeps result frames.old frames.new }
+pub(crate) fn mul(top: &mut usize, stack: &mut [Operand]) -> Within
+    requires first { AreTwoFirst (stacked top.old stack.old) }
+    requires within { top.old ≤ length stack.old }
+    ensures does { Does i.Mul (stacked top.old stack.old) result (stacked top.new stack.new) }
+    ensures acts { Acts result }
+    ensures stays { Stays top.new stack.old stack.new }
 {
-    let (x, y) = frames.take_two();
-    answer(frames, mul32(x, y))
+    let (x, y) = take_two(top, stack);
+    answer(top, stack, mul32(x, y))
 }
 
 #[inline(always)]
-pub fn div(frames: &mut Frames) -> StepResult
-    requires { AreTwoFirst frames.old.operands }
-    ensures does { Does i.Div frames.old result frames.new }
-    ensures keeps { Keeps result frames.old frames.new }
+pub(crate) fn div(top: &mut usize, stack: &mut [Operand]) -> Within
+    requires first { AreTwoFirst (stacked top.old stack.old) }
+    requires within { top.old ≤ length stack.old }
+    ensures does { Does i.Div (stacked top.old stack.old) result (stacked top.new stack.new) }
+    ensures acts { Acts result }
+    ensures stays { Stays top.new stack.old stack.new }
 {
-    let (x, y) = frames.take_two();
-    answer(frames, div32(x, y))
+    let (x, y) = take_two(top, stack);
+    answer(top, stack, div32(x, y))
 }
 
 #[inline(always)]
-pub fn eq(frames: &mut Frames) -> StepResult
-    requires { AreTwoFirst frames.old.operands }
-    ensures does { Does i.Eq frames.old result frames.new }
-    ensures keeps { Keeps result frames.old frames.new }
+pub(crate) fn eq(top: &mut usize, stack: &mut [Operand]) -> Within
+    requires first { AreTwoFirst (stacked top.old stack.old) }
+    requires within { top.old ≤ length stack.old }
+    ensures does { Does i.Eq (stacked top.old stack.old) result (stacked top.new stack.new) }
+    ensures acts { Acts result }
+    ensures stays { Stays top.new stack.old stack.new }
 {
-    let (x, y) = frames.take_two();
-    truth(frames, x == y)
+    let (x, y) = take_two(top, stack);
+    truth(top, stack, x == y)
 }
 
 #[inline(always)]
-pub fn ne(frames: &mut Frames) -> StepResult
-    requires { AreTwoFirst frames.old.operands }
-    ensures does { Does i.Ne frames.old result frames.new }
-    ensures keeps { Keeps result frames.old frames.new }
+pub(crate) fn ne(top: &mut usize, stack: &mut [Operand]) -> Within
+    requires first { AreTwoFirst (stacked top.old stack.old) }
+    requires within { top.old ≤ length stack.old }
+    ensures does { Does i.Ne (stacked top.old stack.old) result (stacked top.new stack.new) }
+    ensures acts { Acts result }
+    ensures stays { Stays top.new stack.old stack.new }
 {
-    let (x, y) = frames.take_two();
-    truth(frames, x != y)
+    let (x, y) = take_two(top, stack);
+    truth(top, stack, x != y)
 }
 
 #[inline(always)]
-pub fn le(frames: &mut Frames) -> StepResult
-    requires { AreTwoFirst frames.old.operands }
-    ensures does { Does i.Le frames.old result frames.new }
-    ensures keeps { Keeps result frames.old frames.new }
+pub(crate) fn le(top: &mut usize, stack: &mut [Operand]) -> Within
+    requires first { AreTwoFirst (stacked top.old stack.old) }
+    requires within { top.old ≤ length stack.old }
+    ensures does { Does i.Le (stacked top.old stack.old) result (stacked top.new stack.new) }
+    ensures acts { Acts result }
+    ensures stays { Stays top.new stack.old stack.new }
 {
-    let (x, y) = frames.take_two();
-    truth(frames, x <= y)
+    let (x, y) = take_two(top, stack);
+    truth(top, stack, x <= y)
 }
 
 #[inline(always)]
-pub fn gt(frames: &mut Frames) -> StepResult
-    requires { AreTwoFirst frames.old.operands }
-    ensures does { Does i.Gt frames.old result frames.new }
-    ensures keeps { Keeps result frames.old frames.new }
+pub(crate) fn gt(top: &mut usize, stack: &mut [Operand]) -> Within
+    requires first { AreTwoFirst (stacked top.old stack.old) }
+    requires within { top.old ≤ length stack.old }
+    ensures does { Does i.Gt (stacked top.old stack.old) result (stacked top.new stack.new) }
+    ensures acts { Acts result }
+    ensures stays { Stays top.new stack.old stack.new }
 {
-    let (x, y) = frames.take_two();
-    truth(frames, x > y)
+    let (x, y) = take_two(top, stack);
+    truth(top, stack, x > y)
 }
 
 #[inline(always)]
-pub fn ge(frames: &mut Frames) -> StepResult
-    requires { AreTwoFirst frames.old.operands }
-    ensures does { Does i.Ge frames.old result frames.new }
-    ensures keeps { Keeps result frames.old frames.new }
+pub(crate) fn ge(top: &mut usize, stack: &mut [Operand]) -> Within
+    requires first { AreTwoFirst (stacked top.old stack.old) }
+    requires within { top.old ≤ length stack.old }
+    ensures does { Does i.Ge (stacked top.old stack.old) result (stacked top.new stack.new) }
+    ensures acts { Acts result }
+    ensures stays { Stays top.new stack.old stack.new }
 {
-    let (x, y) = frames.take_two();
-    truth(frames, x >= y)
+    let (x, y) = take_two(top, stack);
+    truth(top, stack, x >= y)
 }

@@ -1,12 +1,16 @@
 //! Instructions on locals, on the words of the process and on those of monitors.
 
-ghost use Rattle.std.specs.Prelude.{◌≡◌, ◌<◌, ◌+ℤ◌, ◌≤ℤ◌, ◌<ℤ◌, pos, length, slice_get, Some};
+ghost use Rattle.std.specs.Prelude.{◌≡◌, ◌<◌, ◌≤◌, ◌+ℤ◌, ◌≤ℤ◌, ◌<ℤ◌, pos, length, slice_get, Some};
 ghost use Rattle.machine_isa.specs.declared.instr.Instr.TheVariants as i;
-ghost use Rattle.vm_instructions.specs.Frames.{AreTwoFirst, IsValueFirst, used};
-ghost use Rattle.vm_instructions.specs.Steps.{Does, DoesOwned, DoesShared, HasWord, IsElement, IsOffset, Keeps, KeepsWords, LoadsShared, ReachesFirst, ReachesLast, ReachesPlace, StoresShared};
+ghost use Rattle.vm_instructions.specs.Frames.{AreTwoFirst, IsValueFirst};
+ghost use Rattle.vm_instructions.specs.Stack.{Stays, stacked};
+ghost use Rattle.vm_instructions.specs.Steps.{Acts, DoesLocal, DoesOwned, DoesShared, HasWord, IsElement};
+ghost use Rattle.vm_instructions.specs.Steps.{IsOffset, KeepsWords, LoadsShared, ReachesFirst};
+ghost use Rattle.vm_instructions.specs.Steps.{ReachesLast, ReachesPlace, StoresShared};
 
-use crate::Frames;
-use crate::step_result::StepResult;
+use crate::operand::Operand;
+use crate::stack::{give, take, take_two};
+use crate::within::Within;
 
 /// How far an index is from the first, if it is inside.
 #[inline(always)]
@@ -53,196 +57,266 @@ fn read(words: &[i32], place: usize) -> i32
 }
 
 #[inline(always)]
-pub fn load_local(frames: &mut Frames, word: i32) -> StepResult
-    requires room { used frames.old < frames.old.room }
-    requires word { HasWord frames.old.locals word }
-    ensures does { Does (i.LoadLocal word) frames.old result frames.new }
-    ensures keeps { Keeps result frames.old frames.new }
+pub(crate) fn load_local(
+    top: &mut usize,
+    stack: &mut [Operand],
+    locals: &[i32],
+    word: i32,
+) -> Within
+    requires room { top.old < length stack.old }
+    requires word { HasWord locals.now word }
+    ensures does { DoesLocal (i.LoadLocal word) (stacked top.old stack.old) locals.now result
+        (stacked top.new stack.new) locals.now }
+    ensures acts { Acts result }
+    ensures stays { Stays top.new stack.old stack.new }
 {
-    let x = frames.local(word as usize);
-    frames.give(x);
-    StepResult::Done
+    give(top, stack, read(locals, word as usize));
+    Within::Done
 }
 
 #[inline(always)]
-pub fn store_local(frames: &mut Frames, word: i32) -> StepResult
-    requires first { IsValueFirst frames.old.operands }
-    requires word { HasWord frames.old.locals word }
-    ensures does { Does (i.StoreLocal word) frames.old result frames.new }
-    ensures keeps { Keeps result frames.old frames.new }
+pub(crate) fn store_local(
+    top: &mut usize,
+    stack: &[Operand],
+    locals: &mut [i32],
+    word: i32,
+) -> Within
+    requires first { IsValueFirst (stacked top.old stack.now) }
+    requires within { top.old ≤ length stack.now }
+    requires word { HasWord locals.old word }
+    ensures does { DoesLocal (i.StoreLocal word) (stacked top.old stack.now) locals.old result
+        (stacked top.new stack.now) locals.new }
+    ensures acts { Acts result }
+    ensures top { top.new ≤ length stack.now }
+    ensures words { KeepsWords result locals.old locals.new }
+    ensures row { length locals.new ≡ length locals.old }
 {
-    let x = frames.take();
-    frames.set_local(word as usize, x);
-    StepResult::Done
+    locals[word as usize] = take(top, stack);
+    Within::Done
 }
 
 #[inline(always)]
-pub fn load_own(frames: &mut Frames, owned: &[i32], word: i32) -> StepResult
-    requires room { used frames.old < frames.old.room }
-    requires word { HasWord owned.now word }
-    ensures does { DoesOwned (i.LoadOwn word) frames.old owned.now result frames.new owned.now }
-    ensures keeps { Keeps result frames.old frames.new }
+pub(crate) fn load_local_at(
+    top: &mut usize,
+    stack: &mut [Operand],
+    locals: &[i32],
+    word: i32,
+    low: i32,
+    len: i32,
+) -> Within
+    requires first { IsValueFirst (stacked top.old stack.old) }
+    requires within { top.old ≤ length stack.old }
+    requires word { ReachesLast locals.now word low len (stacked top.old stack.old) }
+    ensures does { DoesLocal (i.LoadLocalAt word low len) (stacked top.old stack.old) locals.now
+        result (stacked top.new stack.new) locals.now }
+    ensures acts { Acts result }
+    ensures stays { Stays top.new stack.old stack.new }
 {
-    let x = owned[word as usize];
-    frames.give(x);
-    StepResult::Done
-}
-
-#[inline(always)]
-pub fn store_own(frames: &mut Frames, owned: &mut [i32], word: i32) -> StepResult
-    requires first { IsValueFirst frames.old.operands }
-    requires word { HasWord owned.old word }
-    ensures does { DoesOwned (i.StoreOwn word) frames.old owned.old result frames.new owned.new }
-    ensures words { KeepsWords result owned.old owned.new }
-    ensures keeps { Keeps result frames.old frames.new }
-{
-    let x = frames.take();
-    owned[word as usize] = x;
-    StepResult::Done
-}
-
-#[inline(always)]
-pub fn load_own_at(frames: &mut Frames, owned: &[i32], word: i32, low: i32, len: i32) -> StepResult
-    requires first { IsValueFirst frames.old.operands }
-    requires word { ReachesLast owned.now word low len frames.old.operands }
-    ensures does { DoesOwned (i.LoadOwnAt word low len) frames.old owned.now result frames.new
-        owned.now }
-    ensures keeps { Keeps result frames.old frames.new }
-{
-    let index = frames.take();
+    let index = take(top, stack);
     match element(word, low, len, index) {
         Some(at) => {
-            frames.give(read(owned, at));
-            StepResult::Done
+            give(top, stack, read(locals, at));
+            Within::Done
         }
-        None => StepResult::Raises(3),
+        None => Within::Raises(3),
     }
 }
 
 #[inline(always)]
-pub fn store_own_at(
-    frames: &mut Frames,
+pub(crate) fn store_local_at(
+    top: &mut usize,
+    stack: &[Operand],
+    locals: &mut [i32],
+    word: i32,
+    low: i32,
+    len: i32,
+) -> Within
+    requires first { AreTwoFirst (stacked top.old stack.now) }
+    requires within { top.old ≤ length stack.now }
+    requires word { ReachesFirst locals.old word low len (stacked top.old stack.now) }
+    ensures does { DoesLocal (i.StoreLocalAt word low len) (stacked top.old stack.now) locals.old
+        result (stacked top.new stack.now) locals.new }
+    ensures acts { Acts result }
+    ensures top { top.new ≤ length stack.now }
+    ensures words { KeepsWords result locals.old locals.new }
+    ensures row { length locals.new ≡ length locals.old }
+{
+    let (index, x) = take_two(top, stack);
+    match element(word, low, len, index) {
+        Some(at) => {
+            locals[at] = x;
+            Within::Done
+        }
+        None => Within::Raises(3),
+    }
+}
+
+#[inline(always)]
+pub(crate) fn load_own(top: &mut usize, stack: &mut [Operand], owned: &[i32], word: i32) -> Within
+    requires room { top.old < length stack.old }
+    requires word { HasWord owned.now word }
+    ensures does { DoesOwned (i.LoadOwn word) (stacked top.old stack.old) owned.now result
+        (stacked top.new stack.new) owned.now }
+    ensures acts { Acts result }
+    ensures stays { Stays top.new stack.old stack.new }
+{
+    give(top, stack, read(owned, word as usize));
+    Within::Done
+}
+
+#[inline(always)]
+pub(crate) fn store_own(top: &mut usize, stack: &[Operand], owned: &mut [i32], word: i32) -> Within
+    requires first { IsValueFirst (stacked top.old stack.now) }
+    requires within { top.old ≤ length stack.now }
+    requires word { HasWord owned.old word }
+    ensures does { DoesOwned (i.StoreOwn word) (stacked top.old stack.now) owned.old result
+        (stacked top.new stack.now) owned.new }
+    ensures acts { Acts result }
+    ensures top { top.new ≤ length stack.now }
+    ensures words { KeepsWords result owned.old owned.new }
+    ensures row { length owned.new ≡ length owned.old }
+{
+    owned[word as usize] = take(top, stack);
+    Within::Done
+}
+
+#[inline(always)]
+pub(crate) fn load_own_at(
+    top: &mut usize,
+    stack: &mut [Operand],
+    owned: &[i32],
+    word: i32,
+    low: i32,
+    len: i32,
+) -> Within
+    requires first { IsValueFirst (stacked top.old stack.old) }
+    requires within { top.old ≤ length stack.old }
+    requires word { ReachesLast owned.now word low len (stacked top.old stack.old) }
+    ensures does { DoesOwned (i.LoadOwnAt word low len) (stacked top.old stack.old) owned.now
+        result (stacked top.new stack.new) owned.now }
+    ensures acts { Acts result }
+    ensures stays { Stays top.new stack.old stack.new }
+{
+    let index = take(top, stack);
+    match element(word, low, len, index) {
+        Some(at) => {
+            give(top, stack, read(owned, at));
+            Within::Done
+        }
+        None => Within::Raises(3),
+    }
+}
+
+#[inline(always)]
+pub(crate) fn store_own_at(
+    top: &mut usize,
+    stack: &[Operand],
     owned: &mut [i32],
     word: i32,
     low: i32,
     len: i32,
-) -> StepResult
-    requires first { AreTwoFirst frames.old.operands }
-    requires word { ReachesFirst owned.old word low len frames.old.operands }
-    ensures does { DoesOwned (i.StoreOwnAt word low len) frames.old owned.old result frames.new
-        owned.new }
+) -> Within
+    requires first { AreTwoFirst (stacked top.old stack.now) }
+    requires within { top.old ≤ length stack.now }
+    requires word { ReachesFirst owned.old word low len (stacked top.old stack.now) }
+    ensures does { DoesOwned (i.StoreOwnAt word low len) (stacked top.old stack.now) owned.old
+        result (stacked top.new stack.now) owned.new }
+    ensures acts { Acts result }
+    ensures top { top.new ≤ length stack.now }
     ensures words { KeepsWords result owned.old owned.new }
-    ensures keeps { Keeps result frames.old frames.new }
+    ensures row { length owned.new ≡ length owned.old }
 {
-    let (index, x) = frames.take_two();
+    let (index, x) = take_two(top, stack);
     match element(word, low, len, index) {
         Some(at) => {
             owned[at] = x;
-            StepResult::Done
+            Within::Done
         }
-        None => StepResult::Raises(3),
+        None => Within::Raises(3),
     }
 }
 
 #[inline(always)]
-pub fn load_mon(frames: &mut Frames, shared: &[i32], word: i32) -> StepResult
-    requires room { used frames.old < frames.old.room }
+pub(crate) fn load_mon(top: &mut usize, stack: &mut [Operand], shared: &[i32], word: i32) -> Within
+    requires room { top.old < length stack.old }
     requires word { HasWord shared.now word }
-    ensures does { DoesShared word (i.LoadMon word) frames.old shared.now result frames.new
-        shared.now }
-    ensures keeps { Keeps result frames.old frames.new }
+    ensures does { DoesShared word (i.LoadMon word) (stacked top.old stack.old) shared.now result
+        (stacked top.new stack.new) shared.now }
+    ensures acts { Acts result }
+    ensures stays { Stays top.new stack.old stack.new }
 {
-    let x = shared[word as usize];
-    frames.give(x);
-    StepResult::Done
+    give(top, stack, read(shared, word as usize));
+    Within::Done
 }
 
 #[inline(always)]
-pub fn store_mon(frames: &mut Frames, shared: &mut [i32], word: i32) -> StepResult
-    requires first { IsValueFirst frames.old.operands }
+pub(crate) fn store_mon(top: &mut usize, stack: &[Operand], shared: &mut [i32], word: i32) -> Within
+    requires first { IsValueFirst (stacked top.old stack.now) }
+    requires within { top.old ≤ length stack.now }
     requires word { HasWord shared.old word }
-    ensures does { DoesShared word (i.StoreMon word) frames.old shared.old result frames.new
-        shared.new }
+    ensures does { DoesShared word (i.StoreMon word) (stacked top.old stack.now) shared.old result
+        (stacked top.new stack.now) shared.new }
+    ensures acts { Acts result }
+    ensures top { top.new ≤ length stack.now }
     ensures words { KeepsWords result shared.old shared.new }
-    ensures keeps { Keeps result frames.old frames.new }
+    ensures row { length shared.new ≡ length shared.old }
 {
-    let x = frames.take();
-    shared[word as usize] = x;
-    StepResult::Done
+    shared[word as usize] = take(top, stack);
+    Within::Done
 }
 
 #[inline(always)]
-pub fn load_local_at(frames: &mut Frames, word: i32, low: i32, len: i32) -> StepResult
-    requires first { IsValueFirst frames.old.operands }
-    requires word { ReachesLast frames.old.locals word low len frames.old.operands }
-    ensures does { Does (i.LoadLocalAt word low len) frames.old result frames.new }
-    ensures keeps { Keeps result frames.old frames.new }
+pub(crate) fn load_mon_at(
+    top: &mut usize,
+    stack: &mut [Operand],
+    shared: &[i32],
+    word: i32,
+    low: i32,
+    len: i32,
+) -> Within
+    requires first { IsValueFirst (stacked top.old stack.old) }
+    requires within { top.old ≤ length stack.old }
+    requires word { ReachesLast shared.now word low len (stacked top.old stack.old) }
+    ensures does { LoadsShared word low len (stacked top.old stack.old) shared.now result
+        (stacked top.new stack.new) }
+    ensures acts { Acts result }
+    ensures stays { Stays top.new stack.old stack.new }
 {
-    let index = frames.take();
+    let index = take(top, stack);
     match element(word, low, len, index) {
         Some(at) => {
-            let x = frames.local(at);
-            frames.give(x);
-            StepResult::Done
+            give(top, stack, read(shared, at));
+            Within::Done
         }
-        None => StepResult::Raises(3),
+        None => Within::Raises(3),
     }
 }
 
 #[inline(always)]
-pub fn store_local_at(frames: &mut Frames, word: i32, low: i32, len: i32) -> StepResult
-    requires first { AreTwoFirst frames.old.operands }
-    requires word { ReachesFirst frames.old.locals word low len frames.old.operands }
-    ensures does { Does (i.StoreLocalAt word low len) frames.old result frames.new }
-    ensures keeps { Keeps result frames.old frames.new }
-{
-    let (index, x) = frames.take_two();
-    match element(word, low, len, index) {
-        Some(at) => {
-            frames.set_local(at, x);
-            StepResult::Done
-        }
-        None => StepResult::Raises(3),
-    }
-}
-
-#[inline(always)]
-pub fn load_mon_at(frames: &mut Frames, shared: &[i32], word: i32, low: i32, len: i32) -> StepResult
-    requires first { IsValueFirst frames.old.operands }
-    requires word { ReachesLast shared.now word low len frames.old.operands }
-    ensures does { LoadsShared word low len frames.old shared.now result frames.new }
-    ensures keeps { Keeps result frames.old frames.new }
-{
-    let index = frames.take();
-    match element(word, low, len, index) {
-        Some(at) => {
-            frames.give(read(shared, at));
-            StepResult::Done
-        }
-        None => StepResult::Raises(3),
-    }
-}
-
-#[inline(always)]
-pub fn store_mon_at(
-    frames: &mut Frames,
+pub(crate) fn store_mon_at(
+    top: &mut usize,
+    stack: &[Operand],
     shared: &mut [i32],
     word: i32,
     low: i32,
     len: i32,
-) -> StepResult
-    requires first { AreTwoFirst frames.old.operands }
-    requires word { ReachesFirst shared.old word low len frames.old.operands }
-    ensures does { StoresShared word low len frames.old shared.old result frames.new shared.new }
+) -> Within
+    requires first { AreTwoFirst (stacked top.old stack.now) }
+    requires within { top.old ≤ length stack.now }
+    requires word { ReachesFirst shared.old word low len (stacked top.old stack.now) }
+    ensures does { StoresShared word low len (stacked top.old stack.now) shared.old result
+        (stacked top.new stack.now) shared.new }
+    ensures acts { Acts result }
+    ensures top { top.new ≤ length stack.now }
     ensures words { KeepsWords result shared.old shared.new }
-    ensures keeps { Keeps result frames.old frames.new }
+    ensures row { length shared.new ≡ length shared.old }
 {
-    let (index, x) = frames.take_two();
+    let (index, x) = take_two(top, stack);
     match element(word, low, len, index) {
         Some(at) => {
             shared[at] = x;
-            StepResult::Done
+            Within::Done
         }
-        None => StepResult::Raises(3),
+        None => Within::Raises(3),
     }
 }

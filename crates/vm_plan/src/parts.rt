@@ -6,11 +6,12 @@ ghost use Rattle.vm_plan.specs.Called.{called_of};
 
 use image_bytes::ImageBytes;
 use machine_isa::Instr;
-use std::alloc::{AllocError, Global};
+use out_of_memory::OutOfMemory;
+use std::alloc::Global;
 use vm_instructions::calls::RoutineHeader;
 
 /// The code.
-pub(crate) fn instructions(alloc: Global, image: &ImageBytes) -> Result<Vec<Instr>, AllocError>
+pub(crate) fn instructions(alloc: Global, image: &ImageBytes) -> Result<Vec<Instr>, OutOfMemory>
     ensures { IfOk result (λ code. code.items ≡ image.now.image.code) }
 {
     let mut code = Vec::with_capacity(alloc, image.code_len() as usize)?;
@@ -21,7 +22,7 @@ pub(crate) fn instructions(alloc: Global, image: &ImageBytes) -> Result<Vec<Inst
 }
 
 /// What a call needs to know of each routine.
-pub(crate) fn routines(alloc: Global, image: &ImageBytes) -> Result<Vec<RoutineHeader>, AllocError>
+pub(crate) fn routines(alloc: Global, image: &ImageBytes) -> Result<Vec<RoutineHeader>, OutOfMemory>
     ensures { IfOk result (λ called. called.items ≡ map called_of image.now.image.routines) }
 {
     let mut called = Vec::with_capacity(alloc, usize::from(image.routines()))?;
@@ -37,7 +38,7 @@ pub(crate) fn routines(alloc: Global, image: &ImageBytes) -> Result<Vec<RoutineH
 }
 
 /// By condition its monitor.
-pub(crate) fn conditions(alloc: Global, image: &ImageBytes) -> Result<Vec<u16>, AllocError>
+pub(crate) fn conditions(alloc: Global, image: &ImageBytes) -> Result<Vec<u16>, OutOfMemory>
     ensures { IfOk result (λ monitors. monitors.items ≡ image.now.image.conditions) }
 {
     image.names_are_its();
@@ -50,7 +51,7 @@ pub(crate) fn conditions(alloc: Global, image: &ImageBytes) -> Result<Vec<u16>, 
 }
 
 /// By monitor its ceiling.
-pub(crate) fn ceilings(alloc: Global, image: &ImageBytes) -> Result<Vec<u16>, AllocError>
+pub(crate) fn ceilings(alloc: Global, image: &ImageBytes) -> Result<Vec<u16>, OutOfMemory>
     ensures { IfOk result (λ ceilings. ceilings.items ≡
         map (λ m. m.ceiling) image.now.image.monitors) }
 {

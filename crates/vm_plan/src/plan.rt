@@ -7,11 +7,12 @@ ghost use Rattle.vm_state.specs.Plan.{IsOf};
 use crate::parts::{ceilings, conditions, devices, instructions, routines, words};
 use crate::process::processes;
 use image_bytes::ImageBytes;
-use std::alloc::{AllocError, Global};
+use out_of_memory::OutOfMemory;
+use std::alloc::Global;
 use vm_state::DecodedImage;
 
 /// The plan of the image; an error says that memory is short.
-pub fn plan_of(alloc: Global, image: &ImageBytes) -> Result<DecodedImage, AllocError>
+pub fn plan_of(alloc: Global, image: &ImageBytes) -> Result<DecodedImage, OutOfMemory>
     requires { HasPlan image.now.image }
     ensures { IfOk result (λ plan. IsOf image.now.image plan) }
 {

@@ -8,7 +8,8 @@ ghost use Rattle.vm_plan.specs.HasPlan.{CanRun, HandlerEnds};
 
 use image_bytes::{ImageBytes, ProcessRef};
 use loader_code::tree_end;
-use std::alloc::{AllocError, Global};
+use out_of_memory::OutOfMemory;
+use std::alloc::Global;
 use vm_instructions::Ends;
 use vm_state::{DecodedProcess, Release};
 
@@ -57,10 +58,10 @@ fn handler_end(process: &ProcessRef<'_>, code: usize) -> usize
 }
 
 /// The numbers that the handler takes, in order.
-fn handler_numbers(alloc: Global, process: &ProcessRef<'_>) -> Result<Vec<u16>, AllocError>
+fn handler_numbers(alloc: Global, process: &ProcessRef<'_>) -> Result<Vec<u16>, OutOfMemory>
     ensures { IfOk result (λ numbers. numbers.items ≡ (process_in process.now).numbers) }
 {
-    process.numbers().collect(alloc)
+    Ok(process.numbers().collect(alloc)?)
 }
 
 /// What a run needs of a process.
@@ -68,7 +69,7 @@ fn process_of(
     alloc: Global,
     process: &ProcessRef<'_>,
     code: usize,
-) -> Result<DecodedProcess, AllocError>
+) -> Result<DecodedProcess, OutOfMemory>
     requires { CanRun code (process_in process.now) }
     ensures { IfOk result (λ kept. IsProcess (process_in process.now) kept) }
 {
@@ -92,7 +93,7 @@ fn process_of(
 pub(crate) fn processes(
     alloc: Global,
     image: &ImageBytes,
-) -> Result<Vec<DecodedProcess>, AllocError>
+) -> Result<Vec<DecodedProcess>, OutOfMemory>
     requires { All (λ process. CanRun (length image.now.image.code) process) image.now.image.processes }
     ensures { IfOk result (λ processes. AreProcesses image.now.image.processes processes.items) }
 {

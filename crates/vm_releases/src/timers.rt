@@ -15,8 +15,9 @@ ghost use Rattle.vm_releases.specs.Order.{IsOrderOf};
 use crate::clock::{do_releases, do_time_outs};
 use crate::lines::{do_lines, tick_of};
 use crate::order::StartOrder;
+use out_of_memory::OutOfMemory;
 use script::{Script, ScriptLine};
-use std::alloc::{AllocError, Global};
+use std::alloc::Global;
 use vm_state::{DecodedImage, EventBuffer, MachineState, Release};
 use vm_stretch::{Due, DueHeap};
 
@@ -47,7 +48,7 @@ fn first_slots(
     alloc: Global,
     plan: &DecodedImage,
     lines: &[ScriptLine],
-) -> Result<DueHeap, AllocError>
+) -> Result<DueHeap, OutOfMemory>
     ghost image: { Image }
     requires { IsOf image plan.now }
     ensures { IfOk result (λ slots. AreFirst image (lines_of lines.now) slots) }
@@ -67,7 +68,7 @@ fn first_slots(
 impl Timers {
     /// What comes when before the first tick: no line is done, and all processes are idle. It
     /// takes all the memory that it needs; an error says that memory is short.
-    pub fn new(alloc: Global, plan: &DecodedImage, script: &Script) -> Result<Timers, AllocError>
+    pub fn new(alloc: Global, plan: &DecodedImage, script: &Script) -> Result<Timers, OutOfMemory>
         ghost image: { Image }
         requires plan { IsOf image plan.now }
         requires ranks { HasOwnRanks image }
@@ -117,6 +118,7 @@ impl Timers {
     }
 
     /// Begins a tick: does its lines, its periodic releases and its time-outs.
+    #[inline(always)]
     pub fn begin(
         &mut self,
         plan: &DecodedImage,

@@ -1,6 +1,6 @@
 -- What a turn does to the waits, and waits in queues.
 use Rattle.std.proofs.Common.{◌≡◌, ◌≤◌, ◌<◌, ◌+◌, ◌-◌, ◌++◌, inl, inr, ℕ, zero, suc, Bool, true, false, List, [], ◌∷◌, Option, Some, None, length, take, drop, arith, refl, ap, sym, subst, ◌∙◌}
-use Rattle.std.specs.Prelude.{slice_get, slice_set, cond, nat_eq}
+use Rattle.std.specs.Prelude.{◌||◌, slice_get, slice_set, cond, nat_eq}
 use Rattle.std.proofs.Math.Seq.{drop-append_seam}
 use Rattle.std.proofs.lemmas.Bool.Decides.{nat_tests}
 use Rattle.std.proofs.lemmas.List.{length-drop, take_all}
@@ -15,7 +15,20 @@ use Rattle.machine_semantics.specs.Queues.{AreQueued, times, waits_on}
 use Rattle.vm_stretch.proofs.Lists.{same_or_not}
 use Rattle.vm_releases.specs.Begin.{HaveQueues}
 use Rattle.vm_stretch.specs.StretchDue.{time_out_of}
-use Rattle.vm_runner.specs.Waits.{WaitsFrom, is_some_at_queue}
+use Rattle.vm_runner.specs.Waits.{WaitsFrom, is_at_queue, is_some_at_queue}
+
+-- ---- the events of a row
+
+-- of one event alone
+pub one_at_queue : (es : List Event) (e : Event) → length es ≡ 1 → slice_get es 0 ≡ Some e → is_some_at_queue es ≡ is_at_queue e.act
+one_at_queue [] e one at = absurd cc
+one_at_queue (x ∷ []) e one at =
+    let same : x ≡ e = cc in
+    or_none (is_at_queue x.act) ∙ ap (λ (y : Event). is_at_queue y.act) same where
+      or_none : (b : Bool) → b || false ≡ b
+      or_none true = refl
+      or_none false = refl
+one_at_queue (x ∷ y ∷ es) e one at = absurd (omega (arith, one))
 
 -- ---- waits that begin
 

@@ -16,8 +16,9 @@ use crate::completing::completed_of;
 use crate::span::span;
 use crate::turn::{Reach, take_ticks};
 use crate::{Machine, Progress, Ranking, Setup};
+use out_of_memory::OutOfMemory;
 use script::Script;
-use std::alloc::{AllocError, Global};
+use std::alloc::Global;
 use vm_state::DecodedImage;
 use vm_stretch::Completed;
 use vm_turn::choose;
@@ -29,7 +30,7 @@ impl Machine<Ranking> {
         alloc: Global,
         plan: &DecodedImage,
         script: &Script,
-    ) -> Result<Machine<Ranking>, AllocError>
+    ) -> Result<Machine<Ranking>, OutOfMemory>
         ghost run: { Run }
         requires plan { IsOf run.image plan.now }
         requires script { run.script ≡ script_of script.now }

@@ -1,12 +1,13 @@
 //! Which process is picked, kept from row to row.
 
-ghost use Rattle.std.specs.Prelude.{◌≡◌, ◌<◌, ℕ, false, true, length, slice_set, vec_len};
+ghost use Rattle.std.specs.Prelude.{◌≡◌, ◌<◌, ◌^◌, vec_len};
 ghost use Rattle.machine_semantics.specs.Image.{Image};
+ghost use Rattle.machine_semantics.specs.Tick.{pick};
 ghost use Rattle.vm_state.specs.Board.{IsBoardOf, state_of};
 ghost use Rattle.vm_state.specs.Plan.{IsOf};
-ghost use Rattle.vm_runner.specs.Ranking.{IsBehind, IsCandidate, IsFirst, IsNoLater, IsRanking};
-ghost use Rattle.vm_runner.specs.Ranking.{IsReadyOne, IsThere, StandAsBefore, Standing};
-ghost use Rattle.vm_runner.specs.Ranking.{StandsAsWell};
+ghost use Rattle.vm_stretch.specs.Stretch.{place_of};
+ghost use Rattle.vm_runner.specs.Ranking.{IsKeyOf, IsPrecedence, IsRanking, StandAsBefore};
+ghost use Rattle.vm_runner.specs.Ranking.{Standing, least_of};
 
 use crate::Dispatch;
 use crate::waits::is_some_at_queue;
@@ -15,148 +16,73 @@ use base::Event;
 use vm_state::{ControlBlock, DecodedImage, DecodedProcess, MachineState, SchedulingState};
 use vm_turn::{ceiling_of, choose};
 
-/// How a process that is ready stands in the choice: the lower active rank comes first, and of two
-/// alike one inside a monitor.
-#[derive(Clone, Copy)]
-struct Candidate {
-    active_rank: u16,
-    is_inside: bool,
+/// By what a process is chosen: the least comes first. Of one that is ready it is 64 times its key
+/// and its place, where the key is twice its active rank, and one more outside of all monitors. So
+/// one comparison tells which of two comes first, and the least tells which process it is of.
+#[derive(Clone, Copy, Default)]
+struct Precedence {
+    number: u32,
 }
 
-/// How each process stands, where it is ready, and which of them is picked.
+/// The number of a process that is not ready, behind all others.
+const NOBODY: u32 = u32::MAX;
+
+/// By process its precedence, and the least of them.
 #[derive(Drop)]
 pub struct Ranking {
-    candidates: ArrayVec<Option<Candidate>, 64>,
-    first: Option<usize>,
+    precedences: ArrayVec<Precedence, 64>,
+    least: Precedence,
 }
 
-/// How a process that is ready stands, inside this monitor or outside of all.
+/// By what a process that is ready is chosen before its place is: its active rank, and of two alike
+/// one inside a monitor before one outside.
 #[inline(always)]
-fn ready_one(plan: &DecodedImage, process: &DecodedProcess, inside: Option<u16>) -> Candidate
-    ensures { IsReadyOne plan.now process.now inside result }
+fn key_of(plan: &DecodedImage, process: &DecodedProcess, inside: Option<u16>) -> u32
+    ensures key { IsKeyOf plan.now process.now inside result }
+    ensures small { result < 2 ^ 17 }
 {
     match inside {
-        Some(monitor) => Candidate {
-            active_rank: ceiling_of(&plan.ceilings, monitor),
-            is_inside: true,
-        },
-        None => Candidate {
-            active_rank: process.rank,
-            is_inside: false,
-        },
+        Some(monitor) => 2 * u32::from(ceiling_of(&plan.ceilings, monitor)),
+        None => 2 * u32::from(process.rank) + 1,
     }
 }
 
-/// How a process stands, where it is ready.
+/// The precedence of the process at this place.
 #[inline(always)]
-fn candidate_of(
+fn precedence_of(
     plan: &DecodedImage,
     process: &DecodedProcess,
     cell: &ControlBlock,
-) -> Option<Candidate>
-    ensures { IsCandidate plan.now process.now cell.now result }
+    place: usize,
+) -> Precedence
+    requires { place < 64 }
+    ensures { IsPrecedence plan.now process.now cell.now place result }
 {
     match cell.stand {
-        SchedulingState::Ready => Some(ready_one(plan, process, cell.job.inside)),
-        _ => None,
+        SchedulingState::Ready => Precedence {
+            number: 64 * key_of(plan, process, cell.job.inside) + place as u32,
+        },
+        _ => Precedence { number: NOBODY },
     }
 }
 
-/// Whether one comes before the other; of two alike the one at the lower place does.
-#[inline(always)]
-fn comes_before(one: Candidate, its_place: usize, other: Candidate, other_place: usize) -> bool
-    ensures before { result ≡ true → IsNoLater one its_place other other_place }
-    ensures behind { result ≡ false → IsNoLater other other_place one its_place }
+/// The least of all.
+fn least_of(precedences: &[Precedence]) -> Precedence
+    ensures { result.number ≡ least_of precedences.now }
 {
-    if one.active_rank != other.active_rank {
-        return one.active_rank < other.active_rank;
+    let mut least = NOBODY;
+    for precedence in precedences {
+        least = least.min(precedence.number);
     }
-    if one.is_inside != other.is_inside {
-        return one.is_inside;
-    }
-    its_place < other_place
-}
-
-/// The first of the one at a place and the first so far, if there is one.
-#[inline(always)]
-fn first_of_two(
-    candidates: &[Option<Candidate>],
-    first: Option<usize>,
-    place: usize,
-) -> Option<usize>
-    requires there { IsThere candidates.now first }
-    requires place { place < length candidates.now }
-    ensures there { IsThere candidates.now result }
-    ensures place { IsBehind candidates.now result place }
-    ensures others { (j : ℕ) → IsBehind candidates.now first j → IsBehind candidates.now result j }
-{
-    let Some(candidate) = candidates[place] else {
-        return first;
-    };
-    let Some(best) = first else {
-        return Some(place);
-    };
-    let Some(ahead) = candidates[best] else {
-        return Some(place);
-    };
-    if comes_before(ahead, best, candidate, place) {
-        first
-    } else {
-        Some(place)
-    }
-}
-
-/// The first of all.
-fn first_of(candidates: &[Option<Candidate>]) -> Option<usize>
-    ensures { IsFirst candidates.now result }
-{
-    let mut first = None;
-    for place in 0..candidates.len() {
-        first = first_of_two(candidates, first, place);
-    }
-    first
-}
-
-/// Whether one stands as well as before, where it was ready.
-#[inline(always)]
-fn stands_as_well(now: Option<Candidate>, before: Option<Candidate>, place: usize) -> bool
-    ensures { result ≡ true → StandsAsWell now before place }
-{
-    match (now, before) {
-        (Some(now), Some(before)) => !comes_before(before, place, now, place),
-        _ => false,
-    }
-}
-
-/// The first of all, once one stands otherwise than before, when there was this first: all are
-/// looked at only where it was the first itself and does not stand as well.
-#[inline(always)]
-fn first_after(
-    candidates: &[Option<Candidate>],
-    first: Option<usize>,
-    who: usize,
-    before: Option<Candidate>,
-) -> Option<usize>
-    requires who { who < length candidates.now }
-    requires first { IsFirst (slice_set candidates.now who before) first }
-    ensures { IsFirst candidates.now result }
-{
-    if first != Some(who) {
-        return first_of_two(candidates, first, who);
-    }
-    if stands_as_well(candidates[who], before, who) {
-        first
-    } else {
-        first_of(candidates)
-    }
+    Precedence { number: least }
 }
 
 impl Ranking {
     /// Room for all processes; none is known.
     pub fn new() -> Ranking {
         Ranking {
-            candidates: ArrayVec::new(),
-            first: None,
+            precedences: ArrayVec::new(),
+            least: Precedence { number: NOBODY },
         }
     }
 
@@ -166,12 +92,11 @@ impl Ranking {
         ensures { (image : Image) → IsOf image plan.now → IsBoardOf image board.now →
             IsRanking image (state_of board.now).threads self.new }
     {
-        self.candidates.clear();
+        self.precedences.clear();
         for k in 0..board.cells.len() {
-            self.candidates
-                .push(candidate_of(plan, &plan.processes[k], &board.cells[k]));
+            self.precedences.push(precedence_of(plan, &plan.processes[k], &board.cells[k], k));
         }
-        self.first = first_of(self.candidates.as_slice());
+        self.least = least_of(self.precedences.as_slice());
     }
 
     /// Notes how a process stands, where all others stand as before.
@@ -185,13 +110,25 @@ impl Ranking {
             StandAsBefore at.threads (state_of board.now).threads who →
             IsRanking at.image (state_of board.now).threads self.new }
     {
-        let before = self.candidates.as_slice()[who];
-        self.candidates.as_mut_slice()[who] = candidate_of(
-            plan,
-            &plan.processes[who],
-            &board.cells[who],
-        );
-        self.first = first_after(self.candidates.as_slice(), self.first, who, before);
+        let precedence = precedence_of(plan, &plan.processes[who], &board.cells[who], who);
+        self.precedences.as_mut_slice()[who] = precedence;
+        if precedence.number <= self.least.number {
+            self.least = precedence;
+        } else {
+            self.least = least_of(self.precedences.as_slice());
+        }
+    }
+
+    /// The process that is picked.
+    #[inline(always)]
+    fn told(&self) -> Option<usize>
+        ensures { (at : Standing) → IsRanking at.image at.threads self.now →
+            result ≡ place_of (pick at.image at.threads) }
+    {
+        if self.least.number == NOBODY {
+            return None;
+        }
+        Some((self.least.number % 64) as usize)
     }
 }
 
@@ -223,7 +160,7 @@ impl Dispatch for Ranking {
 
     #[inline(always)]
     fn first(&mut self, _plan: &DecodedImage, _board: &MachineState) -> Option<usize> {
-        self.first
+        self.told()
     }
 
     /// Where none of the events is at a queue, all others stand as before.

@@ -8,8 +8,9 @@ ghost use Rattle.vm_stretch.specs.StretchDue.{AreInOrder};
 ghost use Rattle.vm_runner.specs.Setup.{IsSetUp};
 ghost use Rattle.vm_runner.specs.Turn.{Run};
 
+use out_of_memory::OutOfMemory;
 use script::Script;
-use std::alloc::{AllocError, Global};
+use std::alloc::Global;
 use vm_releases::Timers;
 use vm_state::{DecodedImage, MachineState};
 
@@ -24,7 +25,7 @@ pub struct Setup {
 impl Setup {
     /// It takes all the memory that a machine needs beside its dispatch; an error says that memory
     /// is short.
-    pub fn new(alloc: Global, plan: &DecodedImage, script: &Script) -> Result<Setup, AllocError>
+    pub fn new(alloc: Global, plan: &DecodedImage, script: &Script) -> Result<Setup, OutOfMemory>
         ghost run: { Run }
         requires plan { IsOf run.image plan.now }
         requires script { run.script ≡ script_of script.now }

@@ -51,11 +51,15 @@ fn is_at_queue(event: &Event) -> bool
     )
 }
 
-/// Whether one of the events is such.
+/// Whether one of the events is such. Of a row there is one at most, which is told without a loop.
 #[inline(always)]
+#[tactic(auto, using(crate::proofs::Waiting::one_at_queue))]
 pub(crate) fn is_some_at_queue(events: &[Event]) -> bool
     ensures { result ≡ is_some_at_queue events.now }
 {
+    if events.len() == 1 {
+        return is_at_queue(&events[0]);
+    }
     for event in events {
         if is_at_queue(event) {
             return true;

@@ -8,7 +8,8 @@ ghost use Rattle.vm_state.specs.Board.{Begins, rows_of};
 
 use crate::decoded_image::{DecodedImage, DecodedProcess};
 use crate::{ControlBlock, Queues, SchedulingState};
-use std::alloc::{AllocError, Global};
+use out_of_memory::OutOfMemory;
+use std::alloc::Global;
 use vm_instructions::{Activation, Frames};
 
 /// The state of the machine. Once made, it takes no memory.
@@ -26,7 +27,7 @@ pub struct MachineState {
 }
 
 /// An idle process with so many words of stack.
-fn idle(alloc: Global, stack: usize) -> Result<ControlBlock, AllocError>
+fn idle(alloc: Global, stack: usize) -> Result<ControlBlock, OutOfMemory>
     ensures idle { IfOk result (λ cell. cell.stand ≡ stand.Idle) }
     ensures room { IfOk result (λ cell. cell.job.frames.room ≡ stack) }
 {
@@ -44,7 +45,7 @@ fn idle(alloc: Global, stack: usize) -> Result<ControlBlock, AllocError>
 }
 
 /// The processes, all idle.
-fn idle_cells(alloc: Global, processes: &[DecodedProcess]) -> Result<Vec<ControlBlock>, AllocError>
+fn idle_cells(alloc: Global, processes: &[DecodedProcess]) -> Result<Vec<ControlBlock>, OutOfMemory>
     ensures idle { IfOk result (λ cells. threads_of cells.items ≡ map (λ p. Idle) processes.now) }
     ensures rooms { IfOk result (λ cells. rooms_of cells.items ≡ map (λ p. p.stack) processes.now) }
 {
@@ -57,7 +58,7 @@ fn idle_cells(alloc: Global, processes: &[DecodedProcess]) -> Result<Vec<Control
 
 /// So many words that are 0.
 #[tactic(auto, using(crate::proofs::Starting::zeros_are))]
-fn zero_words(alloc: Global, words: usize) -> Result<Vec<i32>, AllocError>
+fn zero_words(alloc: Global, words: usize) -> Result<Vec<i32>, OutOfMemory>
     ensures { IfOk result (λ row. row.items ≡ zeros words) }
 {
     let row = vec![in alloc; 0; words]?;
@@ -65,7 +66,7 @@ fn zero_words(alloc: Global, words: usize) -> Result<Vec<i32>, AllocError>
 }
 
 /// By process its words, all 0.
-fn zero_rows(alloc: Global, processes: &[DecodedProcess]) -> Result<Vec<Vec<i32>>, AllocError>
+fn zero_rows(alloc: Global, processes: &[DecodedProcess]) -> Result<Vec<Vec<i32>>, OutOfMemory>
     ensures { IfOk result (λ rows. rows_of rows.items ≡ map (λ p. zeros p.words) processes.now) }
 {
     let mut rows = Vec::with_capacity(alloc, processes.len())?;
@@ -78,7 +79,7 @@ fn zero_rows(alloc: Global, processes: &[DecodedProcess]) -> Result<Vec<Vec<i32>
 impl MachineState {
     /// All processes idle, all words 0, nobody waiting, no device set. It takes all the memory
     /// that the run needs; an error says that memory is short.
-    pub fn new(alloc: Global, plan: &DecodedImage) -> Result<MachineState, AllocError>
+    pub fn new(alloc: Global, plan: &DecodedImage) -> Result<MachineState, OutOfMemory>
         ensures { IfOk result (λ board. Begins plan.now board) }
     {
         Ok(MachineState {

@@ -5,7 +5,8 @@ ghost use Rattle.machine_semantics.specs.Starts.{queue_of, without};
 ghost use Rattle.machine_semantics.specs.Tick.{first, rest};
 ghost use Rattle.vm_state.specs.Queues.{HaveRoom, rows_of};
 
-use std::alloc::{AllocError, Global};
+use out_of_memory::OutOfMemory;
+use std::alloc::Global;
 use std::marker::Model;
 
 /// By condition the processes that wait on it, the first to come first. Once made, it takes no
@@ -48,7 +49,7 @@ fn leave_row(row: &mut Vec<u16>, process: u16)
 }
 
 /// So many rows in which nobody stands, each with its room.
-fn empty_rows(alloc: Global, conditions: usize) -> Result<Vec<Vec<u16>>, AllocError>
+fn empty_rows(alloc: Global, conditions: usize) -> Result<Vec<Vec<u16>>, OutOfMemory>
     ensures empty { IfOk result (λ rows. rows_of rows.items ≡ replicate conditions []) }
     ensures room { IfOk result (λ rows. HaveRoom rows.items) }
 {
@@ -61,7 +62,7 @@ fn empty_rows(alloc: Global, conditions: usize) -> Result<Vec<Vec<u16>>, AllocEr
 
 impl Queues {
     /// By condition a queue in which nobody stands. It takes all the memory that the queues need.
-    pub fn new(alloc: Global, conditions: usize) -> Result<Queues, AllocError>
+    pub fn new(alloc: Global, conditions: usize) -> Result<Queues, OutOfMemory>
         ensures { IfOk result (λ queues. queues ≡ replicate conditions []) }
     {
         let rows = empty_rows(alloc, conditions)?;

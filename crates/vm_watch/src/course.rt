@@ -13,8 +13,9 @@ ghost use Rattle.vm_watch.specs.Follows.{Follows};
 use base::Event;
 use circular_buffer::HeapCircularBuffer;
 use command_words::Breakpoint;
+use out_of_memory::OutOfMemory;
 use script::Script;
-use std::alloc::{AllocError, Global};
+use std::alloc::Global;
 use vm_runner::{Machine, Ranking};
 use vm_state::DecodedImage;
 use vm_stretch::Completed;
@@ -45,7 +46,7 @@ impl Course {
         alloc: Global,
         plan: &DecodedImage,
         script: &Script,
-    ) -> Result<Course, AllocError>
+    ) -> Result<Course, OutOfMemory>
         ghost image: { Image }
         requires plan { IsOf image plan.now }
         requires runnable { IsRunnable image (script_of script.now) }

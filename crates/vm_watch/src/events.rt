@@ -9,11 +9,11 @@ use base::Event;
 use event_log::{LineBuffer, write_line};
 use image::ImageNames;
 use itoa::Buffer;
-use std::alloc::AllocError;
+use out_of_memory::OutOfMemory;
 use syntax_tree::Text;
 
 /// Puts a word, a number behind it, and ends the line.
-fn put_number(text: &mut Text, word: &[u8], number: u64) -> Result<(), AllocError>
+fn put_number(text: &mut Text, word: &[u8], number: u64) -> Result<(), OutOfMemory>
     ensures { OnOk result (text.new ≡ text.old ++ (word.now ++ (decimal number ++ codes "\n"))) }
 {
     let mut digits = Buffer::new();
@@ -24,7 +24,7 @@ fn put_number(text: &mut Text, word: &[u8], number: u64) -> Result<(), AllocErro
 }
 
 /// Puts the line of the tick. An error says that memory is short.
-pub fn put_tick(text: &mut Text, tick: u64) -> Result<(), AllocError>
+pub fn put_tick(text: &mut Text, tick: u64) -> Result<(), OutOfMemory>
     ensures { OnOk result (text.new ≡ text.old ++ (codes "tick " ++ (decimal tick ++ codes "\n"))) }
 {
     put_number(text, b"tick ", tick)
@@ -36,7 +36,7 @@ fn put_event(
     line: &mut LineBuffer,
     names: &ImageNames,
     event: &Event,
-) -> Result<(), AllocError>
+) -> Result<(), OutOfMemory>
     requires { AreIn names.now event.now }
     ensures { OnOk result (text.new ≡ text.old ++ line_of names.now event.now) }
 {
@@ -45,7 +45,7 @@ fn put_event(
 }
 
 /// Puts the lines of events.
-fn put_log(text: &mut Text, names: &ImageNames, events: &[Event]) -> Result<(), AllocError>
+fn put_log(text: &mut Text, names: &ImageNames, events: &[Event]) -> Result<(), OutOfMemory>
     requires { All (AreIn names.now) events.now }
     ensures { OnOk result (text.new ≡ text.old ++ log_of names.now events.now) }
 {
@@ -57,7 +57,7 @@ fn put_log(text: &mut Text, names: &ImageNames, events: &[Event]) -> Result<(), 
 }
 
 /// Puts how many events there are, and their lines. An error says that memory is short.
-pub fn put_recent(text: &mut Text, names: &ImageNames, events: &[Event]) -> Result<(), AllocError>
+pub fn put_recent(text: &mut Text, names: &ImageNames, events: &[Event]) -> Result<(), OutOfMemory>
     requires { All (AreIn names.now) events.now }
     ensures { OnOk result (text.new ≡ text.old ++ recent_text names.now events.now) }
 {

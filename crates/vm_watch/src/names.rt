@@ -4,7 +4,7 @@ ghost use Rattle.std.specs.Prelude.{◌≡◌, ◌++◌, [], OnOk, Some, slice_g
 ghost use Rattle.event_log.specs.Line.{condition_name, monitor_name, process_name, qualified};
 
 use image::{ConditionName, ImageNames};
-use std::alloc::AllocError;
+use out_of_memory::OutOfMemory;
 use syntax_tree::{Name, Text};
 
 /// The name of a number, or no bytes where it has none.
@@ -36,7 +36,7 @@ fn put_qualified(
     text: &mut Text,
     names: &ImageNames,
     condition: &ConditionName,
-) -> Result<(), AllocError>
+) -> Result<(), OutOfMemory>
     ensures { OnOk result (text.new ≡ text.old ++ qualified names.now (Some condition.now)) }
 {
     text.extend(monitor_of(names, condition.mon as usize))?;
@@ -50,7 +50,7 @@ pub(crate) fn put_condition(
     text: &mut Text,
     names: &ImageNames,
     number: usize,
-) -> Result<(), AllocError>
+) -> Result<(), OutOfMemory>
     ensures { OnOk result (text.new ≡ text.old ++ condition_name names.now number) }
 {
     match names.conditions.as_slice().get(number) {

@@ -8,12 +8,12 @@ ghost use Rattle.vm_watch.specs.Told.{told_monitor, told_process};
 use crate::names::{monitor_of, process_of, put_condition};
 use image::ImageNames;
 use itoa::Buffer;
-use std::alloc::AllocError;
+use out_of_memory::OutOfMemory;
 use syntax_tree::Text;
 use vm_stretch::View;
 
 /// Puts a space and a number with its sign.
-fn put_word(text: &mut Text, word: i32) -> Result<(), AllocError>
+fn put_word(text: &mut Text, word: i32) -> Result<(), OutOfMemory>
     ensures { OnOk result (text.new ≡ text.old ++ (codes " " ++ signed_decimal word)) }
 {
     let mut digits = Buffer::new();
@@ -23,7 +23,7 @@ fn put_word(text: &mut Text, word: i32) -> Result<(), AllocError>
 }
 
 /// Puts words, each after a space, and ends the line.
-fn put_words(text: &mut Text, words: &[i32]) -> Result<(), AllocError>
+fn put_words(text: &mut Text, words: &[i32]) -> Result<(), OutOfMemory>
     ensures { OnOk result (text.new ≡ text.old ++ words_text words.now) }
 {
     for word in words {
@@ -34,7 +34,7 @@ fn put_words(text: &mut Text, words: &[i32]) -> Result<(), AllocError>
 }
 
 /// Puts the monitor that a process is inside, or a dash.
-fn put_inside(text: &mut Text, names: &ImageNames, inside: Option<u16>) -> Result<(), AllocError>
+fn put_inside(text: &mut Text, names: &ImageNames, inside: Option<u16>) -> Result<(), OutOfMemory>
     ensures { OnOk result (text.new ≡ text.old ++ inside_text names.now inside) }
 {
     match inside {
@@ -50,7 +50,7 @@ fn put_ready(
     at: usize,
     left: u32,
     inside: Option<u16>,
-) -> Result<(), AllocError>
+) -> Result<(), OutOfMemory>
     ensures { OnOk result (text.new ≡ text.old ++ view_text names.now (View.Ready at left inside)) }
 {
     let mut address = Buffer::new();
@@ -69,7 +69,7 @@ fn put_waiting(
     names: &ImageNames,
     condition: u16,
     due: u64,
-) -> Result<(), AllocError>
+) -> Result<(), OutOfMemory>
     ensures { OnOk result (text.new ≡ text.old ++
         view_text names.now (View.Waiting condition due)) }
 {
@@ -82,7 +82,7 @@ fn put_waiting(
 }
 
 /// Puts how a process stands.
-fn put_view(text: &mut Text, names: &ImageNames, view: View) -> Result<(), AllocError>
+fn put_view(text: &mut Text, names: &ImageNames, view: View) -> Result<(), OutOfMemory>
     ensures { OnOk result (text.new ≡ text.old ++ view_text names.now view) }
 {
     match view {
@@ -100,7 +100,7 @@ pub fn put_process(
     process: usize,
     view: View,
     words: &[i32],
-) -> Result<(), AllocError>
+) -> Result<(), OutOfMemory>
     ensures { OnOk result (text.new ≡ text.old ++ told_process names.now process view words.now) }
 {
     text.extend(b"process ")?;
@@ -115,7 +115,7 @@ fn put_occupant(
     text: &mut Text,
     names: &ImageNames,
     occupant: Option<usize>,
-) -> Result<(), AllocError>
+) -> Result<(), OutOfMemory>
     ensures { OnOk result (text.new ≡ text.old ++ occupant_text names.now occupant) }
 {
     match occupant {
@@ -135,7 +135,7 @@ pub fn put_monitor(
     monitor: usize,
     occupant: Option<usize>,
     words: &[i32],
-) -> Result<(), AllocError>
+) -> Result<(), OutOfMemory>
     ensures { OnOk result (text.new ≡ text.old ++
         told_monitor names.now monitor occupant words.now) }
 {

@@ -13,7 +13,8 @@ ghost use Rattle.vm_watch.specs.Shown.{IsShownOfMonitor, IsShownOfProcess};
 
 use crate::{monitor_word, occupant, put_monitor, put_process, view, word};
 use image_bytes::ImageBytes;
-use std::alloc::{AllocError, Global};
+use out_of_memory::OutOfMemory;
+use std::alloc::Global;
 use syntax_tree::Text;
 use vm_runner::{Machine, Ranking};
 use vm_state::DecodedImage;
@@ -45,7 +46,7 @@ fn words_of_process(
     machine: &Machine<Ranking>,
     process: usize,
     count: usize,
-) -> Result<Vec<i32>, AllocError>
+) -> Result<Vec<i32>, OutOfMemory>
     ghost run: { Run }
     requires stands { StandsIn run.image run.script machine.now }
     requires count { count ≤
@@ -67,7 +68,7 @@ fn words_of_monitor(
     machine: &Machine<Ranking>,
     monitor: u16,
     count: usize,
-) -> Result<Vec<i32>, AllocError>
+) -> Result<Vec<i32>, OutOfMemory>
     ghost run: { Run }
     requires image { run.image ≡ image.now.image }
     requires stands { StandsIn run.image run.script machine.now }
@@ -91,7 +92,7 @@ fn put_one_process(
     plan: &DecodedImage,
     machine: &Machine<Ranking>,
     process: u16,
-) -> Result<(), AllocError>
+) -> Result<(), OutOfMemory>
     ghost run: { Run }
     requires image { run.image ≡ image.now.image }
     requires plan { IsOf run.image plan.now }
@@ -115,7 +116,7 @@ fn put_one_monitor(
     image: &ImageBytes,
     machine: &Machine<Ranking>,
     monitor: u16,
-) -> Result<(), AllocError>
+) -> Result<(), OutOfMemory>
     ghost run: { Run }
     requires image { run.image ≡ image.now.image }
     requires stands { StandsIn run.image run.script machine.now }
@@ -138,7 +139,7 @@ fn put_processes(
     image: &ImageBytes,
     plan: &DecodedImage,
     machine: &Machine<Ranking>,
-) -> Result<(), AllocError>
+) -> Result<(), OutOfMemory>
     ghost run: { Run }
     requires image { run.image ≡ image.now.image }
     requires plan { IsOf run.image plan.now }
@@ -160,7 +161,7 @@ fn put_monitors(
     text: &mut Text,
     image: &ImageBytes,
     machine: &Machine<Ranking>,
-) -> Result<(), AllocError>
+) -> Result<(), OutOfMemory>
     ghost run: { Run }
     requires image { run.image ≡ image.now.image }
     requires stands { StandsIn run.image run.script machine.now }
@@ -182,7 +183,7 @@ pub(crate) fn put_state(
     image: &ImageBytes,
     plan: &DecodedImage,
     machine: &Machine<Ranking>,
-) -> Result<(), AllocError>
+) -> Result<(), OutOfMemory>
     ghost run: { Run }
     requires image { run.image ≡ image.now.image }
     requires plan { IsOf run.image plan.now }

@@ -18,8 +18,9 @@ use crate::told::put_state;
 use crate::{put_recent, put_tick};
 use command_words::Breakpoint;
 use image_bytes::ImageBytes;
+use out_of_memory::OutOfMemory;
 use script::Script;
-use std::alloc::{AllocError, Global};
+use std::alloc::Global;
 use syntax_tree::Text;
 use vm_plan::plan_of;
 use vm_state::DecodedImage;
@@ -30,7 +31,7 @@ fn tell(
     image: &ImageBytes,
     plan: &DecodedImage,
     course: &Course,
-) -> Result<Text, AllocError>
+) -> Result<Text, OutOfMemory>
     ghost run: { Run }
     requires image { run.image ≡ image.now.image }
     requires plan { IsOf run.image plan.now }
@@ -56,7 +57,7 @@ fn watch_by(
     plan: &DecodedImage,
     script: &Script,
     stop: Breakpoint,
-) -> Result<Text, AllocError>
+) -> Result<Text, OutOfMemory>
     ghost run: { Run }
     requires image { run.image ≡ image.now.image }
     requires script { run.script ≡ script_of script.now }
@@ -79,7 +80,7 @@ pub fn watch(
     image: &ImageBytes,
     script: &Script,
     stop: Breakpoint,
-) -> Result<Text, AllocError>
+) -> Result<Text, OutOfMemory>
     requires { CanRunByRanks image.now script.now }
     ensures { IfOk result (λ text.
         IsStopText image.now script.now.lines script.now.end stop text) }

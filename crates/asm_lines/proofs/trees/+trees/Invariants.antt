@@ -1,4 +1,5 @@
-use Rattle.std.proofs.Common.{◌≡◌, ◌+◌, ◌-◌, ◌*◌}
+use Rattle.std.proofs.Common.{◌≡◌, ◌≤◌, ◌+◌, ◌-◌, ◌*◌, length}
+use Rattle.image_format.specs.TreeBytes.{AllRowsFit}
 use Rattle.image_format.specs.View.{views}
 use Rattle.text_fields.specs.Front.{front}
 use Rattle.asm_lines.specs.Trees.{seg_read, segs_read, tree_read}
@@ -27,6 +28,10 @@ abbrev pub decreases-segs_at : goal.decreases-segs_at
 decreases-segs_at l = 5 * l.depth + 4
 
 abbrev pub invariant-segs_at-loop : goal.invariant-segs_at-loop
-invariant-segs_at-loop l =
-    with_front (views l.segs) (segs_read (seg_read l.monitors (tree_read l.monitors l.depth)) (l.most - l.counter) (front l.place))
-    ≡ segs_read (seg_read l.monitors (tree_read l.monitors l.depth)) l.most (front l.at)
+invariant-segs_at-loop l = record {
+  read :
+      with_front (views l.segs) (segs_read (seg_read l.monitors (tree_read l.monitors l.depth)) (l.most - l.counter) (front l.place))
+      ≡ segs_read (seg_read l.monitors (tree_read l.monitors l.depth)) l.most (front l.at);
+  few : length l.segs ≤ l.counter;
+  fits : AllRowsFit (views l.segs);
+}

@@ -7,8 +7,8 @@ use Rattle.image_format.specs.View.{view, view_step}
 use Rattle.text_fields.specs.Front.{front}
 use Rattle.asm_lines.proofs.trees.call_at.Goals as goal
 
-pub returns : goal.returns
-returns c =
+pub returns-clause-read : goal.returns-clause-read
+returns-clause-read c =
     let n = c.in_ok-routine.routine in
     let seen : view (Call n) ≡ tree.Call n = ap view (sym (rolls-Call n)) ∙ fold-roll-Seg tree.Seg view_step (Seg-F.Call n) in
     rw c.in_ok-routine.ensures (ap (λ (segment : tree.Seg). Ok (segment, front c.in_ok-routine.at)) (sym seen))

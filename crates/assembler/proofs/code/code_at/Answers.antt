@@ -13,7 +13,7 @@ use Rattle.assembler.proofs.code.code_at.Goals as goal
 
 refused : (e : FieldError) (s : Front) → Refuses e s → Fails e (code_read false s)
 unfolding code_read
-refused errors.Memory s h = tt
+refused (errors.Memory _) s h = tt
 refused (errors.Fault f) s h = ap (λ x. Err x) (sym h)
 
 pub returns-then-not-is_complete : goal.returns-then-not-is_complete

@@ -11,5 +11,5 @@ loop-number-preserved g c =
     let h = g.P.Names.Lookup.program c.routine_names-names.result.now in
     let within : c.loop-number.number < length (numbered p) = grind (arith, common_steps) in
     row_turn p h (numbered p) c.loop-number.number (g.P.Names.Lookup.scope c.routine_names-names.result.now) c.words-words.result (plain_routine (placed_routine c.routine.result.now)) c.in_ok-next.next c.loop-number.rows c.push.new.self _
-    within c.routine_names-names.ensures.program c.routine_names-names.ensures.scope c.words-words.ensures c.routine.ensures
+    within c.routine_names-names.ensures.program c.routine_names-names.ensures.scope c.words-words.ensures.exact c.routine.ensures
     (grind (arith, common_steps)) (grind (arith, common_steps)) c.loop-number.invariant

@@ -1,8 +1,12 @@
-use Rattle.std.proofs.Common.{◌≡◌, drop, []}
+use Rattle.std.proofs.Common.{◌≡◌}
 use Rattle.syntax_tree.specs.Placed.{placed, plain}
-use Rattle.code_spec.specs.Numbering.{visit_texts}
+use Rattle.code_spec.specs.Numbering.{numbered}
+use Rattle.code_names.specs.Tasks.{after_tasks, task_count}
 use Rattle.code_names.specs.Texts.{texts_of}
 use Rattle.code_names.proofs.order.ordered.Given as goal
 
-abbrev pub invariant-loop-text : goal.invariant-loop-text
-invariant-loop-text l = visit_texts l.depth (plain (placed l.directory)) (texts_of l.order) (texts_of (drop l.text-index l.text-items)) ≡ visit_texts l.depth (plain (placed l.directory)) [] (texts_of l.text-items)
+abbrev pub invariant-loop-task : goal.invariant-loop-task
+invariant-loop-task l = after_tasks (plain (placed l.directory)) l.tasks.items (texts_of l.order) ≡ numbered (plain (placed l.directory))
+
+abbrev pub decreases-loop-task : goal.decreases-loop-task
+decreases-loop-task l = task_count (plain (placed l.directory)) l.tasks.items

@@ -1,12 +1,15 @@
-use Rattle.std.proofs.Common.{◌++◌, ap, sym, ◌∙◌, arith}
-use Rattle.image_format.specs.Numbers.{u32}
-use Rattle.image_format.proofs.PutRows.{tree_fits, tree_written}
+use Rattle.std.proofs.Common.{arith}
+use Rattle.image_format.proofs.PutRows.{row-views, tree_fits, tree_written}
 use Rattle.image_format.proofs.put_trees.+trees.Goals as goal
+
+pub put_tree-overflow_cast-tree : goal.put_tree-overflow_cast-tree
+put_tree-overflow_cast-tree t c = omega (arith, c.requires.rows.0, row-views c.args.tree.now)
 
 pub put_tree-returns-clause-written : goal.put_tree-returns-clause-written
 put_tree-returns-clause-written t c =
     tree_written c.loop-seg.out.items c.args.out.now.items c.put_u32.new.out.items c.args.tree.now c.loop-seg.seg-index c.loop-seg-test.false
-    (c.in_ok-put_u32.ensures ∙ ap (λ n. c.args.out.now.items ++ u32 n) c.in-Some-Ok.ensures'.1) c.loop-seg.invariant.written
+    c.in_ok-put_u32.ensures c.loop-seg.invariant.written
 
 pub put_tree-returns-clause-fits : goal.put_tree-returns-clause-fits
-put_tree-returns-clause-fits t c = tree_fits c.args.depth c.in-Some-Ok.below c.in-Some-Ok.count c.args.tree.now c.loop-seg.seg-index (omega (arith, c.in-Some-Ok.ensures)) (sym c.in-Some-Ok.ensures'.1) (omega (arith, c.in-Some-Ok.ensures'.0, c.in-Some-Ok.ensures'.1)) c.loop-seg-test.false c.loop-seg.invariant.fits
+put_tree-returns-clause-fits t c =
+    tree_fits c.args.depth c.args.tree.now c.loop-seg.seg-index (omega (arith, c.requires.room, c.len-bytes.ensures, c.len-bytes.type_inv)) c.requires.rows.0 c.loop-seg-test.false c.loop-seg.invariant.fits

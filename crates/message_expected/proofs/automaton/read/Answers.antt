@@ -1,5 +1,6 @@
 use Rattle.std.proofs.Common.{◌≡◌, ap, inl, inr, ◌∙◌}
 use Rattle.std.proofs.lemmas.Result.{IfOk-weaker}
+use Rattle.out_of_memory.specs.Refused.{refused}
 use Rattle.syntax.proofs.LawLemmas.{only_memory}
 use Rattle.syntax.specs.declared.fault.LexFault.TheVariants as lex
 use Rattle.message_expected.specs.Automaton as automaton
@@ -14,5 +15,5 @@ returns-in-Ok c =
 
 pub returns-in-Err : goal.returns-in-Err
 returns-in-Err c =
-    IfOk-weaker c.lead_nowhere.result (λ it. (reached_of it ≡ automaton.stopped) × (c.in-Err.fault ≡ lex.Memory → ⊥)) (λ it. Leads c.args.text.now (reached_of it))
+    IfOk-weaker c.lead_nowhere.result (λ it. (reached_of it ≡ automaton.stopped) × (c.in-Err.fault ≡ lex.Memory refused → ⊥)) (λ it. Leads c.args.text.now (reached_of it))
     (λ it (is, other). inr (λ toks listed. other (only_memory c.args.text.now toks c.in-Err.fault c.in-Err.ensures.cause listed), is)) c.lead_nowhere.ensures

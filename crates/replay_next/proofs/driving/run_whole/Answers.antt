@@ -1,4 +1,4 @@
-use Rattle.std.specs.Prelude.{List, None, reverse}
+use Rattle.std.specs.Prelude.{List, None}
 use Rattle.std.proofs.Common.{◌∙◌, ap}
 use Rattle.source_semantics.specs.Run as run
 use Rattle.source_semantics.specs.Next.{run_items}
@@ -15,6 +15,6 @@ returns c =
     let site = site_of s c.args.home c.args.depth in
     let m = memory_of c.args.memory.now in
     let now = others_of None c.args.memory.now in
-    let items = ap rest_of (c.reverse.ensures.items ∙ ap reverse c.in_ok-rest.ensures.items) ∙ rest_turned c.args.items.now in
+    let items = ap rest_of c.reverse.ensures.items ∙ rest_turned c.args.items.items in
     let whole = ap (λ (l : List Caller). callers_run s l now (then_items site (rest_of c.reverse.new.self.items) (run.goes m))) c.new.ensures.items ∙ ap (run_items site m) items in
     ok_all c.run_on.result _ _ (λ came h. h ∙ whole) c.run_on.ensures

@@ -1,4 +1,5 @@
-use Rattle.std.proofs.Common.{◌<◌, ◌+◌, ◌-◌, ◌*◌, ◌/◌, length, IsTrue, arith}
+use Rattle.std.proofs.Common.{◌∙◌, sym, ◌<◌, ◌+◌, ◌-◌, ◌*◌, ◌/◌, length, IsTrue, arith}
+use Rattle.std.proofs.lemmas.Bool.{false≢true}
 use Rattle.sched_sensitivity.specs.Slack.{evaluations}
 use Rattle.sched_sensitivity.proofs.Halving.{Pass, next_pass}
 use Rattle.sched_sensitivity.proofs.Overheads.{falls, greatest}
@@ -52,7 +53,7 @@ loop-too_many-preserved g c =
       fits = old.fits;
       fails = λ y above most timely.
           let yes : IsTrue c.in_ok-overhead_fits.field-0 = c.in_ok-overhead_fits.ensures.fits.1 (falls c.args.tasks.now middle y above timely) in
-          cc;
+          false≢true (sym c.if-branch.false ∙ yes);
       between = omega (arith, wide);
       below = omega (arith, old.below, wide);
       passes = (pass.left, pass.lower, pass.cost);

@@ -1,4 +1,4 @@
-use Rattle.std.proofs.Common.{◌≡◌, ◌-◌, take, vec_len, length}
+use Rattle.std.proofs.Common.{◌≡◌, ◌-◌, take, vec_len}
 use Rattle.machine_semantics.specs.State.{zeros}
 use Rattle.vm_instructions.specs.Inside.{part}
 use Rattle.vm_instructions.proofs.frames.clear.Given as goal

@@ -2,7 +2,8 @@
 use Rattle.std.proofs.Common.{w32, rules}
 use Rattle.std.specs.Prelude.{FitsSigned}
 use Rattle.std.proofs.lemmas.Int.{to_z-of_z}
-use Rattle.vm_instructions.proofs.Elements.{last_there, loads}
+use Rattle.vm_instructions.specs.Stack.{stacked}
+use Rattle.vm_instructions.proofs.Elements.{last_there, loads_own}
 use Rattle.vm_instructions.proofs.words.load_own_at.Goals as goal
 
 pub read-requires : goal.read-requires
@@ -12,7 +13,7 @@ read-requires c =
     let n : FitsSigned w32 c.args.len = c.ranges.len in
     let w : FitsSigned w32 c.args.word = c.ranges.word in
     let e = simp to_z-of_z at c.in-Some.ensures in
-    last_there c.args.frames.now c.take-index.new.self c.args.owned.now c.args.word c.args.low c.args.len c.take-index.result c.in-Some.at c.take-index.ensures.taken c.requires.word e.0 e.1
+    last_there (stacked c.args.top.now c.args.stack.now) (stacked c.take-index.new.top c.args.stack.now) c.args.owned.now c.args.word c.args.low c.args.len c.take-index.result c.in-Some.at c.take-index.ensures.taken c.requires.word e.0 e.1
 
 pub returns-in-Some-clause-does : goal.returns-in-Some-clause-does
 returns-in-Some-clause-does c =
@@ -22,5 +23,5 @@ returns-in-Some-clause-does c =
     let n : FitsSigned w32 c.args.len = c.ranges.len in
     let w : FitsSigned w32 c.args.word = c.ranges.word in
     let e = simp to_z-of_z at c.in-Some.ensures in
-    let h = simp to_z-of_z at c.give.ensures in
-    loads c.args.frames.now c.take-index.new.self c.give.new.self c.args.owned.now c.args.word c.args.low c.args.len c.take-index.result c.read.result c.in-Some.at c.take-index.ensures.taken h e.0 e.1 c.read.ensures
+    let h = simp to_z-of_z at c.give.ensures.given in
+    loads_own (stacked c.args.top.now c.args.stack.now) (stacked c.take-index.new.top c.args.stack.now) (stacked c.give.new.top c.give.new.stack) c.args.owned.now c.args.word c.args.low c.args.len c.take-index.result c.read.result c.in-Some.at c.take-index.ensures.taken h e.0 e.1 c.read.ensures

@@ -1,5 +1,5 @@
 -- The differences are within 64 bits.
-use Rattle.std.proofs.Common.{◌≡◌, true, arith}
+use Rattle.std.proofs.Common.{arith}
 use Rattle.std.proofs.lemmas.Int.{ints}
 use Rattle.vm_instructions.proofs.words.offset.Goals as goal
 use Rattle.vm_instructions.proofs.words.offset.Goals.{then-k-lt0-via-then-k-lt0, then-k-lt0-via-else-k-lt0+then-k-from}

@@ -1,12 +1,11 @@
 -- The arguments are in the row, and the new frame has room.
-use Rattle.std.proofs.Common.{◌≡◌, ◌≤◌, ◌+◌, ◌-◌, ◌++◌, map, List, [], ◌∷◌, reverse, arith, refl, ◌∙◌, ap, sym, subst, rules, length}
+use Rattle.std.proofs.Common.{◌≡◌, ◌≤◌, ◌+◌, ◌-◌, ◌++◌, map, List, [], ◌∷◌, reverse, arith, ◌∙◌, ap, sym, subst, rules, length}
 use Rattle.std.proofs.lemmas.List.{length-append, reverse-append}
 use Rattle.vm_instructions.specs.declared.frames.Mark.{Mark}
 use Rattle.machine_semantics.specs.State.{zeros}
 use Rattle.vm_instructions.specs.declared.operand.Operand.{Operand as Kept}
 use Rattle.vm_instructions.specs.Frames.{value}
 use Rattle.vm_instructions.specs.Inside.{Ascend, part}
-use Rattle.std.proofs.lemmas.Grind.{common_steps}
 use Rattle.vm_instructions.proofs.Rows.{call_room, call_leaves, if_some, some_of}
 use Rattle.vm_instructions.proofs.frames.Frames.call.Goals as goal
 

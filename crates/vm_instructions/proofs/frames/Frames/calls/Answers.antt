@@ -1,5 +1,5 @@
 -- A caller for each mark.
-use Rattle.std.proofs.Common.{◌∙◌, sym, ap, arith, length}
+use Rattle.std.proofs.Common.{ap, arith, length}
 use Rattle.vm_instructions.specs.Frames.{Frames}
 use Rattle.vm_instructions.proofs.Rows.{calls_are}
 use Rattle.vm_instructions.proofs.frames.Frames.calls.Goals as goal

@@ -1,5 +1,5 @@
 -- What is in use tells that there is room.
-use Rattle.std.proofs.Common.{arith, refl, length-set}
+use Rattle.std.proofs.Common.{arith, length-set}
 use Rattle.vm_instructions.proofs.Rows.{has_room, is_full, push_leaves}
 use Rattle.vm_instructions.proofs.frames.Frames.push.Goals as goal
 
