@@ -3,49 +3,16 @@
 ghost use Rattle.std.specs.Prelude.{◌≡◌, [], ◌∷◌, map};
 ghost use Rattle.syntax_tree.specs.Placed.{placed, placed_scalar, placed_kind, placed_var, placed_param, placed_routine, placed_member, placed_decl, optional};
 ghost use Rattle.static_declarations.specs.Values.{value};
-ghost use Rattle.static_numbers.specs.Types.{crossed as crossed_of, too_long as too_long_of, scalar_bounds, kind_bounds, vars_bounds, params_bounds, result_bounds, routine_bounds, routines_bounds, member_bounds, members_bounds, decl_bounds, decls_bounds};
+ghost use Rattle.static_numbers.specs.Types.{scalar_bounds, kind_bounds, vars_bounds, params_bounds, result_bounds, routine_bounds, routines_bounds, member_bounds, members_bounds, decl_bounds, decls_bounds};
+ghost use Rattle.static_numbers.specs.Seen.{bounds_of};
 ghost use Rattle.message_rules.specs.Findings.{bounds_findings};
-ghost use Rattle.message_rules.specs.Seen.{LookedAt, bounds_of, left};
+ghost use Rattle.message_rules.specs.Seen.{LookedAt, left};
 
 use crate::fault::{Fault, Quantity, note};
 use static_declarations::Declarations;
+use static_numbers::{Bounds, crossed, too_long};
 use static_rule::{Violation, rule};
-use syntax_tree::{Constant, Declaration, Member, Param, Place, Routine, Scalar, Type, Var};
-
-/// An array has at most so many elements.
-const LONGEST: i64 = 65_536;
-
-/// Two bounds: of a subrange, or of an array.
-#[derive(Clone, Copy)]
-struct Bounds<'t> {
-    of_array: bool,
-    low: &'t Constant,
-    high: &'t Constant,
-}
-
-/// The place of a lower bound that is above its upper bound.
-fn crossed(declarations: &Declarations<'_>, bounds: &Bounds<'_>) -> Option<Place>
-    ensures { result ≡ crossed_of (value (placed declarations.now)) (bounds_of bounds.now) }
-{
-    if declarations.value(bounds.high) < declarations.value(bounds.low) {
-        Some(bounds.low.place)
-    } else {
-        None
-    }
-}
-
-/// The place of the lower bound of an array that is too long.
-fn too_long(declarations: &Declarations<'_>, bounds: &Bounds<'_>) -> Option<Place>
-    ensures { result ≡ too_long_of (value (placed declarations.now)) (bounds_of bounds.now) }
-{
-    let low = declarations.value(bounds.low);
-    let high = declarations.value(bounds.high);
-    if bounds.of_array && low + LONGEST <= high {
-        Some(bounds.low.place)
-    } else {
-        None
-    }
-}
+use syntax_tree::{Declaration, Member, Param, Routine, Scalar, Type, Var};
 
 /// Looks through the findings of two bounds.
 #[tactic(auto, unfolding(crate::specs::Seen::left))]

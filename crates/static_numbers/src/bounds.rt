@@ -18,14 +18,14 @@ const LONGEST: i64 = 65_536;
 
 /// Two bounds: of a subrange, or of an array.
 #[derive(Clone, Copy)]
-struct Bounds<'t> {
-    of_array: bool,
-    low: &'t Constant,
-    high: &'t Constant,
+pub struct Bounds<'t> {
+    pub of_array: bool,
+    pub low: &'t Constant,
+    pub high: &'t Constant,
 }
 
 /// The place of a lower bound that is above its upper bound.
-fn crossed(declarations: &Declarations<'_>, bounds: &Bounds<'_>) -> Option<Place>
+pub fn crossed(declarations: &Declarations<'_>, bounds: &Bounds<'_>) -> Option<Place>
     ensures { result ≡ crossed_of (value (placed declarations.now)) (bounds_of bounds.now) }
 {
     if declarations.value(bounds.high) < declarations.value(bounds.low) {
@@ -36,7 +36,7 @@ fn crossed(declarations: &Declarations<'_>, bounds: &Bounds<'_>) -> Option<Place
 }
 
 /// The place of the lower bound of an array that is too long.
-fn too_long(declarations: &Declarations<'_>, bounds: &Bounds<'_>) -> Option<Place>
+pub fn too_long(declarations: &Declarations<'_>, bounds: &Bounds<'_>) -> Option<Place>
     ensures { result ≡ too_long_of (value (placed declarations.now)) (bounds_of bounds.now) }
 {
     let low = declarations.value(bounds.low);
@@ -181,7 +181,7 @@ fn decls(first: &mut Option<Violation>, declarations: &Declarations<'_>, list: &
 }
 
 /// The rule for bounds of types that fails first, if any does.
-pub fn first_broken(declarations: &Declarations<'_>) -> Option<Violation>
+pub(crate) fn first_broken(declarations: &Declarations<'_>) -> Option<Violation>
     ensures { let g = placed declarations.now in IsFirstOf
         (FailsAmong (bounds_rules g) (decls_bounds g.decls [])) result }
 {
