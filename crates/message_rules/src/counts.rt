@@ -11,8 +11,10 @@ ghost use Rattle.message_rules.specs.declared.fault.Fault.TheVariants as fault_i
 use crate::fault::{Counted, Fault, note};
 use out_of_memory::OutOfMemory;
 use static_declarations::Declarations;
-use static_numbers::{MOST_CONDITIONS, MOST_OF_A_KIND, MOST_ROUTINES, NamePlaces};
-use static_numbers::{at_none, one_too_many, too_many_words, variable_words};
+use static_numbers::{
+    MOST_CONDITIONS, MOST_OF_A_KIND, MOST_ROUTINES, NamePlaces, at_none, one_too_many,
+    too_many_words, variable_words,
+};
 use static_rule::{Violation, rule};
 use std::alloc::Global;
 use syntax_tree::Place;

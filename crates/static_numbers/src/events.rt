@@ -107,7 +107,11 @@ fn event(first: &mut Option<Violation>, uses: &Uses, decl: &Declaration)
         noted (event_rules g) first.old (events (placed_decl decl.now ∷ rest)) }
 {
     if let Declaration::Event { place, .. } = decl {
-        blame(first, rule::EVENT_USE, misused(uses_of(uses, *place), *place));
+        blame(
+            first,
+            rule::EVENT_USE,
+            misused(uses_of(uses, *place), *place),
+        );
     }
 }
 
