@@ -15,6 +15,7 @@ mod events;
 mod handlers;
 mod limits;
 mod places;
+mod visit;
 mod words;
 
 pub use activations::{bad_deadline, bad_first, bad_frame, deadline_of, frame_of};
@@ -24,4 +25,5 @@ pub use events::misused;
 pub use handlers::bad_handled;
 pub use limits::first_broken;
 pub use places::NamePlaces;
+pub use visit::{BoundsVisitor, visit_bounds};
 pub use words::{too_many_words, variable_words};
