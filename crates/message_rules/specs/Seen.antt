@@ -10,7 +10,7 @@ use Rattle.static_declarations.specs.Values.{value}
 use Rattle.static_numbers.specs.Processes.{Handled}
 use Rattle.static_numbers.specs.Counts.{at_none, one_too_many, words, too_many_words}
 use Rattle.static_numbers.specs.Places.{Places}
-use Rattle.static_numbers.specs.Seen.{held}
+use Rattle.static_numbers.specs.Seen.{held, Visited}
 use Rattle.message_rules.specs.declared.fault.Fault.{Fault}
 use Rattle.message_rules.specs.declared.fault.Fault.TheVariants as fault_is
 use Rattle.message_rules.specs.declared.fault.Counted.TheVariants as counted_is
@@ -30,7 +30,7 @@ left of broken known xs = after broken known (flat_map of xs)
 
 -- once the findings of one more piece of a tree are looked through, which gives its parts
 abbrev pub LookedAt : {X : Type 0} → (X → List Finding) → Violation → Option Fault → (List X → List X) → Option Fault → Type 0
-LookedAt {X} of broken old parts new = (xs : List X) → left of broken new xs ≡ left of broken old (parts xs)
+LookedAt of broken = Visited (left of broken)
 
 -- what is known, once all of these are; where there are none, what is known
 abbrev pub after_all : Violation → Option Fault → List Finding → Option Fault
