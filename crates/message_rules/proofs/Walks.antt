@@ -1,31 +1,10 @@
--- Steps of loops that look through the findings of one item after another.
-use Rattle.std.proofs.Common.{◌≡◌, ◌<◌, ◌≤◌, ◌+◌, ◌++◌, ℕ, Bool, true, false, cond, List, [], ◌∷◌, Option, Some, None, find, length, drop, get_or, option_map, refl, sym, ap, ◌∙◌}
+-- What is known, at the end of some parts.
+use Rattle.std.proofs.Common.{◌≡◌, ◌++◌, Bool, true, false, cond, List, [], ◌∷◌, Option, Some, None, find, option_map, refl, sym, ap, ◌∙◌}
 use Rattle.std.specs.Option.{option_or}
 use Rattle.static_rule.specs.declared.violation.Violation.{Violation}
-use Rattle.static_numbers.proofs.Walks.{step, finish}
 use Rattle.message_rules.specs.declared.fault.Fault.{Fault}
 use Rattle.message_rules.specs.Findings.{Finding, first_wrong, is_asked}
 use Rattle.message_rules.specs.Seen.{after, left}
-
-module _ {X B : Type 0} (of : B → List Finding) (broken : Violation) (parts : List X → List B → List B) (start : Option Fault) (whole : List B → List B) where
-  -- what is known, once all that is left is looked through too, is what it was to be in the beginning
-  abbrev pub Left : Option Fault → List X → Type 0
-  Left known xs = (bs : List B) → left of broken known (parts xs bs) ≡ left of broken start (whole bs)
-
-  pub look_step : (one : X → List B → List B) → ((x : X) (xs : List X) (bs : List B) → parts (x ∷ xs) bs ≡ one x (parts xs bs))
-      → (xs : List X) (i : ℕ) (x : X) (f g : Option Fault) → i < length xs → x ≡ get_or xs i x
-      → ((bs : List B) → left of broken g bs ≡ left of broken f (one x bs))
-      → Left f (drop i xs) → Left g (drop (i + 1) xs)
-  look_step one splits xs i x f g below item looked h bs =
-      step (λ s ys. left of broken s (parts ys bs)) (left of broken start (whole bs)) xs i x f g below item
-      (λ rest. looked (parts rest bs) ∙ ap (left of broken f) (sym (splits x rest bs))) (h bs)
-
-  pub look_finish : ((bs : List B) → parts [] bs ≡ bs) → (xs : List X) (i : ℕ) (f : Option Fault) → length xs ≤ i → Left f (drop i xs)
-      → (bs : List B) → left of broken f bs ≡ left of broken start (whole bs)
-  look_finish ends xs i f past h bs =
-      ap (left of broken f) (sym (ends bs)) ∙ finish (λ s ys. left of broken s (parts ys bs)) (left of broken start (whole bs)) xs i f past (h bs)
-
--- ---- what is known, at the end of some parts
 
 pub or-nothing : {X : Type 0} (x : Option X) → option_or x None ≡ x
 or-nothing None = refl

@@ -1,16 +1,16 @@
 -- What contracts see of what is known to be wrong while the findings are looked through.
-use Rattle.std.specs.Prelude.{◌≡◌, ℕ, List, [], ◌∷◌, ◌++◌, map, Option, Some, None, nat_lt, if◌then◌else◌}
+use Rattle.std.specs.Prelude.{◌≡◌, List, [], ◌∷◌, ◌++◌, map, Option}
 use Rattle.std.specs.Option.{option_or}
 use Rattle.std.specs.List.{flat_map}
-use Rattle.syntax_tree.specs.Placed.{placed_constant}
+use Rattle.syntax_tree.specs.Placed.{placed_constant, Prog}
 use Rattle.syntax_tree.specs.declared.expr.Constant as code_constant
 use Rattle.syntax_tree.specs.declared.place.Place.{Place}
 use Rattle.static_rule.specs.declared.violation.Violation.{Violation}
-use Rattle.static_numbers.specs.Types.{Bounds}
+use Rattle.static_declarations.specs.Values.{value}
 use Rattle.static_numbers.specs.Processes.{Handled}
-use Rattle.static_numbers.specs.Counts.{at_none, one_too_many}
+use Rattle.static_numbers.specs.Counts.{at_none, one_too_many, words, too_many_words}
 use Rattle.static_numbers.specs.Places.{Places}
-use Rattle.message_rules.specs.declared.bounds.Bounds as code_bounds
+use Rattle.static_numbers.specs.Seen.{held, Visited}
 use Rattle.message_rules.specs.declared.fault.Fault.{Fault}
 use Rattle.message_rules.specs.declared.fault.Fault.TheVariants as fault_is
 use Rattle.message_rules.specs.declared.fault.Counted.TheVariants as counted_is
@@ -30,7 +30,7 @@ left of broken known xs = after broken known (flat_map of xs)
 
 -- once the findings of one more piece of a tree are looked through, which gives its parts
 abbrev pub LookedAt : {X : Type 0} → (X → List Finding) → Violation → Option Fault → (List X → List X) → Option Fault → Type 0
-LookedAt {X} of broken old parts new = (xs : List X) → left of broken new xs ≡ left of broken old (parts xs)
+LookedAt of broken = Visited (left of broken)
 
 -- what is known, once all of these are; where there are none, what is known
 abbrev pub after_all : Violation → Option Fault → List Finding → Option Fault
@@ -41,9 +41,6 @@ after_all broken known (f ∷ fs) = after broken known (f ∷ fs)
 abbrev pub looked : {X : Type 0} → (X → List Finding) → Violation → Option Fault → List X → Option Fault
 looked of broken known [] = known
 looked of broken known (x ∷ xs) = looked of broken (after_all broken known (of x)) xs
-
-abbrev pub bounds_of : code_bounds.Bounds → Bounds
-bounds_of b = record { of_array = b.of_array; low = placed_constant b.low.now; high = placed_constant b.high.now }
 
 -- a number of a handler and those before it
 abbrev pub handled_of : List code_constant.Constant → code_constant.Constant → Handled
@@ -60,10 +57,9 @@ kind_findings place all =
     ∷ record { number = 40; fails = one_too_many 64 all.events; wrong = fault_is.OneTooMany counted_is.Event }
     ∷ []
 
--- how many words there are is known too
-abbrev pub other_findings : Place → Places → (words : ℕ) → List Finding
-other_findings place all words =
+abbrev pub other_findings : Prog Place → Places → List Finding
+other_findings g all =
     record { number = 41; fails = one_too_many 256 all.conditions; wrong = fault_is.OneTooMany counted_is.Condition }
     ∷ record { number = 42; fails = one_too_many 512 all.routines; wrong = fault_is.OneTooMany counted_is.Routine }
-    ∷ record { number = 43; fails = (if nat_lt 1048576 words then Some place else None); wrong = fault_is.VariableWords words }
+    ∷ record { number = 43; fails = too_many_words (value g) g; wrong = fault_is.VariableWords (held (words (value g) g.decls)) }
     ∷ []

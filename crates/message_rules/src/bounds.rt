@@ -1,249 +1,54 @@
 //! The bounds of types.
 
-ghost use Rattle.std.specs.Prelude.{◌≡◌, [], ◌∷◌, map};
-ghost use Rattle.syntax_tree.specs.Placed.{placed, placed_scalar, placed_kind, placed_var, placed_param, placed_routine, placed_member, placed_decl, optional};
+ghost use Rattle.std.specs.Prelude.{◌≡◌, []};
+ghost use Rattle.syntax_tree.specs.Placed.{placed};
 ghost use Rattle.static_declarations.specs.Values.{value};
-ghost use Rattle.static_numbers.specs.Types.{crossed as crossed_of, too_long as too_long_of, scalar_bounds, kind_bounds, vars_bounds, params_bounds, result_bounds, routine_bounds, routines_bounds, member_bounds, members_bounds, decl_bounds, decls_bounds};
+ghost use Rattle.static_numbers.specs.Types.{decls_bounds};
 ghost use Rattle.message_rules.specs.Findings.{bounds_findings};
-ghost use Rattle.message_rules.specs.Seen.{LookedAt, bounds_of, left};
+ghost use Rattle.message_rules.specs.Seen.{left};
 
 use crate::fault::{Fault, Quantity, note};
 use static_declarations::Declarations;
+use static_numbers::{Bounds, BoundsVisitor, crossed, too_long, visit_bounds};
 use static_rule::{Violation, rule};
-use syntax_tree::{Constant, Declaration, Member, Param, Place, Routine, Scalar, Type, Var};
 
-/// An array has at most so many elements.
-const LONGEST: i64 = 65_536;
-
-/// Two bounds: of a subrange, or of an array.
-#[derive(Clone, Copy)]
-struct Bounds<'t> {
-    of_array: bool,
-    low: &'t Constant,
-    high: &'t Constant,
-}
-
-/// The place of a lower bound that is above its upper bound.
-fn crossed(declarations: &Declarations<'_>, bounds: &Bounds<'_>) -> Option<Place>
-    ensures { result ≡ crossed_of (value (placed declarations.now)) (bounds_of bounds.now) }
-{
-    if declarations.value(bounds.high) < declarations.value(bounds.low) {
-        Some(bounds.low.place)
-    } else {
-        None
-    }
-}
-
-/// The place of the lower bound of an array that is too long.
-fn too_long(declarations: &Declarations<'_>, bounds: &Bounds<'_>) -> Option<Place>
-    ensures { result ≡ too_long_of (value (placed declarations.now)) (bounds_of bounds.now) }
-{
-    let low = declarations.value(bounds.low);
-    let high = declarations.value(bounds.high);
-    if bounds.of_array && low + LONGEST <= high {
-        Some(bounds.low.place)
-    } else {
-        None
-    }
-}
-
-/// Looks through the findings of two bounds.
-#[tactic(auto, unfolding(crate::specs::Seen::left))]
-fn pair(
-    known: &mut Option<Fault>,
-    declarations: &Declarations<'_>,
+/// Looks through the findings of bounds.
+#[derive(Drop)]
+struct BoundsLook<'d, 'p> {
+    declarations: &'d Declarations<'p>,
     broken: Violation,
-    bounds: &Bounds<'_>,
-)
-    ensures { LookedAt (bounds_findings (value (placed declarations.now))) broken known.old
-        (λ more. bounds_of bounds.now ∷ more) known.new }
-{
-    let low = declarations.value(bounds.low);
-    let high = declarations.value(bounds.high);
-    note(
-        known,
-        broken,
-        rule::CROSSED_BOUNDS,
-        crossed(declarations, bounds),
-        Fault::CrossedBounds { low, high },
-    );
-    note(
-        known,
-        broken,
-        rule::LONG_ARRAY,
-        too_long(declarations, bounds),
-        Fault::Number {
-            of: Quantity::Elements,
-            value: high - low + 1,
-        },
-    );
+    known: Option<Fault>,
 }
 
-fn scalar(
-    known: &mut Option<Fault>,
-    declarations: &Declarations<'_>,
-    broken: Violation,
-    kind: &Scalar,
-)
-    ensures { LookedAt (bounds_findings (value (placed declarations.now))) broken known.old
-        (scalar_bounds (placed_scalar kind.now)) known.new }
-{
-    if let Scalar::Subrange { low, high } = kind {
-        let bounds = Bounds {
-            of_array: false,
-            low,
-            high,
-        };
-        pair(known, declarations, broken, &bounds);
-    }
-}
+impl BoundsVisitor for BoundsLook<'_, '_> {
+    ghost use Rattle.std.specs.Prelude.{Option};
+    ghost use Rattle.message_rules.specs.declared.fault.Fault.{Fault as SpecFault};
 
-fn kind(known: &mut Option<Fault>, declarations: &Declarations<'_>, broken: Violation, kind: &Type)
-    ensures { LookedAt (bounds_findings (value (placed declarations.now))) broken known.old
-        (kind_bounds (placed_kind kind.now)) known.new }
-{
-    match kind {
-        Type::Scalar(kind) => scalar(known, declarations, broken, kind),
-        Type::Array { low, high, element } => {
-            let bounds = Bounds {
-                of_array: true,
-                low,
-                high,
-            };
-            pair(known, declarations, broken, &bounds);
-            scalar(known, declarations, broken, element);
-        }
-    }
-}
+    ghost Found = { Option SpecFault };
 
-fn vars(known: &mut Option<Fault>, declarations: &Declarations<'_>, broken: Violation, list: &[Var])
-    ensures { LookedAt (bounds_findings (value (placed declarations.now))) broken known.old
-        (vars_bounds (map placed_var list.now)) known.new }
-{
-    for var in list {
-        kind(known, declarations, broken, &var.kind);
-    }
-}
+    ghost found = { λ l. left (bounds_findings (value (placed l.declarations.now))) l.broken l.known };
 
-fn params(
-    known: &mut Option<Fault>,
-    declarations: &Declarations<'_>,
-    broken: Violation,
-    list: &[Param],
-)
-    ensures { LookedAt (bounds_findings (value (placed declarations.now))) broken known.old
-        (params_bounds (map placed_param list.now)) known.new }
-{
-    for param in list {
-        scalar(known, declarations, broken, &param.kind);
-    }
-}
-
-/// The type of a result.
-fn result(
-    known: &mut Option<Fault>,
-    declarations: &Declarations<'_>,
-    broken: Violation,
-    kind: &Option<Scalar>,
-)
-    ensures { LookedAt (bounds_findings (value (placed declarations.now))) broken known.old
-        (result_bounds (optional placed_scalar kind.now)) known.new }
-{
-    if let Some(kind) = kind {
-        scalar(known, declarations, broken, kind);
-    }
-}
-
-fn routine(
-    known: &mut Option<Fault>,
-    declarations: &Declarations<'_>,
-    broken: Violation,
-    routine: &Routine,
-)
-    ensures { LookedAt (bounds_findings (value (placed declarations.now))) broken known.old
-        (routine_bounds (placed_routine routine.now)) known.new }
-{
-    params(known, declarations, broken, routine.params.as_slice());
-    result(known, declarations, broken, &routine.result);
-    vars(known, declarations, broken, routine.vars.as_slice());
-}
-
-fn routines(
-    known: &mut Option<Fault>,
-    declarations: &Declarations<'_>,
-    broken: Violation,
-    list: &[Routine],
-)
-    ensures { LookedAt (bounds_findings (value (placed declarations.now))) broken known.old
-        (routines_bounds (map placed_routine list.now)) known.new }
-{
-    for one in list {
-        routine(known, declarations, broken, one);
-    }
-}
-
-fn member(
-    known: &mut Option<Fault>,
-    declarations: &Declarations<'_>,
-    broken: Violation,
-    member: &Member,
-)
-    ensures { LookedAt (bounds_findings (value (placed declarations.now))) broken known.old
-        (member_bounds (placed_member member.now)) known.new }
-{
-    if let Member::Var(var) = member {
-        kind(known, declarations, broken, &var.kind);
-    }
-}
-
-fn members(
-    known: &mut Option<Fault>,
-    declarations: &Declarations<'_>,
-    broken: Violation,
-    list: &[Member],
-)
-    ensures { LookedAt (bounds_findings (value (placed declarations.now))) broken known.old
-        (members_bounds (map placed_member list.now)) known.new }
-{
-    for one in list {
-        member(known, declarations, broken, one);
-    }
-}
-
-fn decl(
-    known: &mut Option<Fault>,
-    declarations: &Declarations<'_>,
-    broken: Violation,
-    decl: &Declaration,
-)
-    ensures { LookedAt (bounds_findings (value (placed declarations.now))) broken known.old
-        (decl_bounds (placed_decl decl.now)) known.new }
-{
-    match decl {
-        Declaration::Const { .. } | Declaration::Device { .. } | Declaration::Event { .. } => {}
-        Declaration::Routine(one) => routine(known, declarations, broken, one),
-        Declaration::Monitor(monitor) => {
-            members(known, declarations, broken, monitor.members.as_slice());
-            routines(known, declarations, broken, monitor.entries.as_slice());
-        }
-        Declaration::Process(process) => {
-            vars(known, declarations, broken, process.vars.as_slice());
-            routines(known, declarations, broken, process.routines.as_slice());
-        }
-    }
-}
-
-fn decls(
-    known: &mut Option<Fault>,
-    declarations: &Declarations<'_>,
-    broken: Violation,
-    list: &[Declaration],
-)
-    ensures { LookedAt (bounds_findings (value (placed declarations.now))) broken known.old
-        (decls_bounds (map placed_decl list.now)) known.new }
-{
-    for one in list {
-        decl(known, declarations, broken, one);
+    #[tactic(auto, unfolding(crate::specs::Seen::left))]
+    fn visit(&mut self, bounds: &Bounds<'_>) {
+        let low = self.declarations.value(bounds.low);
+        let high = self.declarations.value(bounds.high);
+        note(
+            &mut self.known,
+            self.broken,
+            rule::CROSSED_BOUNDS,
+            crossed(self.declarations, bounds),
+            Fault::CrossedBounds { low, high },
+        );
+        note(
+            &mut self.known,
+            self.broken,
+            rule::LONG_ARRAY,
+            too_long(self.declarations, bounds),
+            Fault::Number {
+                of: Quantity::Elements,
+                value: high - low + 1,
+            },
+        );
     }
 }
 
@@ -252,10 +57,11 @@ pub(crate) fn look(known: &mut Option<Fault>, declarations: &Declarations<'_>, b
     ensures { let g = placed declarations.now in known.new ≡
         left (bounds_findings (value g)) broken known.old (decls_bounds g.decls []) }
 {
-    decls(
-        known,
+    let mut look = BoundsLook {
         declarations,
         broken,
-        declarations.program().decls.as_slice(),
-    );
+        known: *known,
+    };
+    visit_bounds(&mut look, declarations.program().decls.as_slice());
+    *known = look.known;
 }

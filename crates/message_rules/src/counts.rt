@@ -1,39 +1,23 @@
 //! How much a program may have.
 
-ghost use Rattle.std.specs.Prelude.{◌≡◌, OnOk, ◌∷◌, [], None, Some, nat_lt, if◌then◌else◌};
+ghost use Rattle.std.specs.Prelude.{◌≡◌, OnOk, ◌∷◌, []};
 ghost use Rattle.syntax_tree.specs.Placed.{placed};
-ghost use Rattle.static_numbers.specs.Counts.{at_none, one_too_many as one_too_many_of};
+ghost use Rattle.static_numbers.specs.Counts.{one_too_many as one_too_many_of};
 ghost use Rattle.static_numbers.specs.Places.{places_of};
 ghost use Rattle.message_rules.specs.Findings.{count_findings};
 ghost use Rattle.message_rules.specs.Seen.{Looked, after, kind_findings, other_findings};
 ghost use Rattle.message_rules.specs.declared.fault.Fault.TheVariants as fault_is;
 
 use crate::fault::{Counted, Fault, note};
-use crate::places::NamePlaces;
-use crate::words::words;
 use out_of_memory::OutOfMemory;
 use static_declarations::Declarations;
+use static_numbers::{
+    MOST_CONDITIONS, MOST_OF_A_KIND, MOST_ROUTINES, NamePlaces, at_none, one_too_many,
+    too_many_words, variable_words,
+};
 use static_rule::{Violation, rule};
 use std::alloc::Global;
 use syntax_tree::Place;
-
-/// A program has at most so many processes, monitors, devices and events, each.
-const MOST_OF_A_KIND: usize = 64;
-
-const MOST_CONDITIONS: usize = 256;
-
-/// A program has at most so many routines, entries included.
-const MOST_ROUTINES: usize = 512;
-
-/// The variables of processes and monitors have at most so many words.
-const MOST_WORDS: u64 = 1_048_576;
-
-/// The place, where there are none.
-fn at_no(place: Place, places: &[Place]) -> Option<Place>
-    ensures { result ≡ at_none place places.now }
-{
-    if places.is_empty() { Some(place) } else { None }
-}
 
 /// Looks through the finding that one of these is too many.
 fn count(
@@ -54,20 +38,9 @@ fn count(
         known,
         broken,
         number,
-        places.get(most).copied(),
+        one_too_many(most, places),
         Fault::OneTooMany(counted),
     );
-}
-
-/// The place, where there are too many words.
-fn at_many(place: Place, words: u64) -> Option<Place>
-    ensures { result ≡ (if nat_lt 1048576 words then Some place else None) }
-{
-    if words > MOST_WORDS {
-        Some(place)
-    } else {
-        None
-    }
 }
 
 /// Looks through the findings of processes, monitors, devices and events.
@@ -79,7 +52,7 @@ fn look_at_kinds(known: &mut Option<Fault>, broken: Violation, place: Place, pla
         known,
         broken,
         rule::COUNT,
-        at_no(place, processes),
+        at_none(place, processes),
         Fault::NoProcess,
     );
     let most = MOST_OF_A_KIND;
@@ -102,12 +75,12 @@ fn look_at_kinds(known: &mut Option<Fault>, broken: Violation, place: Place, pla
 /// Looks through the findings of conditions, of routines and of the words of variables.
 fn look_at_others(
     known: &mut Option<Fault>,
+    declarations: &Declarations<'_>,
     broken: Violation,
-    place: Place,
     places: &NamePlaces,
-    words: u64,
 )
-    ensures { Looked broken known.old (other_findings place places.now words) known.new }
+    ensures { Looked broken known.old
+        (other_findings (placed declarations.now) places.now) known.new }
 {
     count(
         known,
@@ -129,8 +102,10 @@ fn look_at_others(
         known,
         broken,
         rule::VARIABLE_WORDS,
-        at_many(place, words),
-        Fault::VariableWords { words },
+        too_many_words(declarations),
+        Fault::VariableWords {
+            words: variable_words(declarations),
+        },
     );
 }
 
@@ -147,6 +122,6 @@ pub(crate) fn look(
     let program = declarations.program();
     let places = NamePlaces::of(alloc, program)?;
     look_at_kinds(known, broken, program.place, &places);
-    look_at_others(known, broken, program.place, &places, words(declarations));
+    look_at_others(known, declarations, broken, &places);
     Ok(())
 }

@@ -1,6 +1,6 @@
 //! Events, each of which one process is to use.
 
-ghost use Rattle.std.specs.Prelude.{◌≡◌, suc, List, ◌∷◌, None, Some, nat_eq, if◌then◌else◌};
+ghost use Rattle.std.specs.Prelude.{◌≡◌, suc, List, ◌∷◌, if◌then◌else◌};
 ghost use Rattle.syntax_tree.specs.Placed.{Decl as SpecDecl, placed, placed_activation, placed_decl};
 ghost use Rattle.syntax_tree.specs.declared.place.Place.{Place as SpecPlace};
 ghost use Rattle.syntax_tree.specs.Parts.{processes, events};
@@ -11,6 +11,7 @@ ghost use Rattle.message_rules.specs.Seen.{LookedAt, left};
 
 use crate::fault::{Fault, note};
 use static_declarations::Declarations;
+use static_numbers::misused;
 use static_rule::{Violation, rule};
 use syntax_tree::{Declaration, Place, Trigger};
 
@@ -53,13 +54,6 @@ fn count_users(declarations: &Declarations<'_>, event: Place) -> usize
         }
     }
     count
-}
-
-/// The place of an event that does not start exactly one process.
-fn misused(processes: usize, event: Place) -> Option<Place>
-    ensures { result ≡ (if nat_eq processes 1 then None else Some event) }
-{
-    if processes == 1 { None } else { Some(event) }
 }
 
 /// Looks through the findings of the event whose name stands at the place.

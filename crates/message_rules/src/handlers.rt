@@ -1,38 +1,19 @@
 //! The numbers of handlers.
 
-ghost use Rattle.std.specs.Prelude.{◌≡◌, ◌||◌, List, [], ◌∷◌, map, None, Some, if◌then◌else◌};
+ghost use Rattle.std.specs.Prelude.{◌≡◌, List, [], ◌∷◌, map};
 ghost use Rattle.syntax_tree.specs.Placed.{Decl as SpecDecl, placed, placed_constant, placed_handler, placed_decl, optional};
 ghost use Rattle.syntax_tree.specs.declared.place.Place.{Place as SpecPlace};
 ghost use Rattle.syntax_tree.specs.Parts.{processes};
-ghost use Rattle.static_declarations.specs.Values.{value, constant_place, is_within};
+ghost use Rattle.static_declarations.specs.Values.{value};
 ghost use Rattle.static_numbers.specs.Processes.{handled, handler_numbers, all_handled, has_value as has_value_of, repeated as repeated_of};
 ghost use Rattle.message_rules.specs.Findings.{handled_findings};
 ghost use Rattle.message_rules.specs.Seen.{LookedAt, handled_of, left};
 
 use crate::fault::{Fault, Quantity, note};
 use static_declarations::Declarations;
+use static_numbers::bad_handled;
 use static_rule::{Violation, rule};
 use syntax_tree::{Constant, Declaration, Handler, Place};
-
-/// Whether a handler may have the number: those of the machine, and those of `except` and `wait`.
-fn is_allowed(number: i64) -> bool
-    ensures { result ≡ (is_within 1 4 number || is_within 10 999 number) }
-{
-    matches!(number, 1..=4 | 10..=999)
-}
-
-/// The place of a number that no handler may have.
-fn bad_number(declarations: &Declarations<'_>, number: &Constant) -> Option<Place>
-    ensures { let c = placed_constant number.now in let v = value (placed declarations.now) c in
-        result ≡
-        (if is_within 1 4 v || is_within 10 999 v then None else Some (constant_place c)) }
-{
-    if is_allowed(declarations.value(number)) {
-        None
-    } else {
-        Some(number.place)
-    }
-}
 
 /// Whether one of the constants has the value.
 fn has_value(declarations: &Declarations<'_>, number: i64, list: &[Constant]) -> bool
@@ -90,7 +71,7 @@ fn number_at(
         known,
         broken,
         rule::WRONG_NUMBER,
-        bad_number(declarations, number),
+        bad_handled(declarations, number),
         Fault::Number {
             of: Quantity::HandlerNumber,
             value,

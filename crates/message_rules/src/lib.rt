@@ -15,10 +15,8 @@ mod counts;
 mod events;
 mod fault;
 mod handlers;
-mod places;
 mod sentences;
 mod statements;
 mod told;
-mod words;
 
 pub use told::rule_sentence;

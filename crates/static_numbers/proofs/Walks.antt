@@ -16,20 +16,20 @@ module _ {X S R : Type 0} (left : S → List X → R) (whole : R) where
   pub finish : (xs : List X) (i : ℕ) (s : S) → length xs ≤ i → left s (drop i xs) ≡ whole → left s [] ≡ whole
   finish xs i s past h = ap (left s) (sym (drop_all i xs past)) ∙ h
 
--- The rules are tried on the parts of one item after another.
-module _ {X B : Type 0} (rules : List (Rule B)) (parts : List X → List B → List B) (start : Option Violation) (whole : List B → List B) where
-  abbrev pub Left : Option Violation → List X → Type 0
-  Left first xs = (more : List B) → noted rules first (parts xs more) ≡ noted rules start (whole more)
+-- The parts of one item after another are visited.
+module _ {S X B Found : Type 0} (found : S → List B → Found) (parts : List X → List B → List B) (start : S) (whole : List B → List B) where
+  abbrev pub Left : S → List X → Type 0
+  Left now xs = (more : List B) → found now (parts xs more) ≡ found start (whole more)
 
-  pub try_step : (one : X → List B → List B) → ((x : X) (xs : List X) (more : List B) → parts (x ∷ xs) more ≡ one x (parts xs more))
-      → (xs : List X) (i : ℕ) (x : X) (f g : Option Violation) → i < length xs → x ≡ get_or xs i x → ((more : List B) → noted rules g more ≡ noted rules f (one x more))
-      → Left f (drop i xs) → Left g (drop (i + 1) xs)
-  try_step one splits xs i x f g below item tried h more =
-      step (λ s ys. noted rules s (parts ys more)) (noted rules start (whole more)) xs i x f g below item
-      (λ rest. tried (parts rest more) ∙ ap (noted rules f) (sym (splits x rest more))) (h more)
+  pub visit_step : (one : X → List B → List B) → ((x : X) (xs : List X) (more : List B) → parts (x ∷ xs) more ≡ one x (parts xs more))
+      → (xs : List X) (i : ℕ) (x : X) (s t : S) → i < length xs → x ≡ get_or xs i x → ((more : List B) → found t more ≡ found s (one x more))
+      → Left s (drop i xs) → Left t (drop (i + 1) xs)
+  visit_step one splits xs i x s t below item visited h more =
+      step (λ s ys. found s (parts ys more)) (found start (whole more)) xs i x s t below item
+      (λ rest. visited (parts rest more) ∙ ap (found s) (sym (splits x rest more))) (h more)
 
-  pub try_finish : ((more : List B) → parts [] more ≡ more) → (xs : List X) (i : ℕ) (f : Option Violation) → length xs ≤ i → Left f (drop i xs) → (more : List B) → noted rules f more ≡ noted rules start (whole more)
-  try_finish ends xs i f past h more = ap (noted rules f) (sym (ends more)) ∙ finish (λ s ys. noted rules s (parts ys more)) (noted rules start (whole more)) xs i f past (h more)
+  pub visit_finish : ((more : List B) → parts [] more ≡ more) → (xs : List X) (i : ℕ) (s : S) → length xs ≤ i → Left s (drop i xs) → (more : List B) → found s more ≡ found start (whole more)
+  visit_finish ends xs i s past h more = ap (found s) (sym (ends more)) ∙ finish (λ s ys. found s (parts ys more)) (found start (whole more)) xs i s past (h more)
 
 -- What the pass finds is the first failure.
 pub first-noted : {X : Type 0} (rules : List (Rule X)) (parts : List X) (first : Option Violation) → first ≡ noted rules None parts → IsFirstOf (FailsAmong rules parts) first

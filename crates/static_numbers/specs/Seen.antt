@@ -13,9 +13,14 @@ use Rattle.static_numbers.specs.declared.bounds.Bounds as code_bounds
 use Rattle.static_numbers.specs.Types.{Bounds}
 use Rattle.static_numbers.specs.Processes.{has_value}
 
+-- a state changes from one to the other where a part of the tree is visited, by what is found once
+-- it has visited all that is left too
+abbrev pub Visited : {S X Found : Type 0} → (found : S → List X → Found) → S → (List X → List X) → S → Type 0
+Visited {X} found old part new = (more : List X) → found new more ≡ found old (part more)
+
 -- the first failure changes from one to the other, where the rules are tried on a part of the tree
 abbrev pub Tries : {X : Type 0} → List (Rule X) → Option Violation → (List X → List X) → Option Violation → Type 0
-Tries {X} rules old part new = (more : List X) → noted rules new more ≡ noted rules old (part more)
+Tries rules = Visited (noted rules)
 
 abbrev pub bounds_of : code_bounds.Bounds → Bounds
 bounds_of b = record { of_array = b.of_array; low = placed_constant b.low.now; high = placed_constant b.high.now }

@@ -7,7 +7,7 @@ ghost use Rattle.static_rule.specs.First.{IsFirstOf};
 ghost use Rattle.static_rule.specs.Parts.{FailsAmong, note, noted};
 ghost use Rattle.static_declarations.specs.Values.{value, out_of};
 ghost use Rattle.syntax_tree.specs.Parts.{processes};
-ghost use Rattle.static_numbers.specs.Processes.{frame_of, deadline_of, bad_limit, bad_start as bad_start_of};
+ghost use Rattle.static_numbers.specs.Processes.{frame_of as frame_of_spec, deadline_of as deadline_of_spec, bad_frame as bad_frame_of, bad_deadline as bad_deadline_of, bad_first as bad_first_of};
 ghost use Rattle.static_numbers.specs.Rules.{process_rules};
 
 use static_declarations::Declarations;
@@ -20,32 +20,39 @@ const LEAST_TICKS: u32 = 10;
 /// A frame has at most so many ticks, and a first activation is at most so many ticks late.
 const MOST_TICKS: u32 = 1_000_000_000;
 
-fn frame(activation: &Trigger) -> &Constant
-    ensures { placed_constant result.now ≡ frame_of (placed_activation activation.now) }
+/// The frame of a process that is activated so.
+pub fn frame_of(activation: &Trigger) -> &Constant
+    ensures { placed_constant result.now ≡ frame_of_spec (placed_activation activation.now) }
 {
     match activation {
         Trigger::Periodic { frame, .. } | Trigger::AtEvent { frame, .. } => frame,
     }
 }
 
-fn deadline(activation: &Trigger) -> &Option<Constant>
-    ensures { optional placed_constant result.now ≡ deadline_of (placed_activation activation.now) }
+/// The deadline of a process that is activated so, if it tells one.
+pub fn deadline_of(activation: &Trigger) -> &Option<Constant>
+    ensures { optional placed_constant result.now ≡
+        deadline_of_spec (placed_activation activation.now) }
 {
     match activation {
         Trigger::Periodic { deadline, .. } | Trigger::AtEvent { deadline, .. } => deadline,
     }
 }
 
-/// The place of a deadline that is below 10 or above the frame.
-fn bad_deadline(
-    declarations: &Declarations<'_>,
-    frame: &Constant,
-    deadline: &Option<Constant>,
-) -> Option<Place>
-    ensures { let worth = value (placed declarations.now) in result ≡
-        bad_limit worth (placed_constant frame.now) (optional placed_constant deadline.now) }
+/// The place of a frame that is below 10 or above 1,000,000,000.
+pub fn bad_frame(declarations: &Declarations<'_>, process: &Process) -> Option<Place>
+    ensures { result ≡ bad_frame_of (value (placed declarations.now)) (placed_process process.now) }
 {
-    let deadline = deadline.as_ref()?;
+    declarations.out_of(LEAST_TICKS, MOST_TICKS, frame_of(&process.activation))
+}
+
+/// The place of a deadline that is below 10 or above the frame.
+pub fn bad_deadline(declarations: &Declarations<'_>, process: &Process) -> Option<Place>
+    ensures { result ≡ bad_deadline_of (value (placed declarations.now))
+        (placed_process process.now) }
+{
+    let frame = frame_of(&process.activation);
+    let deadline = deadline_of(&process.activation).as_ref()?;
     let ticks = declarations.value(deadline);
     if i64::from(LEAST_TICKS) <= ticks && ticks <= declarations.value(frame) {
         None
@@ -54,12 +61,11 @@ fn bad_deadline(
     }
 }
 
-/// The place of a first activation that is outside its limits.
-fn bad_start(declarations: &Declarations<'_>, activation: &Trigger) -> Option<Place>
-    ensures { result ≡ bad_start_of (value (placed declarations.now))
-        (placed_activation activation.now) }
+/// The place of a first activation that is above 1,000,000,000 or below 0.
+pub fn bad_first(declarations: &Declarations<'_>, process: &Process) -> Option<Place>
+    ensures { result ≡ bad_first_of (value (placed declarations.now)) (placed_process process.now) }
 {
-    match activation {
+    match &process.activation {
         Trigger::Periodic {
             first: Some(start),
             ..
@@ -73,22 +79,20 @@ fn process(first: &mut Option<Violation>, declarations: &Declarations<'_>, proce
     ensures { first.new ≡ note (process_rules (placed declarations.now)) first.old
         (placed_process process.now) }
 {
-    let activation = &process.activation;
-    let frame = frame(activation);
     blame(
         first,
         rule::WRONG_ACTIVATION,
-        declarations.out_of(LEAST_TICKS, MOST_TICKS, frame),
+        bad_frame(declarations, process),
     );
     blame(
         first,
         rule::WRONG_ACTIVATION,
-        bad_deadline(declarations, frame, deadline(activation)),
+        bad_deadline(declarations, process),
     );
     blame(
         first,
         rule::WRONG_ACTIVATION,
-        bad_start(declarations, activation),
+        bad_first(declarations, process),
     );
 }
 
@@ -103,7 +107,7 @@ fn decl(first: &mut Option<Violation>, declarations: &Declarations<'_>, decl: &D
 }
 
 /// The rule for frames, deadlines and first activations that fails first, if any does.
-pub fn first_broken(declarations: &Declarations<'_>) -> Option<Violation>
+pub(crate) fn first_broken(declarations: &Declarations<'_>) -> Option<Violation>
     ensures { let g = placed declarations.now in IsFirstOf
         (FailsAmong (process_rules g) (processes g.decls)) result }
 {

@@ -4,12 +4,12 @@ ghost use Rattle.std.specs.Prelude.{◌≡◌, IfOk, [], ◌∷◌, None};
 ghost use Rattle.syntax_tree.specs.Placed.{placed};
 ghost use Rattle.static_rule.specs.First.{IsFirstOf};
 ghost use Rattle.static_rule.specs.Parts.{FailsAmong, note};
-ghost use Rattle.static_numbers.specs.Counts.{at_none, one_too_many as one_too_many_of};
+ghost use Rattle.static_numbers.specs.Counts.{at_none as at_none_of, one_too_many as one_too_many_of};
 ghost use Rattle.static_numbers.specs.Places.{places_of};
 ghost use Rattle.static_numbers.specs.Rules.{count_rules};
 
 use crate::places::NamePlaces;
-use crate::words::too_many;
+use crate::words::too_many_words;
 use out_of_memory::OutOfMemory;
 use static_declarations::Declarations;
 use static_rule::{Violation, blame, rule};
@@ -17,22 +17,23 @@ use std::alloc::Global;
 use syntax_tree::Place;
 
 /// A program has at most so many processes, monitors, devices and events, each.
-const MOST_OF_A_KIND: usize = 64;
+pub const MOST_OF_A_KIND: usize = 64;
 
-const MOST_CONDITIONS: usize = 256;
+/// A program has at most so many conditions.
+pub const MOST_CONDITIONS: usize = 256;
 
 /// A program has at most so many routines, entries included.
-const MOST_ROUTINES: usize = 512;
+pub const MOST_ROUTINES: usize = 512;
 
 /// The place, where there are none.
-fn at_no(place: Place, places: &[Place]) -> Option<Place>
-    ensures { result ≡ at_none place places.now }
+pub fn at_none(place: Place, places: &[Place]) -> Option<Place>
+    ensures { result ≡ at_none_of place places.now }
 {
     if places.is_empty() { Some(place) } else { None }
 }
 
 /// The place that is one too many.
-fn one_too_many(most: usize, places: &[Place]) -> Option<Place>
+pub fn one_too_many(most: usize, places: &[Place]) -> Option<Place>
     ensures { result ≡ one_too_many_of most places.now }
 {
     places.get(most).copied()
@@ -46,7 +47,7 @@ fn tried(declarations: &Declarations<'_>, places: &NamePlaces) -> Option<Violati
     let program = declarations.program();
     let processes = places.processes.as_slice();
     let mut first = None;
-    blame(&mut first, rule::COUNT, at_no(program.place, processes));
+    blame(&mut first, rule::COUNT, at_none(program.place, processes));
     blame(
         &mut first,
         rule::COUNT,
@@ -82,12 +83,16 @@ fn tried(declarations: &Declarations<'_>, places: &NamePlaces) -> Option<Violati
         rule::ROUTINE_COUNT,
         one_too_many(MOST_ROUTINES, routines),
     );
-    blame(&mut first, rule::VARIABLE_WORDS, too_many(declarations));
+    blame(
+        &mut first,
+        rule::VARIABLE_WORDS,
+        too_many_words(declarations),
+    );
     first
 }
 
 /// The rule for counts that fails first, if any does.
-pub fn first_broken(
+pub(crate) fn first_broken(
     alloc: Global,
     declarations: &Declarations<'_>,
 ) -> Result<Option<Violation>, OutOfMemory>

@@ -19,10 +19,10 @@ use std::alloc::Global;
 use syntax_tree::{Declaration, Place, Process, Trigger};
 
 /// How many processes each event activates, by the line and column of its name.
-type Uses = IndexMap<(u32, u32), u64>;
+type Uses = IndexMap<(u32, u32), usize>;
 
 /// How many processes are known that the event activates.
-fn uses_of(uses: &Uses, event: Place) -> u64
+fn uses_of(uses: &Uses, event: Place) -> usize
     ensures { result ≡ known_uses uses.now.entries event }
 {
     match uses.get(&(event.line, event.col)) {
@@ -92,15 +92,11 @@ fn uses(alloc: Global, declarations: &Declarations<'_>) -> Result<Uses, OutOfMem
     Ok(uses)
 }
 
-/// The place of an event that is not used by exactly one process.
-fn misused(uses: &Uses, event: Place) -> Option<Place>
-    ensures { result ≡ (if nat_eq (known_uses uses.now.entries event) 1 then None else Some event) }
+/// The place of an event that activates so many processes, where these are not exactly one.
+pub fn misused(processes: usize, event: Place) -> Option<Place>
+    ensures { result ≡ (if nat_eq processes 1 then None else Some event) }
 {
-    if uses_of(uses, event) == 1 {
-        None
-    } else {
-        Some(event)
-    }
+    if processes == 1 { None } else { Some(event) }
 }
 
 /// Tries the rule on a declaration, the uses of all events being known.
@@ -111,12 +107,16 @@ fn event(first: &mut Option<Violation>, uses: &Uses, decl: &Declaration)
         noted (event_rules g) first.old (events (placed_decl decl.now ∷ rest)) }
 {
     if let Declaration::Event { place, .. } = decl {
-        blame(first, rule::EVENT_USE, misused(uses, *place));
+        blame(
+            first,
+            rule::EVENT_USE,
+            misused(uses_of(uses, *place), *place),
+        );
     }
 }
 
 /// The event that comes first of those that are not used by exactly one process.
-pub fn first_broken(
+pub(crate) fn first_broken(
     alloc: Global,
     declarations: &Declarations<'_>,
 ) -> Result<Option<Violation>, OutOfMemory>

@@ -7,7 +7,7 @@ ghost use Rattle.static_rule.specs.First.{IsFirstOf};
 ghost use Rattle.static_rule.specs.Parts.{FailsAmong, note, noted};
 ghost use Rattle.static_declarations.specs.Values.{value, is_within};
 ghost use Rattle.syntax_tree.specs.Parts.{processes};
-ghost use Rattle.static_numbers.specs.Processes.{handled, handler_numbers, all_handled, bad_handled, repeated as repeated_of};
+ghost use Rattle.static_numbers.specs.Processes.{handled, handler_numbers, all_handled, bad_handled as bad_handled_of, repeated as repeated_of};
 ghost use Rattle.static_numbers.specs.Rules.{handler_rules};
 ghost use Rattle.static_numbers.specs.Seen.{Tries, HasValues};
 
@@ -29,9 +29,9 @@ fn is_allowed(number: i64) -> bool
 }
 
 /// The place of a number that no handler may have.
-fn bad_number(declarations: &Declarations<'_>, number: &Constant) -> Option<Place>
+pub fn bad_handled(declarations: &Declarations<'_>, number: &Constant) -> Option<Place>
     ensures { (before : List (SpecConstant SpecPlace)) → result ≡
-        bad_handled (value (placed declarations.now))
+        bad_handled_of (value (placed declarations.now))
         (record { before = before; number = placed_constant number.now }) }
 {
     if is_allowed(declarations.value(number)) {
@@ -82,7 +82,7 @@ fn number(
         rule::WRONG_HANDLER,
         repeated(declarations, values, number)?,
     );
-    blame(first, rule::WRONG_NUMBER, bad_number(declarations, number));
+    blame(first, rule::WRONG_NUMBER, bad_handled(declarations, number));
     Ok(())
 }
 
@@ -134,7 +134,7 @@ fn decl(
 }
 
 /// The rule for numbers of handlers that fails first, if any does.
-pub fn first_broken(
+pub(crate) fn first_broken(
     alloc: Global,
     declarations: &Declarations<'_>,
 ) -> Result<Option<Violation>, OutOfMemory>

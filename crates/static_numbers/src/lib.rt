@@ -15,6 +15,15 @@ mod events;
 mod handlers;
 mod limits;
 mod places;
+mod visit;
 mod words;
 
+pub use activations::{bad_deadline, bad_first, bad_frame, deadline_of, frame_of};
+pub use bounds::{Bounds, crossed, too_long};
+pub use counts::{MOST_CONDITIONS, MOST_OF_A_KIND, MOST_ROUTINES, at_none, one_too_many};
+pub use events::misused;
+pub use handlers::bad_handled;
 pub use limits::first_broken;
+pub use places::NamePlaces;
+pub use visit::{BoundsVisitor, visit_bounds};
+pub use words::{too_many_words, variable_words};

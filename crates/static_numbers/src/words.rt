@@ -4,7 +4,7 @@ ghost use Rattle.std.specs.Prelude.{◌≡◌, ◌+◌, List, ◌∷◌, map};
 ghost use Rattle.syntax_tree.specs.Placed.{Decl as SpecDecl, Member as SpecMember, placed, placed_kind, placed_var, placed_member, placed_decl};
 ghost use Rattle.syntax_tree.specs.declared.place.Place.{Place as SpecPlace};
 ghost use Rattle.static_declarations.specs.Values.{value};
-ghost use Rattle.static_numbers.specs.Counts.{placed_kind_size, vars_words, members_words, words as words_of, too_many_words};
+ghost use Rattle.static_numbers.specs.Counts.{placed_kind_size, vars_words, members_words, words as words_of, too_many_words as too_many_words_of};
 ghost use Rattle.static_numbers.specs.Seen.{held};
 
 use static_declarations::Declarations;
@@ -86,14 +86,20 @@ fn of_decls(declarations: &Declarations<'_>, list: &[Declaration]) -> u64
     words
 }
 
+/// The words of the variables of processes and monitors.
+pub fn variable_words(declarations: &Declarations<'_>) -> u64
+    ensures { let g = placed declarations.now in result ≡ held (words_of (value g) g.decls) }
+{
+    of_decls(declarations, declarations.program().decls.as_slice())
+}
+
 /// The place of the program's name, where the variables of processes and monitors have too many
 /// words.
-pub fn too_many(declarations: &Declarations<'_>) -> Option<Place>
-    ensures { let g = placed declarations.now in result ≡ too_many_words (value g) g }
+pub fn too_many_words(declarations: &Declarations<'_>) -> Option<Place>
+    ensures { let g = placed declarations.now in result ≡ too_many_words_of (value g) g }
 {
-    let program = declarations.program();
-    if of_decls(declarations, program.decls.as_slice()) > MOST_WORDS {
-        Some(program.place)
+    if variable_words(declarations) > MOST_WORDS {
+        Some(declarations.program().place)
     } else {
         None
     }

@@ -10,5 +10,6 @@ use Rattle.message_rules.proofs.bounds.look.Goals as goal
 pub returns : goal.returns
 returns c =
     let of = bounds_findings (value (placed c.args.declarations.now)) in
-    sym (left-nothing of c.args.broken c.decls.new.known) ∙ c.decls.ensures []
+    let end = c.visit_bounds.new.visitor in
+    sym (left-nothing (bounds_findings (value (placed end.declarations.now))) end.broken end.known) ∙ c.visit_bounds.ensures []
     ∙ ap (λ ds. left of c.args.broken c.args.known.now (decls_bounds (map placed_decl ds) [])) (c.as_slice.ensures ∙ ap (λ p. p.decls) c.program.ensures)

@@ -14,7 +14,7 @@ pub returns : goal.returns
 returns c is =
     let g = placed c.args.declarations.now in
     let seen = c.places.view_is ∙ is in
-    let no = c.at_no.ensures ∙ ap (λ q. at_none q.place c.as_slice-processes.result.now) c.program-program.ensures
+    let no = c.at_none.ensures ∙ ap (λ q. at_none q.place c.as_slice-processes.result.now) c.program-program.ensures
     ∙ ap (at_none g.place) (c.as_slice-processes.ensures.value ∙ ap (λ p. p.processes) seen) ∙ none-map g.place (λ p. p.place) (processes g.decls) in
     let many-processes = c.one_too_many.ensures ∙ ap (one_too_many 64) (c.as_slice-processes.ensures.value ∙ ap (λ p. p.processes) seen) in
     let many-monitors = c.one_too_many-2.ensures ∙ ap (one_too_many 64) (c.as_slice-monitors.ensures.value ∙ ap (λ p. p.monitors) seen) in
@@ -30,4 +30,4 @@ returns c is =
     (then 40 _ _ _ _ _ c.blame-3.ensures
     (then 40 _ _ _ _ _ c.blame-2.ensures
     (then 40 _ _ _ _ _ c.blame.ensures refl no)
-    many-processes) many-monitors) many-devices) many-events) many-conditions) many-routines) c.too_many.ensures
+    many-processes) many-monitors) many-devices) many-events) many-conditions) many-routines) c.too_many_words.ensures

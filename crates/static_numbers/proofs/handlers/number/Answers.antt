@@ -9,7 +9,7 @@ use Rattle.static_numbers.proofs.handlers.number.Goals as goal
 pub returns-clause-tried : goal.returns-clause-tried
 returns-clause-tried c before known =
     c.blame-2.ensures
-    ∙ ap (blame c.blame.new.first 39) (c.bad_number.ensures before)
+    ∙ ap (blame c.blame.new.first 39) (c.bad_handled.ensures before)
     ∙ ap (λ f. blame f 39 (bad_handled worth (record { before = before; number = number }))) (c.blame.ensures ∙ ap (blame c.args.first.now 35) (c.in_ok-repeated.ensures.place before known))
   where
     worth : Worth
