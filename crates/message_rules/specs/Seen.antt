@@ -32,16 +32,6 @@ left of broken known xs = after broken known (flat_map of xs)
 abbrev pub LookedAt : {X : Type 0} → (X → List Finding) → Violation → Option Fault → (List X → List X) → Option Fault → Type 0
 LookedAt {X} of broken old parts new = (xs : List X) → left of broken new xs ≡ left of broken old (parts xs)
 
--- what is known, once all of these are; where there are none, what is known
-abbrev pub after_all : Violation → Option Fault → List Finding → Option Fault
-after_all broken known [] = known
-after_all broken known (f ∷ fs) = after broken known (f ∷ fs)
-
--- what is known, once the findings of one part after another are looked through
-abbrev pub looked : {X : Type 0} → (X → List Finding) → Violation → Option Fault → List X → Option Fault
-looked of broken known [] = known
-looked of broken known (x ∷ xs) = looked of broken (after_all broken known (of x)) xs
-
 abbrev pub bounds_of : code_bounds.Bounds → Bounds
 bounds_of b = record { of_array = b.of_array; low = placed_constant b.low.now; high = placed_constant b.high.now }
 
