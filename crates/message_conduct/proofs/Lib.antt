@@ -1,4 +1,4 @@
-pub mod Walks
+pub mod Names
 pub mod Found
 pub mod Telling
 pub mod Examples

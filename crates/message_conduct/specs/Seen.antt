@@ -1,17 +1,12 @@
--- What contracts see of what is wrong, while a program is looked through.
-use Rattle.std.specs.Prelude.{List, [], ◌∷◌, Option, option_map}
-use Rattle.std.specs.Option.{option_or}
+-- What contracts see of what is wrong.
+use Rattle.std.specs.Prelude.{Option, option_map}
 use Rattle.std.specs.Borrow.{Bor}
 use Rattle.syntax_tree.specs.Plain.{Name}
-use Rattle.static_rule.specs.declared.violation.Violation.{Violation}
-use Rattle.static_declarations.specs.Parts.{Part}
-use Rattle.static_types.specs.Sorts.{Named}
 use Rattle.message_conduct.specs.declared.stray.Deed as code_deed
 use Rattle.message_conduct.specs.declared.stray.Deed.TheVariants as deed_is
 use Rattle.message_conduct.specs.declared.stray.Stray as code_stray
 use Rattle.message_conduct.specs.declared.stray.Stray.TheVariants as stray_is
 use Rattle.message_conduct.specs.Faults.{Deed, calls_entry, calls_procedure, moves, changes, Fault, outside_entry, entry_inside, procedure_inside, by_function, as_statement, no_value, outside_loop, out_device, in_device}
-use Rattle.message_conduct.specs.Conduct.{fault_at}
 
 abbrev pub deed : code_deed.Deed → Deed
 deed deed_is.CallsEntry = calls_entry
@@ -36,8 +31,3 @@ fault (stray_is.InDevice name) = in_device name.now
 -- what is wrong, if something is
 abbrev pub seen : Option code_stray.Stray → Option Fault
 seen stray = option_map fault stray
-
--- what is known to be wrong, once these parts are looked through too
-abbrev pub after : Named → Violation → Option Fault → List Part → Option Fault
-after named broken known [] = known
-after named broken known (x ∷ xs) = after named broken (option_or known (fault_at named broken x)) xs

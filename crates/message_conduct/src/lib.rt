@@ -21,11 +21,11 @@ mod call_told;
 mod calls;
 mod expr;
 mod laws;
+mod search;
 mod sentences;
 mod stmt;
 mod stray;
 mod told;
-mod walk;
 
 pub use call_laws::tells_calls;
 pub use call_told::call_sentence;

@@ -3,7 +3,7 @@
 ghost use Rattle.std.specs.Prelude.{◌≡◌, ◌==◌};
 ghost use Rattle.syntax_tree.specs.Placed.{placed, placed_stmt, placed_ref};
 ghost use Rattle.static_declarations.specs.Things.{named_at};
-ghost use Rattle.static_declarations.specs.Parts.{statement, stmt_place as place_of_stmt};
+ghost use Rattle.static_declarations.specs.Parts.{statement};
 ghost use Rattle.static_types.specs.Conduct.{is_foreign as names_foreign, is_device as names_device};
 ghost use Rattle.message_conduct.specs.Faults.{change_fault, target_fault, inner_fault, outer_fault, stmt_fault, direction_fault, part_fault};
 ghost use Rattle.message_conduct.specs.Seen.{seen};
@@ -187,28 +187,5 @@ pub(crate) fn by_rule<'a>(
         misdirected(declarations, here, s)
     } else {
         None
-    }
-}
-
-/// The place of a statement, which is that of its first token.
-pub(crate) fn stmt_place(s: &Stmt) -> Place
-    ensures { result ≡ place_of_stmt (placed_stmt s.now) }
-{
-    match s {
-        Stmt::Assign { target, .. }
-        | Stmt::AssignEntry { target, .. }
-        | Stmt::AssignEmpty { target, .. } => target.place,
-        Stmt::Call { place, .. }
-        | Stmt::CallEntry { place, .. }
-        | Stmt::If { place, .. }
-        | Stmt::For { place, .. }
-        | Stmt::ExitWhen { place, .. }
-        | Stmt::Get { place, .. }
-        | Stmt::Put { place, .. }
-        | Stmt::Wait { place, .. }
-        | Stmt::Signal { place, .. }
-        | Stmt::Broadcast { place, .. }
-        | Stmt::Except { place, .. }
-        | Stmt::Assert { place, .. } => *place,
     }
 }

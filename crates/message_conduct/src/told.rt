@@ -4,8 +4,8 @@ ghost use Rattle.std.specs.Prelude.{◌≡◌, IfOk};
 ghost use Rattle.syntax_tree.specs.Placed.{placed};
 ghost use Rattle.message_conduct.specs.Conduct.{conduct_sentence};
 
+use crate::search::first_stray;
 use crate::sentences::add_sentence;
-use crate::walk::first_stray;
 use out_of_memory::OutOfMemory;
 use static_declarations::Declarations;
 use static_rule::Violation;

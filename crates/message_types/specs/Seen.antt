@@ -1,15 +1,11 @@
--- What contracts see of the code's mismatches, and of what is known while parts are looked through.
-use Rattle.std.specs.Prelude.{List, [], ◌∷◌, Option, option_map}
-use Rattle.std.specs.Option.{option_or}
-use Rattle.syntax_tree.specs.Placed.{op_of, Prog}
-use Rattle.syntax_tree.specs.declared.place.Place.{Place}
-use Rattle.static_declarations.specs.Parts.{Part}
+-- What contracts see of the code's mismatches.
+use Rattle.std.specs.Prelude.{Option, option_map}
+use Rattle.syntax_tree.specs.Placed.{op_of}
 use Rattle.message_types.specs.declared.mismatch.Spot as code_spot
 use Rattle.message_types.specs.declared.mismatch.Spot.TheVariants as spot_is
 use Rattle.message_types.specs.declared.mismatch.Mismatch as code_mismatch
 use Rattle.message_types.specs.declared.mismatch.Mismatch.TheVariants as mismatch_is
 use Rattle.message_types.specs.Mismatches.{Spot, test_of_if, test_of_exit, test_of_assert, assigned_to, got_into, put_to, argument, index_of, left_of, right_of, behind_minus, behind_not, result_of, Mismatch, sorts_differ, counts_differ, lacks_index, has_index}
-use Rattle.message_types.specs.Told.{mismatch_at}
 
 abbrev pub spot_of : code_spot.Spot → Spot
 spot_of spot_is.If = test_of_if
@@ -35,8 +31,3 @@ mismatch_of (mismatch_is.HasIndex name) = has_index name.now
 -- what does not agree, if something does not
 abbrev pub seen : Option code_mismatch.Mismatch → Option Mismatch
 seen found = option_map mismatch_of found
-
--- what is known not to agree, once these parts are looked through too
-abbrev pub after : Prog Place → Place → Option Mismatch → List Part → Option Mismatch
-after g place known [] = known
-after g place known (p ∷ ps) = after g place (option_or known (mismatch_at g place p)) ps

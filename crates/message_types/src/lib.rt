@@ -16,11 +16,11 @@ mod expr;
 mod laws;
 mod mismatch;
 mod name;
+mod search;
 mod sentences;
 mod sorts;
 mod stmt;
 mod told;
-mod walk;
 
 pub use laws::{mismatches_are_failures, sentences_are_failures};
 pub use told::type_sentence;

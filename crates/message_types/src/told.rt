@@ -4,8 +4,8 @@ ghost use Rattle.std.specs.Prelude.{◌≡◌, IfOk};
 ghost use Rattle.syntax_tree.specs.Placed.{placed};
 ghost use Rattle.message_types.specs.Told.{type_sentence};
 
+use crate::search::first_mismatch;
 use crate::sentences::add_sentence;
-use crate::walk::first_mismatch;
 use out_of_memory::OutOfMemory;
 use static_declarations::Declarations;
 use static_rule::rule;

@@ -12,6 +12,5 @@ mod conduct;
 mod program;
 mod rules;
 mod types;
-mod walk;
 
 pub use program::first_broken;

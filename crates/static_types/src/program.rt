@@ -1,126 +1,43 @@
 //! The statements and results of a program.
 
-ghost use Rattle.std.specs.Prelude.{◌≡◌, List, map};
-ghost use Rattle.syntax_tree.specs.Placed.{placed, placed_routine, placed_handler, placed_decl, optional};
+ghost use Rattle.syntax_tree.specs.Placed.{placed};
 ghost use Rattle.static_rule.specs.First.{IsFirstOf};
-ghost use Rattle.static_rule.specs.Parts.{noted};
-ghost use Rattle.static_declarations.specs.Parts.{Part, home_of as home_of_routine, outside_loops as standing_in, routine_parts, routines_parts, handler_parts, decl_parts, decls_parts};
-ghost use Rattle.static_types.specs.Rules.{statement_rules, StatementFails};
+ghost use Rattle.static_types.specs.Rules.{StatementFails};
 
-use crate::rules::try_answer;
-use crate::walk::stmts;
-use static_declarations::{Declarations, StmtContext, Where};
+use crate::rules::{try_answer, try_stmt};
+use static_declarations::Declarations;
+use static_parts::{PartVisitor, ProgramPart, visit_parts};
 use static_rule::Violation;
-use syntax_tree::{Declaration, Handler, Routine, RoutineKind};
 
-/// What the statements of a routine stand in. A function that is no entry is known by the place of
-/// its name.
-fn home_of(is_entry: bool, routine: &Routine) -> StmtContext
-    ensures { let r = placed_routine routine.now in result ≡
-        home_of_routine is_entry r.kind r.place }
-{
-    match (is_entry, routine.kind) {
-        (true, _) => StmtContext::Entry,
-        (false, RoutineKind::Procedure) => StmtContext::Free,
-        (false, RoutineKind::Function) => StmtContext::Function(routine.place),
-    }
+/// Tries the rules on each part of a program, and keeps the failure that comes first.
+#[derive(Drop)]
+struct RuleTest<'d, 'p> {
+    first: Option<Violation>,
+    declarations: &'d Declarations<'p>,
 }
 
-fn outside_loops(home: StmtContext) -> Where
-    ensures { result ≡ standing_in home }
-{
-    Where {
-        home,
-        in_loop: false,
-    }
-}
+impl<'d, 'p> PartVisitor for RuleTest<'d, 'p> {
+    ghost use Rattle.std.specs.Prelude.{Option};
+    ghost use Rattle.static_rule.specs.Parts.{noted};
+    ghost use Rattle.static_rule.specs.declared.violation.Violation.{Violation};
+    ghost use Rattle.static_types.specs.Rules.{statement_rules};
 
-/// The statements of a routine, and its result where it is a function.
-fn routine(
-    first: &mut Option<Violation>,
-    declarations: &Declarations<'_>,
-    is_entry: bool,
-    routine: &Routine,
-)
-    ensures { let rules = statement_rules (placed declarations.now) in (more : List Part) →
-        noted rules first.new more ≡ noted rules first.old
-        (routine_parts is_entry (placed_routine routine.now) more) }
-{
-    let here = outside_loops(home_of(is_entry, routine));
-    stmts(first, declarations, here, routine.body.as_slice());
-    if let (Some(kind), Some(value)) = (&routine.result, &routine.value) {
-        try_answer(first, declarations, routine.place, kind, value);
-    }
-}
+    ghost Found = { Option Violation };
 
-fn routines(
-    first: &mut Option<Violation>,
-    declarations: &Declarations<'_>,
-    is_entry: bool,
-    list: &[Routine],
-)
-    ensures { let rules = statement_rules (placed declarations.now) in (more : List Part) →
-        noted rules first.new more ≡ noted rules first.old
-        (routines_parts is_entry (map placed_routine list.now) more) }
-{
-    for one in list {
-        routine(first, declarations, is_entry, one);
-    }
-}
+    ghost found = { λ test parts. noted (statement_rules (placed test.declarations.now)) test.first parts };
 
-fn handler(
-    first: &mut Option<Violation>,
-    declarations: &Declarations<'_>,
-    handler: &Option<Handler>,
-)
-    ensures { let rules = statement_rules (placed declarations.now) in (more : List Part) →
-        noted rules first.new more ≡ noted rules first.old
-        (handler_parts (optional placed_handler handler.now) more) }
-{
-    if let Some(handler) = handler {
-        stmts(
-            first,
-            declarations,
-            outside_loops(StmtContext::Free),
-            handler.body.as_slice(),
-        );
-    }
-}
+    ghost ended = { λ test part. test.first };
 
-fn decl(first: &mut Option<Violation>, declarations: &Declarations<'_>, decl: &Declaration)
-    ensures { let rules = statement_rules (placed declarations.now) in (more : List Part) →
-        noted rules first.new more ≡ noted rules first.old
-        (decl_parts (placed_decl decl.now) more) }
-{
-    match decl {
-        Declaration::Const { .. } | Declaration::Device { .. } | Declaration::Event { .. } => {}
-        Declaration::Routine(one) => routine(first, declarations, false, one),
-        Declaration::Monitor(monitor) => routines(
-            first,
-            declarations,
-            true,
-            monitor.entries.as_slice(),
-        ),
-        Declaration::Process(process) => {
-            routines(first, declarations, false, process.routines.as_slice());
-            stmts(
-                first,
-                declarations,
-                outside_loops(StmtContext::Free),
-                process.body.as_slice(),
-            );
-            handler(first, declarations, &process.handler);
+    fn visit(&mut self, part: ProgramPart<'_>) -> bool {
+        match part {
+            ProgramPart::Statement { here, s } => {
+                try_stmt(&mut self.first, self.declarations, here, s);
+            }
+            ProgramPart::Answer { name, kind, value } => {
+                try_answer(&mut self.first, self.declarations, name, kind, value);
+            }
         }
-    }
-}
-
-fn decls(first: &mut Option<Violation>, declarations: &Declarations<'_>, list: &[Declaration])
-    ensures { let rules = statement_rules (placed declarations.now) in (more : List Part) →
-        noted rules first.new more ≡ noted rules first.old
-        (decls_parts (map placed_decl list.now) more) }
-{
-    for one in list {
-        decl(first, declarations, one);
+        false
     }
 }
 
@@ -128,11 +45,10 @@ fn decls(first: &mut Option<Violation>, declarations: &Declarations<'_>, list: &
 pub fn first_broken(declarations: &Declarations<'_>) -> Option<Violation>
     ensures { IsFirstOf (StatementFails (placed declarations.now)) result }
 {
-    let mut first = None;
-    decls(
-        &mut first,
+    let mut test = RuleTest {
+        first: None,
         declarations,
-        declarations.program().decls.as_slice(),
-    );
-    first
+    };
+    visit_parts(&mut test, declarations.program());
+    test.first
 }

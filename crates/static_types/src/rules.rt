@@ -5,7 +5,7 @@ ghost use Rattle.syntax_tree.specs.Placed.{placed, placed_stmt, placed_ref, plac
 ghost use Rattle.static_rule.specs.Parts.{note};
 ghost use Rattle.static_declarations.specs.Things.{named_at};
 ghost use Rattle.static_declarations.specs.declared.home.Where.{Where};
-ghost use Rattle.static_declarations.specs.Parts.{statement, answer, stmt_place as place_of_stmt};
+ghost use Rattle.static_declarations.specs.Parts.{statement, answer};
 ghost use Rattle.static_types.specs.Types.{mistyped as mistyped_at};
 ghost use Rattle.static_types.specs.Conduct.{misplaced as misplaced_at};
 ghost use Rattle.static_types.specs.Rules.{statement_rules};
@@ -16,31 +16,9 @@ use crate::conduct::{
 };
 use crate::types::{answer_agrees, stmt_agrees};
 use static_declarations::{Declarations, Where};
+use static_parts::stmt_place;
 use static_rule::{Violation, blame, rule};
 use syntax_tree::{Expr, Place, Scalar, Stmt};
-
-/// The place of a statement, which is that of its first token.
-fn stmt_place(s: &Stmt) -> Place
-    ensures { result ≡ place_of_stmt (placed_stmt s.now) }
-{
-    match s {
-        Stmt::Assign { target, .. }
-        | Stmt::AssignEntry { target, .. }
-        | Stmt::AssignEmpty { target, .. } => target.place,
-        Stmt::Call { place, .. }
-        | Stmt::CallEntry { place, .. }
-        | Stmt::If { place, .. }
-        | Stmt::For { place, .. }
-        | Stmt::ExitWhen { place, .. }
-        | Stmt::Get { place, .. }
-        | Stmt::Put { place, .. }
-        | Stmt::Wait { place, .. }
-        | Stmt::Signal { place, .. }
-        | Stmt::Broadcast { place, .. }
-        | Stmt::Except { place, .. }
-        | Stmt::Assert { place, .. } => *place,
-    }
-}
 
 /// The place of a statement whose types or numbers of arguments do not agree.
 fn mistyped(declarations: &Declarations<'_>, s: &Stmt) -> Option<Place>

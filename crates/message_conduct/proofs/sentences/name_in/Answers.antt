@@ -3,7 +3,7 @@ use Rattle.std.specs.Option.{option_or}
 use Rattle.syntax_tree.specs.Placed.{placed_routine, placed_decl}
 use Rattle.syntax_tree.specs.Parts.{routines}
 use Rattle.message_conduct.specs.Sentences.{name_at}
-use Rattle.message_conduct.proofs.Walks.{name-append}
+use Rattle.message_conduct.proofs.Names.{name-append}
 use Rattle.message_conduct.proofs.sentences.name_in.Goals as goal
 
 pub returns-in-Monitor : goal.returns-in-Monitor
