@@ -1,21 +1,12 @@
--- What the rule for wait statements says of results, and the number that it has.
-use Rattle.std.proofs.Common.{◌≡◌, ℕ, List, [], ◌∷◌, Option, Some, None, inl, inr, refl, sym, subst}
-use Rattle.syntax_tree.specs.Placed.{Scalar, Expr, Prog}
+-- The number that the rule for wait statements has.
+use Rattle.std.proofs.Common.{◌≡◌, ℕ, List, [], ◌∷◌, inl, inr, sym, subst}
+use Rattle.syntax_tree.specs.Placed.{Prog}
 use Rattle.syntax_tree.specs.declared.place.Place.{Place}
 use Rattle.static_rule.specs.First.{IsFirst}
-use Rattle.static_rule.specs.Parts.{FailsAmong, FailsOf, noted}
+use Rattle.static_rule.specs.Parts.{FailsAmong, FailsOf}
 use Rattle.static_rule.specs.declared.violation.Violation.{Violation}
-use Rattle.static_declarations.specs.Parts.{Part, answer_parts, parts}
+use Rattle.static_declarations.specs.Parts.{Part, parts}
 use Rattle.command_due.specs.Waits.{wait_rules, IsFirstWait, WaitFails}
-
--- the result of a function does not wait
-pub results_wait_not : (first : Option Violation) (name : Place) (s : Option (Scalar Place)) (e : Option (Expr Place)) (more : List Part)
-    → noted wait_rules first (answer_parts name s e more) ≡ noted wait_rules first more
-unfolding wait_rules
-results_wait_not first name (Some s) (Some e) more = refl
-results_wait_not first name (Some s) None more = refl
-results_wait_not first name None (Some e) more = refl
-results_wait_not first name None None more = refl
 
 of_part : (x : Part) (number : ℕ) (place : Place) → FailsOf wait_rules x number place → number ≡ 48
 unfolding wait_rules

@@ -16,7 +16,6 @@ mod running;
 mod shaping;
 mod tasks;
 mod waits;
-mod walk;
 
 pub use judged::{Judged, judge_program};
 pub use lines::report;

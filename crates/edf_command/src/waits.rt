@@ -1,63 +1,39 @@
 //! The first wait statement of a program.
 
-ghost use Rattle.std.specs.Prelude.{◌≡◌, Bool, List, map};
-ghost use Rattle.syntax_tree.specs.Placed.{placed, placed_routine, placed_handler, placed_decl, optional};
-ghost use Rattle.static_rule.specs.Parts.{noted};
-ghost use Rattle.static_declarations.specs.Parts.{Part, routine_parts, routines_parts, handler_parts, decl_parts, decls_parts};
+ghost use Rattle.syntax_tree.specs.Placed.{placed};
 ghost use Rattle.command_due.specs.Waits.{wait_rules, IsFirstWaitOf};
 
-use crate::walk::stmts;
-use static_rule::Violation;
-use syntax_tree::{Declaration, Handler, Place, Program, Routine};
+use static_parts::{PartVisitor, ProgramPart, visit_parts};
+use static_rule::{Violation, blame, rule};
+use syntax_tree::{Place, Program, Stmt};
 
-/// The statements of a routine.
-fn routine(first: &mut Option<Violation>, routine: &Routine)
-    ensures { (is_entry : Bool) (more : List Part) → noted wait_rules first.new more
-        ≡ noted wait_rules first.old (routine_parts is_entry (placed_routine routine.now) more) }
-{
-    stmts(first, routine.body.as_slice());
+/// Goes through the parts of a program, and keeps the statement that waits and comes first.
+#[derive(Drop)]
+struct WaitSearch {
+    first: Option<Violation>,
 }
 
-fn routines(first: &mut Option<Violation>, list: &[Routine])
-    ensures { (is_entry : Bool) (more : List Part) → noted wait_rules first.new more
-        ≡ noted wait_rules first.old (routines_parts is_entry (map placed_routine list.now) more) }
-{
-    for one in list {
-        routine(first, one);
-    }
-}
+impl PartVisitor for WaitSearch {
+    ghost use Rattle.std.specs.Prelude.{Option};
+    ghost use Rattle.static_rule.specs.declared.violation.Violation.{Violation};
+    ghost use Rattle.static_rule.specs.Parts.{noted};
 
-fn handler(first: &mut Option<Violation>, handler: &Option<Handler>)
-    ensures { (more : List Part) → noted wait_rules first.new more
-        ≡ noted wait_rules first.old (handler_parts (optional placed_handler handler.now) more) }
-{
-    if let Some(handler) = handler {
-        stmts(first, handler.body.as_slice());
-    }
-}
+    ghost Found = { Option Violation };
 
-fn decl(first: &mut Option<Violation>, decl: &Declaration)
-    ensures { (more : List Part) → noted wait_rules first.new more
-        ≡ noted wait_rules first.old (decl_parts (placed_decl decl.now) more) }
-{
-    match decl {
-        Declaration::Const { .. } | Declaration::Device { .. } | Declaration::Event { .. } => {}
-        Declaration::Routine(one) => routine(first, one),
-        Declaration::Monitor(monitor) => routines(first, monitor.entries.as_slice()),
-        Declaration::Process(process) => {
-            routines(first, process.routines.as_slice());
-            stmts(first, process.body.as_slice());
-            handler(first, &process.handler);
+    ghost found = { λ search parts. noted wait_rules search.first parts };
+
+    ghost ended = { λ search part. search.first };
+
+    #[tactic(auto, unfolding(command_due::specs::Waits::wait_rules))]
+    fn visit(&mut self, part: ProgramPart<'_>) -> bool {
+        if let ProgramPart::Statement {
+            s: Stmt::Wait { place, .. },
+            ..
+        } = part
+        {
+            blame(&mut self.first, rule::WAITS, Some(*place));
         }
-    }
-}
-
-fn decls(first: &mut Option<Violation>, list: &[Declaration])
-    ensures { (more : List Part) → noted wait_rules first.new more
-        ≡ noted wait_rules first.old (decls_parts (map placed_decl list.now) more) }
-{
-    for one in list {
-        decl(first, one);
+        false
     }
 }
 
@@ -66,9 +42,9 @@ fn decls(first: &mut Option<Violation>, list: &[Declaration])
 pub fn first_wait(program: &Program) -> Option<Place>
     ensures { IsFirstWaitOf (placed program.now) result }
 {
-    let mut first = None;
-    decls(&mut first, program.decls.as_slice());
-    match first {
+    let mut search = WaitSearch { first: None };
+    visit_parts(&mut search, program);
+    match search.first {
         None => None,
         Some(broken) => Some(broken.place),
     }

@@ -2,5 +2,4 @@ pub mod Walks
 pub mod Elsewhere
 pub mod Counting
 pub mod Rules
-pub mod Answered
 pub mod Examples

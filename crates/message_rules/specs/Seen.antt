@@ -32,16 +32,6 @@ left of broken known xs = after broken known (flat_map of xs)
 abbrev pub LookedAt : {X : Type 0} → (X → List Finding) → Violation → Option Fault → (List X → List X) → Option Fault → Type 0
 LookedAt of broken = Visited (left of broken)
 
--- what is known, once all of these are; where there are none, what is known
-abbrev pub after_all : Violation → Option Fault → List Finding → Option Fault
-after_all broken known [] = known
-after_all broken known (f ∷ fs) = after broken known (f ∷ fs)
-
--- what is known, once the findings of one part after another are looked through
-abbrev pub looked : {X : Type 0} → (X → List Finding) → Violation → Option Fault → List X → Option Fault
-looked of broken known [] = known
-looked of broken known (x ∷ xs) = looked of broken (after_all broken known (of x)) xs
-
 -- a number of a handler and those before it
 abbrev pub handled_of : List code_constant.Constant → code_constant.Constant → Handled
 handled_of before number = record { before = map placed_constant before; number = placed_constant number }

@@ -6,7 +6,7 @@
 //! `specs/Findings.antt` tries each of these rules of `static_types` and `static_numbers` on each
 //! part of the program that it is for, and has what is wrong where it fails;
 //! `specs/Sentences.antt` says it. `rule_sentence` makes exactly that sentence, or tells that there
-//! is none.
+//! is none. A rule for declarations is asked by the test of `static_numbers`.
 #![tactic(auto)]
 
 mod activations;

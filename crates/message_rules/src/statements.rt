@@ -1,18 +1,18 @@
 //! The numbers in statements: bounds and turns of loops, exceptions, and limits of waits.
 
-ghost use Rattle.std.specs.Prelude.{◌≡◌, Bool, Some, None, List, map, pos, ◌+ℤ◌, int_le, int_lt, if◌then◌else◌};
+ghost use Rattle.std.specs.Prelude.{◌≡◌, Some, None, pos, ◌+ℤ◌, int_le, int_lt, if◌then◌else◌};
 ghost use Rattle.base.specs.Words.{same};
-ghost use Rattle.syntax_tree.specs.Placed.{placed, placed_constant, placed_stmt, placed_stmts, placed_routine, placed_handler, placed_decl, optional};
-ghost use Rattle.static_declarations.specs.declared.home.Where.{Where};
+ghost use Rattle.syntax_tree.specs.Placed.{placed, placed_constant, placed_stmt};
 ghost use Rattle.static_declarations.specs.Values.{value, constant_place};
-ghost use Rattle.static_declarations.specs.Parts.{Part, stmt_parts, stmts_parts, routine_parts, routines_parts, handler_parts, decl_parts, decls_parts, parts};
+ghost use Rattle.static_declarations.specs.Parts.{parts};
 ghost use Rattle.message_rules.specs.Findings.{loop_findings, part_findings, raised_findings, stmt_findings, wait_findings};
-ghost use Rattle.message_rules.specs.Seen.{Looked, after_all, left, looked};
+ghost use Rattle.message_rules.specs.Seen.{Looked, left};
 
 use crate::fault::{Fault, Quantity, note};
 use static_declarations::Declarations;
+use static_parts::{PartVisitor, ProgramPart, visit_parts};
 use static_rule::{Violation, rule};
-use syntax_tree::{Constant, Declaration, Handler, Place, Routine, Stmt};
+use syntax_tree::{Constant, Place, Stmt};
 
 /// The most turns that a loop may have.
 const MOST_TURNS: i64 = 1_000_000;
@@ -163,8 +163,8 @@ fn look_at_wait(
 
 /// Looks through the findings of a statement, the statements in it aside.
 fn look_at(known: &mut Option<Fault>, declarations: &Declarations<'_>, broken: Violation, s: &Stmt)
-    ensures { known.new ≡ after_all broken known.old
-        (stmt_findings (value (placed declarations.now)) (placed_stmt s.now)) }
+    ensures { Looked broken known.old
+        (stmt_findings (value (placed declarations.now)) (placed_stmt s.now)) known.new }
 {
     match s {
         Stmt::For {
@@ -181,154 +181,43 @@ fn look_at(known: &mut Option<Fault>, declarations: &Declarations<'_>, broken: V
     }
 }
 
-/// Looks through the findings of each statement of a list and those in it.
-#[cycle(stmt)]
-fn stmts(
-    known: &mut Option<Fault>,
-    declarations: &Declarations<'_>,
+/// Looks through the findings of each part of a program. The result of a function has none.
+#[derive(Drop)]
+struct PartSearch<'d, 'p> {
+    known: Option<Fault>,
+    declarations: &'d Declarations<'p>,
     broken: Violation,
-    list: &[Stmt],
-)
-    ensures { let of = part_findings (value (placed declarations.now)) in (here : Where) (more : List Part) →
-        looked of broken known.new more ≡
-        looked of broken known.old (stmts_parts here (placed_stmts list.now) more) }
-{
-    for s in list {
-        stmt(known, declarations, broken, s);
-    }
 }
 
-/// Looks through the findings of a statement and those in it.
-#[cycle(stmt)]
-fn stmt(known: &mut Option<Fault>, declarations: &Declarations<'_>, broken: Violation, s: &Stmt)
-    ensures { let of = part_findings (value (placed declarations.now)) in (here : Where) (more : List Part) →
-        looked of broken known.new more ≡
-        looked of broken known.old (stmt_parts here (placed_stmt s.now) more) }
-{
-    look_at(known, declarations, broken, s);
-    match s {
-        Stmt::If {
-            first: then,
-            second: None,
-            ..
-        } => stmts(known, declarations, broken, then.as_slice()),
-        Stmt::If {
-            first: then,
-            second: Some(other),
-            ..
-        } => {
-            stmts(known, declarations, broken, then.as_slice());
-            stmts(known, declarations, broken, other.as_slice());
+impl<'d, 'p> PartVisitor for PartSearch<'d, 'p> {
+    ghost use Rattle.std.specs.Prelude.{Option};
+    ghost use Rattle.message_rules.specs.declared.fault.Fault.{Fault};
+
+    ghost Found = { Option Fault };
+
+    ghost found = { λ search parts. left (part_findings (value (placed search.declarations.now))) search.broken search.known parts };
+
+    ghost ended = { λ search part. search.known };
+
+    #[tactic(auto, unfolding(crate::specs::Seen::left))]
+    fn visit(&mut self, part: ProgramPart<'_>) -> bool {
+        if let ProgramPart::Statement { s, .. } = part {
+            look_at(&mut self.known, self.declarations, self.broken, s);
         }
-        Stmt::For { body, .. } => stmts(known, declarations, broken, body.as_slice()),
-        Stmt::Assign { .. }
-        | Stmt::AssignEntry { .. }
-        | Stmt::AssignEmpty { .. }
-        | Stmt::Call { .. }
-        | Stmt::CallEntry { .. }
-        | Stmt::ExitWhen { .. }
-        | Stmt::Get { .. }
-        | Stmt::Put { .. }
-        | Stmt::Wait { .. }
-        | Stmt::Signal { .. }
-        | Stmt::Broadcast { .. }
-        | Stmt::Except { .. }
-        | Stmt::Assert { .. } => {}
+        false
     }
 }
 
-/// The statements of a routine; its result has no finding.
-fn routine(
-    known: &mut Option<Fault>,
-    declarations: &Declarations<'_>,
-    broken: Violation,
-    routine: &Routine,
-)
-    ensures { let of = part_findings (value (placed declarations.now)) in (is_entry : Bool) (more : List Part) →
-        looked of broken known.new more ≡
-        looked of broken known.old (routine_parts is_entry (placed_routine routine.now) more) }
-{
-    stmts(known, declarations, broken, routine.body.as_slice());
-}
-
-fn routines(
-    known: &mut Option<Fault>,
-    declarations: &Declarations<'_>,
-    broken: Violation,
-    list: &[Routine],
-)
-    ensures { let of = part_findings (value (placed declarations.now)) in (is_entry : Bool) (more : List Part) →
-        looked of broken known.new more ≡
-        looked of broken known.old (routines_parts is_entry (map placed_routine list.now) more) }
-{
-    for one in list {
-        routine(known, declarations, broken, one);
-    }
-}
-
-fn handler(
-    known: &mut Option<Fault>,
-    declarations: &Declarations<'_>,
-    broken: Violation,
-    handler: &Option<Handler>,
-)
-    ensures { let of = part_findings (value (placed declarations.now)) in (more : List Part) →
-        looked of broken known.new more ≡
-        looked of broken known.old (handler_parts (optional placed_handler handler.now) more) }
-{
-    if let Some(handler) = handler {
-        stmts(known, declarations, broken, handler.body.as_slice());
-    }
-}
-
-fn decl(
-    known: &mut Option<Fault>,
-    declarations: &Declarations<'_>,
-    broken: Violation,
-    decl: &Declaration,
-)
-    ensures { let of = part_findings (value (placed declarations.now)) in (more : List Part) →
-        looked of broken known.new more ≡
-        looked of broken known.old (decl_parts (placed_decl decl.now) more) }
-{
-    match decl {
-        Declaration::Const { .. } | Declaration::Device { .. } | Declaration::Event { .. } => {}
-        Declaration::Routine(one) => routine(known, declarations, broken, one),
-        Declaration::Monitor(monitor) => {
-            routines(known, declarations, broken, monitor.entries.as_slice());
-        }
-        Declaration::Process(process) => {
-            routines(known, declarations, broken, process.routines.as_slice());
-            stmts(known, declarations, broken, process.body.as_slice());
-            handler(known, declarations, broken, &process.handler);
-        }
-    }
-}
-
-fn decls(
-    known: &mut Option<Fault>,
-    declarations: &Declarations<'_>,
-    broken: Violation,
-    list: &[Declaration],
-)
-    ensures { let of = part_findings (value (placed declarations.now)) in (more : List Part) →
-        looked of broken known.new more ≡
-        looked of broken known.old (decls_parts (map placed_decl list.now) more) }
-{
-    for one in list {
-        decl(known, declarations, broken, one);
-    }
-}
-
-/// Looks through the findings of all statements of a program.
+/// Looks through the findings of all parts of a program.
 pub(crate) fn look(known: &mut Option<Fault>, declarations: &Declarations<'_>, broken: Violation)
     ensures { let g = placed declarations.now in known.new ≡
         left (part_findings (value g)) broken known.old (parts g) }
 {
-    decls(
-        known,
+    let mut search = PartSearch {
+        known: *known,
         declarations,
         broken,
-        declarations.program().decls.as_slice(),
-    );
+    };
+    visit_parts(&mut search, declarations.program());
+    *known = search.known;
 }

@@ -6,6 +6,10 @@
 //!
 //! Each of five groups goes once through the declarations; `first_broken` joins them: the failure
 //! that comes first, and none exactly where no rule fails.
+//!
+//! The tests are public, with what they ask for: `message_rules` tells by them what is wrong. So is
+//! the walk over the bounds of types, `visit_bounds`, by what is done at each pair
+//! (`BoundsVisitor`).
 #![tactic(auto)]
 
 mod activations;

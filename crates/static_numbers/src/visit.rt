@@ -70,7 +70,8 @@ fn params<V: BoundsVisitor>(visitor: &mut V, list: &[Param])
 
 /// The type of a result.
 fn result<V: BoundsVisitor>(visitor: &mut V, kind: &Option<Scalar>)
-    ensures { Visited V.found visitor.old (result_bounds (optional placed_scalar kind.now)) visitor.new }
+    ensures { Visited V.found visitor.old
+        (result_bounds (optional placed_scalar kind.now)) visitor.new }
 {
     if let Some(kind) = kind {
         scalar(visitor, kind);
@@ -78,7 +79,8 @@ fn result<V: BoundsVisitor>(visitor: &mut V, kind: &Option<Scalar>)
 }
 
 fn routine<V: BoundsVisitor>(visitor: &mut V, routine: &Routine)
-    ensures { Visited V.found visitor.old (routine_bounds (placed_routine routine.now)) visitor.new }
+    ensures { Visited V.found visitor.old
+        (routine_bounds (placed_routine routine.now)) visitor.new }
 {
     params(visitor, routine.params.as_slice());
     result(visitor, &routine.result);
@@ -86,7 +88,8 @@ fn routine<V: BoundsVisitor>(visitor: &mut V, routine: &Routine)
 }
 
 fn routines<V: BoundsVisitor>(visitor: &mut V, list: &[Routine])
-    ensures { Visited V.found visitor.old (routines_bounds (map placed_routine list.now)) visitor.new }
+    ensures { Visited V.found visitor.old
+        (routines_bounds (map placed_routine list.now)) visitor.new }
 {
     for one in list {
         routine(visitor, one);
@@ -102,7 +105,8 @@ fn member<V: BoundsVisitor>(visitor: &mut V, member: &Member)
 }
 
 fn members<V: BoundsVisitor>(visitor: &mut V, list: &[Member])
-    ensures { Visited V.found visitor.old (members_bounds (map placed_member list.now)) visitor.new }
+    ensures { Visited V.found visitor.old
+        (members_bounds (map placed_member list.now)) visitor.new }
 {
     for one in list {
         member(visitor, one);
