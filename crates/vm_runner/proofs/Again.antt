@@ -3,7 +3,7 @@ use Rattle.std.proofs.Common.{◌≡◌, ◌≢◌, ℕ, List, Some, inl, inr, l
 use Rattle.std.specs.Prelude.{slice_get, slice_set}
 use Rattle.std.proofs.lemmas.List.{length-set}
 use Rattle.base.proofs.Lists.{get_other, get_set, one_some, same_elements}
-use Rattle.machine_semantics.specs.Image.{Image, Process}
+use Rattle.machine_semantics.specs.Image.{Image}
 use Rattle.machine_semantics.specs.State.{Job, Thread, Ready}
 use Rattle.vm_stretch.proofs.Lists.{same_or_not}
 use Rattle.vm_instructions.specs.declared.activation.Activation.{Activation as Kept}
@@ -12,7 +12,6 @@ use Rattle.vm_state.specs.declared.threads.SchedulingState.{SchedulingState}
 use Rattle.vm_state.specs.declared.threads.SchedulingState.TheVariants as stand
 use Rattle.vm_state.specs.Threads.{thread_by}
 use Rattle.vm_runner.specs.declared.ranking.Ranking.{Ranking}
-use Rattle.vm_runner.specs.declared.ranking.Precedence.{Precedence}
 use Rattle.vm_runner.specs.Ranking.{IsNumber, IsRanking}
 
 -- where one thread alone changes, the others are those of before

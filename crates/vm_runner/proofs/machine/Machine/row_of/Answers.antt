@@ -1,7 +1,6 @@
-use Rattle.std.proofs.Common.{◌≡◌, ◌<◌, ◌≤◌, ◌+◌, ◌∙◌, ℕ, List, Some, false, inl, inr, length, arith, ap, sym, subst}
+use Rattle.std.proofs.Common.{◌≡◌, ◌<◌, ◌+◌, ◌∙◌, List, Some, false, length, arith, ap, sym, subst}
 use Rattle.std.specs.Prelude.{slice_get}
 use Rattle.base.specs.declared.event.Event.{Event}
-use Rattle.base.proofs.Lists.{one_some}
 use Rattle.machine_semantics.specs.State.{State}
 use Rattle.vm_instructions.specs.Silent.{job_of}
 use Rattle.vm_stretch.specs.StretchDue.{NoneBefore}
@@ -14,7 +13,7 @@ use Rattle.vm_releases.specs.declared.order.StartOrder.{StartOrder}
 use Rattle.vm_state.proofs.Waking.{thread_at}
 use Rattle.vm_state.specs.Board.{state_of}
 use Rattle.vm_runner.specs.declared.machine.Machine.{Machine}
-use Rattle.vm_runner.specs.Course.{Course, GoesBySteps, course}
+use Rattle.vm_runner.specs.Course.{Course, course}
 use Rattle.vm_runner.specs.Dispatching.{Between, GoesOn, IsAgain, Ticks}
 use Rattle.vm_runner.specs.Standing.{Stands}
 use Rattle.vm_runner.specs.Waits.{is_some_at_queue}

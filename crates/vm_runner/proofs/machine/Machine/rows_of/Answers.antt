@@ -3,7 +3,7 @@ use Rattle.std.proofs.lemmas.List.{append-nil}
 use Rattle.base.specs.declared.event.Event.{Event}
 use Rattle.vm_stretch.specs.StretchDue.{NoneBefore}
 use Rattle.vm_runner.specs.Course.{Course, course, events_between, started}
-use Rattle.vm_runner.proofs.Cut.{cut_at, none_between}
+use Rattle.vm_runner.proofs.Cut.{cut_at}
 use Rattle.vm_runner.proofs.machine.Machine.rows_of.Goals as goal
 
 -- requires: plan, runnable, chosen, some, end, clear

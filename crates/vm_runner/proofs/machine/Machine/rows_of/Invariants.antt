@@ -1,4 +1,4 @@
-use Rattle.std.proofs.Common.{◌≡◌, ◌≤◌, ◌<◌, ◌+◌, ◌-◌, ◌++◌, ℕ, List, true, false}
+use Rattle.std.proofs.Common.{◌≡◌, ◌≤◌, ◌<◌, ◌-◌, ◌++◌, List, true, false}
 use Rattle.base.specs.declared.event.Event.{Event}
 use Rattle.vm_stretch.specs.StretchDue.{NoneBefore}
 use Rattle.vm_runner.specs.Course.{AreTold, course, events_between, started}

@@ -1,7 +1,6 @@
 use Rattle.std.proofs.Common.{◌∙◌, ap, subst, sym}
-use Rattle.machine_semantics.specs.State.{State, Ready, Thread}
+use Rattle.machine_semantics.specs.State.{State, Thread}
 use Rattle.std.proofs.Common.{List}
-use Rattle.std.specs.Prelude.{slice_set}
 use Rattle.machine_semantics.specs.Tick.{pick}
 use Rattle.vm_stretch.specs.Stretch.{place_of}
 use Rattle.vm_stretch.specs.RowLaws.{begun}
