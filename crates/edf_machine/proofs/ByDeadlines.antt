@@ -1,27 +1,29 @@
 -- Runs under earliest deadline first go by turns and rows.
 use Rattle.std.proofs.Common.{◌≡◌, ◌≤◌, ◌+◌, ◌++◌, inl, inr, ℕ, zero, suc, List, [], Option, Some, length, arith, refl, ap, sym, subst, ◌∙◌, append_assoc}
-use Rattle.std.proofs.lemmas.List.{append-nil}
+use Rattle.std.specs.Prelude.{slice_set}
+use Rattle.std.proofs.lemmas.List.{append-nil, length-set}
 use Rattle.base.specs.declared.event.Event.{Event}
 use Rattle.machine_semantics.specs.Image.{Image, Script}
-use Rattle.machine_semantics.specs.State.{State}
+use Rattle.machine_semantics.specs.State.{Ready, State, Thread}
 use Rattle.machine_semantics.specs.Starts.{starts}
 use Rattle.machine_semantics.specs.Run.{at_start}
 use Rattle.machine_semantics.specs.Tick.{Ticked}
 use Rattle.machine_semantics.specs.Effect.{Own}
 use Rattle.vm_runner.specs.Course as course
 use Rattle.vm_runner.specs.Course.{ComeTo, GoesBySteps, IsRow, IsStep, IsThere}
-use Rattle.edf_semantics.specs.Choice.{Mark}
-use Rattle.edf_semantics.specs.Run.{Marked, begin_some, events_from, first_marks, marks_of, state_at, tick}
+use Rattle.edf_semantics.specs.Choice.{Mark, choose}
+use Rattle.edf_semantics.specs.Run.{Marked, begin, begin_some, events_from, first_marks, marks_of, state_at, tick}
 use Rattle.edf_semantics.specs.Rows.{IsChosen, IsRowTaken, IsSafeRun}
 use Rattle.edf_semantics.specs.Turn.{IsTaken, IsTurn, begun, chosen, marked, started}
 use Rattle.edf_semantics.proofs.Rowing.{row_is_safe, row_is_taken}
-use Rattle.edf_semantics.proofs.Staying.{IsReady, chosen_ready, marks_same}
+use Rattle.edf_semantics.proofs.Marking.{length_begin}
+use Rattle.edf_semantics.proofs.Staying.{IsReady, begin_twice, choice_stays, chosen_ready, marks_few, marks_same}
 use Rattle.edf_semantics.proofs.Turning.{more_events, next_state, turn_stays_in_run}
 use Rattle.vm_releases.proofs.Boards.{cells_count}
 use Rattle.vm_releases.proofs.Joining.{threads_count}
 use Rattle.vm_state.specs.declared.decoded_image.DecodedImage.{DecodedImage}
 use Rattle.vm_state.specs.declared.machine_state.MachineState.{MachineState}
-use Rattle.vm_runner.specs.Dispatching.{At, Begun, Plans, Rests}
+use Rattle.vm_runner.specs.Dispatching.{At, Begun, GoesOn, InRow, Plans, Rests}
 use Rattle.edf_machine.specs.ByDeadlines.{Knows, by_deadlines, deadlines}
 use Rattle.edf_machine.specs.Marks.{AreMarks}
 use Rattle.edf_machine.specs.declared.deadlines.Deadlines.{Deadlines}
@@ -151,6 +153,42 @@ module _ (image : Image) (script : Script) where
     fits = runs.fits;
     short = runs.short;
   }
+
+  -- ---- a process that goes on as it stood
+
+  -- at the next tick the marks are those of its row
+  marks_on : IsRunnable image script → (t n k : ℕ) → GoesOn (by_deadlines image script) t n k → marked image script (t + n) ≡ begin k (marked image script t)
+  marks_on can t n k on =
+      let ts : List Thread = (begun image script t).threads in
+      let ms : List Mark = begin k (marked image script t) in
+      let after : (state_at image script (t + n)).marks ≡ ms = marks_after can.safe t n on.step ∙ ap (λ (o : Option ℕ). begin_some o (marked image script t)) on.chosen in
+      let few : length (state_at image script (t + n)).marks ≤ length (state_at image script (t + n)).state.threads =
+      (let a = length_begin k (marked image script t) in
+      let b = length-set ts k (Ready on.new) in
+      let c = marks_few t (state_at image script t).state.threads ts (state_at image script t).marks in
+      let d : length (state_at image script (t + n)).marks ≡ length ms = ap (λ (xs : List Mark). length xs) after in
+      let e : length (state_at image script (t + n)).state.threads ≡ length (slice_set ts k (Ready on.new)) = ap (λ (xs : List Thread). length xs) on.threads in
+      omega (arith, a, b, c, d, e)) in
+      marks_rest (t + n) on.calm few ∙ after
+
+  pub chosen_again : IsRunnable image script → (t n k : ℕ) → GoesOn (by_deadlines image script) t n k → chosen image script (t + n) ≡ Some k
+  chosen_again can t n k on =
+      let ts : List Thread = (begun image script t).threads in
+      let stood : (begun image script (t + n)).threads ≡ slice_set ts k (Ready on.new) = ap (λ (s : State). s.threads) on.calm ∙ on.threads in
+      ap (λ (xs : List Thread). choose image xs (marked image script (t + n))) stood
+      ∙ ap (λ (ms : List Mark). choose image (slice_set ts k (Ready on.new)) ms) (marks_on can t n k on)
+      ∙ choice_stays image ts (marked image script t) k on.job on.new on.ready on.inside on.chosen
+
+  pub known_again : IsRunnable image script → (t n k : ℕ) → GoesOn (by_deadlines image script) t n k → (d : Deadlines) → Knows image script (InRow t) d → Knows image script (InRow (t + n)) d
+  known_again can t n k on d is can' m step =
+      let ms : List Mark = marked image script t in
+      let first : (state_at image script (t + n)).marks ≡ begin k ms = marks_after can.safe t n on.step ∙ ap (λ (o : Option ℕ). begin_some o ms) on.chosen in
+      let next : (state_at image script (t + n + m)).marks ≡ begin k ms =
+      marks_after can.safe (t + n) m step
+      ∙ ap (λ (o : Option ℕ). begin_some o (marked image script (t + n))) (chosen_again can t n k on)
+      ∙ ap (λ (xs : List Mark). begin k xs) (marks_on can t n k on)
+      ∙ begin_twice k ms in
+      subst (λ (xs : List Mark). AreMarks image d.marks.items xs) (first ∙ sym next) (is can n on.step)
 
 -- ---- the dispatch at a tick at which nothing is due
 

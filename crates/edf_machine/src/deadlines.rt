@@ -62,9 +62,6 @@ impl Dispatch for Deadlines {
         Some(who)
     }
 
-    #[inline(always)]
-    fn fill(&mut self, _plan: &DecodedImage, _board: &MachineState) {}
-
     /// Chosen anew.
     fn first(&mut self, plan: &DecodedImage, board: &MachineState) -> Option<usize> {
         self.choose(plan, board)

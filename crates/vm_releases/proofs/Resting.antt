@@ -1,10 +1,9 @@
 -- A tick at which nothing is due.
-use Rattle.std.proofs.Common.{◌≡◌, ◌≤◌, ◌<◌, ◌+◌, ◌*◌, inl, inr, ℕ, List, Option, Some, None, length, arith, refl, ap, ◌∙◌}
-use Rattle.std.specs.Prelude.{slice_get}
+use Rattle.std.proofs.Common.{◌≡◌, ◌≤◌, ◌<◌, ◌+◌, inl, inr, ℕ, List, Option, Some, None, length, arith, refl, ap, ◌∙◌}
 use Rattle.std.proofs.lemmas.Bool.{cases_lt}
 use Rattle.std.proofs.lemmas.Option.{slice_get_within}
 use Rattle.base.proofs.Lists.{some_at}
-use Rattle.machine_semantics.specs.Image.{Image, Process, Script, Line}
+use Rattle.machine_semantics.specs.Image.{Image, Process, Script}
 use Rattle.machine_semantics.specs.State.{Thread, Waiting, State}
 use Rattle.machine_semantics.specs.Starts.{starts, unchanged}
 use Rattle.vm_stretch.specs.Quiet.{IsQuiet}

@@ -6,12 +6,13 @@ use Rattle.std.proofs.lemmas.List.{append-nil}
 use Rattle.std.proofs.lemmas.Option.{slice_get_within}
 use Rattle.std.proofs.lemmas.Bool.{cases_lt}
 use Rattle.std.proofs.lemmas.Bool.Decides.{nat_tests}
-use Rattle.base.proofs.Lists.{get_drop, drop_at}
+use Rattle.base.proofs.Lists.{get_drop, drop_at, some_at}
 use Rattle.base.specs.declared.event.Event.{Event}
 use Rattle.machine_semantics.specs.Image.{Image, Process, Line, Occurs}
 use Rattle.machine_semantics.specs.State.{State}
 use Rattle.machine_semantics.specs.Starts.{Started, followed, line, lines, occurs, queue_of, unchanged}
 use Rattle.vm_stretch.specs.Quiet.{line_tick}
+use Rattle.vm_stretch.specs.StretchDue.{first_tick}
 use Rattle.vm_stretch.specs.StartLawsDue.{AreDone}
 use Rattle.vm_stretch.specs.Steps.{AreLeft, HasStarted, named, releases}
 use Rattle.vm_stretch.proofs.Leading.{left_begin, left_end, left_same}
@@ -89,6 +90,16 @@ pub none_more : (t k done : ℕ) (ls : List Line) (l : Line) → AreToCome t don
 none_more t k done ls l come from past at differ = record {
   past = past;
   coming = λ i m there late. (let first = come.coming k l at from in let order = come.order k i l m at there late in let apart : line_tick l ≢ t = differ in grind (arith, first, order, apart));
+}
+
+-- nor where none comes that is
+pub none_due : (t done : ℕ) (ls : List Line) → AreToCome t done ls → first_tick (drop done ls) ≢ Some t → AreDone t done ls
+none_due t done ls come differ = record {
+  past = λ i m at early. (let low = come.past i m at early in omega (arith, low));
+  coming = λ i m at late.
+      let rest = some_at ls done (let below = slice_get_within ls i m at in omega (arith, below, late)) in
+      (none_more t done done ls rest.0 come (omega arith) (λ j x there early. (let low = come.past j x there early in omega (arith, low))) rest.1
+      (λ same. differ (ap (λ (xs : List Line). first_tick xs) (drop_at ls done rest.0 rest.1) ∙ ap (λ (k : ℕ). Some k) same))).coming i m at late;
 }
 
 -- at the end of the script all are

@@ -19,7 +19,7 @@ use vm_stretch::{Due, DueHeap};
 
 /// Whether the slot is due at the tick.
 #[inline(always)]
-fn is_due(slots: &DueHeap, slot: usize, tick: u64) -> bool
+pub(crate) fn is_due(slots: &DueHeap, slot: usize, tick: u64) -> bool
     requires { slot < length slots.now }
     ensures yes { result ≡ true → slice_index_or slots.now slot None ≡ Some tick }
     ensures no { result ≡ false → slice_index_or slots.now slot None ≢ Some tick }

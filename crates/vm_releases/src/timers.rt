@@ -1,9 +1,11 @@
 //! What comes when.
 
+ghost use Rattle.arrayvec.specs.ArrayVec.{array_vec_len};
 ghost use Rattle.std.specs.Prelude.{◌≡◌, ◌≢◌, ◌≤◌, ◌<◌, ◌+◌, ◌*◌, [], IfOk, Some, false, drop, length, slice_set};
 ghost use Rattle.machine_semantics.specs.Image.{Image};
 ghost use Rattle.machine_semantics.specs.Run.{at_start};
-ghost use Rattle.machine_semantics.specs.Starts.{starts};
+ghost use Rattle.machine_semantics.specs.Starts.{lines, starts};
+ghost use Rattle.vm_stretch.specs.Steps.{HasStarted};
 ghost use Rattle.vm_stretch.specs.Due.{least};
 ghost use Rattle.vm_stretch.specs.StretchDue.{AreInOrder, HasSlots, first_tick};
 ghost use Rattle.vm_stretch.specs.StartLawsDue.{AreDone, HasDue, HasOwnRanks};
@@ -12,7 +14,7 @@ ghost use Rattle.vm_state.specs.Plan.{IsOf};
 ghost use Rattle.vm_releases.specs.Begin.{AreFirst, HaveQueues, NextFits, lines_of, script_of};
 ghost use Rattle.vm_releases.specs.Order.{IsOrderOf};
 
-use crate::clock::{do_releases, do_time_outs};
+use crate::clock::{do_releases, do_time_outs, is_due};
 use crate::lines::{do_lines, tick_of};
 use crate::order::StartOrder;
 use out_of_memory::OutOfMemory;
@@ -117,6 +119,44 @@ impl Timers {
         self.slots.next() == Some(tick)
     }
 
+    /// Does the lines of the tick, if one is due, and notes when the next one is.
+    #[inline(always)]
+    fn begin_lines(
+        &mut self,
+        plan: &DecodedImage,
+        script: &Script,
+        board: &mut MachineState,
+        fired: &mut EventBuffer,
+        tick: u64,
+    )
+        ghost image: { Image }
+        requires plan { IsOf image plan.now }
+        requires order { IsOrderOf image self.old.order }
+        requires board { IsBoardOf image board.old }
+        requires due { HasDue image (script_of script.now) tick self.old.done
+            (state_of board.old) self.old.slots }
+        requires within { self.old.done ≤ length script.now.lines }
+        requires calm { (lines image tick (lines_of script.now.lines) (state_of board.old)).overrun ≡
+            false }
+        requires room { array_vec_len fired.old +
+            length (lines image tick (lines_of script.now.lines) (state_of board.old)).events ≤ 64 }
+        ensures started { HasStarted (lines image tick (lines_of script.now.lines))
+            (state_of board.old) fired.old.items (state_of board.new) fired.new.items }
+        ensures board { IsBoardOf image board.new }
+        ensures done { AreDone tick self.new.done (lines_of script.now.lines) }
+        ensures within { self.new.done ≤ length script.now.lines }
+        ensures slots { self.new.slots ≡ slice_set self.old.slots (2 * length image.processes)
+            (first_tick (drop self.new.done (lines_of script.now.lines))) }
+        ensures order { self.new.order ≡ self.old.order }
+    {
+        let line_slot = 2 * plan.processes.len();
+        if is_due(&self.slots, line_slot, tick) {
+            let lines = script.lines().as_slice();
+            do_lines(plan, &self.order, lines, &mut self.done, board, fired, tick);
+            self.slots.set(line_slot, next_line(lines, self.done));
+        }
+    }
+
     /// Begins a tick: does its lines, its periodic releases and its time-outs.
     #[inline(always)]
     pub fn begin(
@@ -154,10 +194,7 @@ impl Timers {
         if !self.is_due(tick) {
             return;
         }
-        let lines = script.lines().as_slice();
-        do_lines(plan, &self.order, lines, &mut self.done, board, fired, tick);
-        let line_slot = 2 * plan.processes.len();
-        self.slots.set(line_slot, next_line(lines, self.done));
+        self.begin_lines(plan, script, board, fired, tick);
         do_releases(plan, &mut self.slots, board, fired, tick);
         do_time_outs(plan, &self.order, &mut self.slots, board, fired, tick);
     }

@@ -1,5 +1,5 @@
 -- A machine at a tick at which nothing is due.
-use Rattle.std.proofs.Common.{◌≡◌, ◌≢◌, ◌+◌, ◌-◌, ◌++◌, ℕ, List, [], Some, arith, ap, sym, ◌∙◌}
+use Rattle.std.proofs.Common.{◌≡◌, ◌≢◌, ◌+◌, ◌-◌, ◌++◌, ℕ, List, [], Some, append_assoc, arith, ap, sym, ◌∙◌}
 use Rattle.vm_stretch.specs.Due.{least}
 use Rattle.base.specs.declared.event.Event.{Event}
 use Rattle.machine_semantics.specs.Image.{Image, Script}
@@ -10,7 +10,7 @@ use Rattle.vm_releases.proofs.Least.{none_up_to}
 use Rattle.vm_releases.proofs.Resting.{Rests, rests}
 use Rattle.vm_state.specs.Board.{state_of}
 use Rattle.vm_runner.specs.declared.machine.Machine.{Machine}
-use Rattle.vm_runner.specs.Course.{Behaviour, Course, begun, course, events_between, started}
+use Rattle.vm_runner.specs.Course.{AreTold, Behaviour, Course, begun, course, events_between, started}
 use Rattle.vm_runner.specs.Dispatching.{Knowing, Phase}
 use Rattle.vm_runner.specs.Standing.{Stands}
 use Rattle.vm_runner.specs.Turn.{HasPassed}
@@ -23,11 +23,10 @@ pub record IsCalm {D : Type 0} (c : Course) (m : Machine D) : Type 0 where
   pub slots : HasSlots c.image c.script m.tick m.agenda.done (state_of m.board) m.agenda.slots
   pub later : NoneBefore (m.tick + 1) m.agenda.slots
 
-pub is_calm : {D : Type 0} (behaviour : Image → Script → Behaviour) (Knows : Knowing D) (image : Image) (script : Script) (phase : ℕ → Phase) (m : Machine D) → Stands behaviour Knows image script phase m → least m.agenda.slots ≢ Some m.tick → IsCalm (course behaviour image script) m
-is_calm behaviour Knows image script phase m stands calm =
+pub calm_at : {D : Type 0} (behaviour : Image → Script → Behaviour) (Knows : Knowing D) (image : Image) (script : Script) (phase : ℕ → Phase) (m : Machine D) → Stands behaviour Knows image script phase m → NoneBefore (m.tick + 1) m.agenda.slots → IsCalm (course behaviour image script) m
+calm_at behaviour Knows image script phase m stands later =
     let t : ℕ = m.tick in
     let s : State = state_of m.board in
-    let later : NoneBefore (t + 1) m.agenda.slots = none_up_to m.agenda.slots t stands.due.none_late calm in
     let all : Rests image script t m.agenda.done s m.agenda.slots = rests image script t m.agenda.done s m.agenda.slots stands.due stands.done later in
     let starts_so : s ≡ begun (course behaviour image script) t = sym (ap (λ (a : Started). a.state) all.starts) ∙ ap (λ (x : State). (starts image script t x).state) stands.state in
     record {
@@ -37,6 +36,17 @@ is_calm behaviour Knows image script phase m stands calm =
       slots = all.next;
       later = later;
     }
+
+pub is_calm : {D : Type 0} (behaviour : Image → Script → Behaviour) (Knows : Knowing D) (image : Image) (script : Script) (phase : ℕ → Phase) (m : Machine D) → Stands behaviour Knows image script phase m → least m.agenda.slots ≢ Some m.tick → IsCalm (course behaviour image script) m
+is_calm behaviour Knows image script phase m stands calm =
+    calm_at behaviour Knows image script phase m stands (none_up_to m.agenda.slots m.tick stands.due.none_late calm)
+
+-- with the start events last before them, the events of the ticks that passed stand in their place
+pub told_after : (c : Course) (t n : ℕ) (s : State) (es es' : List Event) → HasPassed c t n s es es' → AreTold c t (t + n) es es'
+told_after c t n s es es' has front is =
+    let count : n ≡ (t + n) - t = omega arith in
+    has.told ∙ ap (λ (xs : List Event). xs ++ has.fell) is ∙ append_assoc front (started c t) has.fell
+    ∙ ap (λ (xs : List Event). front ++ xs) (sym has.events ∙ ap (λ (k : ℕ). c.events k t) count)
 
 -- where no start event falls, what fell in a turn are the events of the ticks that passed
 pub told_on : (c : Course) (t n : ℕ) (s : State) (es es' : List Event) → HasPassed c t n s es es' → started c t ≡ [] → es' ≡ es ++ events_between c t (t + n)

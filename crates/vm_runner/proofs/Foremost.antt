@@ -1,5 +1,5 @@
 -- The process that is picked is the one of the least number.
-use Rattle.std.proofs.Common.{◌≡◌, ◌≢◌, ◌≤◌, ◌<◌, ◌+◌, ◌*◌, ◌++◌, inl, inr, ℕ, take, zero, suc, Bool, true, false, List, [], ◌∷◌, Option, Some, None, length, drop, get_or, arith, refl, ap, sym, subst, ◌∙◌}
+use Rattle.std.proofs.Common.{◌≡◌, ◌≢◌, ◌≤◌, ◌<◌, ◌+◌, ◌*◌, ◌++◌, inl, inr, ℕ, take, zero, suc, Bool, true, false, List, [], ◌∷◌, Option, Some, None, length, drop, arith, refl, ap, sym, subst, ◌∙◌}
 use Rattle.std.specs.Prelude.{◌%◌, cond, min, nat_lt, slice_get, slice_set}
 use Rattle.std.proofs.lemmas.Bool.{cases_lt}
 use Rattle.std.proofs.lemmas.Bool.Decides.{nat_tests}
@@ -9,7 +9,7 @@ use Rattle.std.proofs.lemmas.Nat.{mod-mul-add}
 use Rattle.std.proofs.lemmas.Option.{slice_get_within}
 use Rattle.base.proofs.Lists.{append_back, append_front, drop_at, get_other, get_set, one_some, some_at}
 use Rattle.machine_semantics.specs.Image.{Image, Process}
-use Rattle.machine_semantics.specs.State.{Job, Thread, Idle, Ready, Waiting}
+use Rattle.machine_semantics.specs.State.{Thread, Idle, Ready, Waiting}
 use Rattle.machine_semantics.specs.Tick.{active_rank, outside, pick}
 use Rattle.vm_stretch.specs.Pick.{Entry, foremost_from, joined, sooner, outside as outside_one, place_of as entry_place}
 use Rattle.vm_stretch.specs.Picks.{is_inside_one}

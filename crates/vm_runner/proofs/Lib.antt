@@ -8,5 +8,6 @@ pub mod ByRanks
 pub mod Ending
 pub mod Telling
 pub mod Cut
+pub mod Again
 pub mod Calm
 pub mod Foremost

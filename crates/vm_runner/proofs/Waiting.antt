@@ -132,3 +132,6 @@ queued_have s queued k c due e job at =
     let test : nat_eq c c ≡ true = grind (arith, nat_tests) in
     let one : waits_on c (Some (Waiting c due e job)) ≡ 1 = ap (λ (b : Bool). cond b 1 0) test in
     in_queue k c s.queues (queued c k ∙ ap (λ (o : Option Thread). waits_on c o) at ∙ one)
+
+pub fell_is : (old fell all : List Event) → all ≡ old ++ fell → drop (length old) all ≡ fell
+fell_is old fell all is = ap (λ (es : List Event). drop (length old) es) is ∙ drop-append_seam old fell

@@ -20,10 +20,10 @@ ranks image script = record {
 abbrev pub by_ranks : Image → Script → Course
 by_ranks image script = course ranks image script
 
--- the ranking is kept from row to row, and unknown otherwise
+-- the ranking is kept from row to row, and unknown otherwise; in a row it is that of its start
 abbrev pub Knows : Image → Script → Phase → Ranking → Type 0
 Knows image script (Before t) r = Unit {0}
 Knows image script (Starting t) r = Unit {0}
 Knows image script (Begun t) r = Unit {0}
 Knows image script (Between t) r = IsRanking image (state_at image script t).threads r
-Knows image script (InRow t) r = IsRanking image (state_at image script t).threads r
+Knows image script (InRow t) r = IsRanking image (begun image script t).threads r

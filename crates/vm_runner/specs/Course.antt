@@ -54,6 +54,11 @@ started c t = (starts c.image c.script t (c.state t)).events
 abbrev pub events_between : Course → ℕ → ℕ → List Event
 events_between c from to = c.events (to - from) from
 
+-- where the start events of tick t stand last, the events up to before tick u have been told after
+-- all that stood before them
+abbrev pub AreTold : Course → (t u : ℕ) → (before after : List Event) → Type 0
+AreTold c t u before after = (front : List Event) → before ≡ front ++ started c t → after ≡ front ++ events_between c t u
+
 -- ---- ticks at once
 
 -- n ticks from tick t on are a turn: no more than are left of what the process is at that is chosen,

@@ -1,8 +1,8 @@
 -- What a dispatch knows as its run goes on.
-use Rattle.std.specs.Prelude.{◌≡◌, ◌≢◌, ◌+◌, ℕ, false, List, slice_get}
+use Rattle.std.specs.Prelude.{◌≡◌, ◌≢◌, ◌+◌, ℕ, false, List, Some, slice_get, slice_set}
 use Rattle.base.specs.declared.event.Event.{Event}
 use Rattle.machine_semantics.specs.Image.{Image, Script}
-use Rattle.machine_semantics.specs.State.{State}
+use Rattle.machine_semantics.specs.State.{Job, Ready, State}
 use Rattle.vm_state.specs.declared.decoded_image.DecodedImage.{DecodedImage}
 use Rattle.vm_state.specs.declared.machine_state.MachineState.{MachineState}
 use Rattle.vm_state.specs.Board.{IsBoardOf, state_of}
@@ -11,7 +11,7 @@ use Rattle.vm_runner.specs.Course.{Behaviour, Course, IsStep, begun, course}
 use Rattle.vm_runner.specs.Waits.{is_some_at_queue}
 
 -- where a run is: before tick t; there, and its start events are begun; at tick t, and they are done;
--- before tick t, between two rows; in a row from tick t on, at which nothing was due
+-- before tick t, between two rows; in a row from tick t on, whose start events are done
 pub data Phase : Type 0 where
   Before : ℕ → Phase
   Starting : ℕ → Phase
@@ -31,7 +31,7 @@ state_in c (Before t) = c.state t
 state_in c (Starting t) = begun c t
 state_in c (Begun t) = begun c t
 state_in c (Between t) = c.state t
-state_in c (InRow t) = c.state t
+state_in c (InRow t) = begun c t
 
 -- by dispatch what it knows
 abbrev pub Knowing : Type 0 → Type 1
@@ -68,4 +68,21 @@ pub record HasGone {D : Type 0} (behaviour : Image → Script → Behaviour) (Kn
   pub state : state_of b ≡ (course behaviour run.image run.script).state (run.tick + run.count)
   pub knows : Knows run.image run.script (InRow run.tick) d
   pub step : IsStep (course behaviour run.image run.script) run.tick run.count
-  pub alone : is_some_at_queue events ≡ false → (j : ℕ) → j ≢ who → slice_get (state_of b).threads j ≡ slice_get ((course behaviour run.image run.script).state run.tick).threads j
+  pub alone : is_some_at_queue events ≡ false → (j : ℕ) → j ≢ who → slice_get (state_of b).threads j ≡ slice_get (begun (course behaviour run.image run.script) run.tick).threads j
+
+-- after n ticks from tick t on process k, which was chosen, goes on as it stood: nothing is due, it
+-- is ready, inside the same monitor or none, and all others stand as before
+pub record GoesOn (c : Course) (t n k : ℕ) : Type 0 where
+  pub step : IsStep c t n
+  pub chosen : c.chosen t ≡ Some k
+  pub calm : begun c (t + n) ≡ c.state (t + n)
+  pub job : Job
+  pub ready : slice_get (begun c t).threads k ≡ Some (Ready job)
+  pub new : Job
+  pub inside : new.inside ≡ job.inside
+  pub threads : (c.state (t + n)).threads ≡ slice_set (begun c t).threads k (Ready new)
+
+-- it is chosen again, and what the dispatch knows in a row it knows in the next
+pub record IsAgain {D : Type 0} (behaviour : Image → Script → Behaviour) (Knows : Knowing D) (run : Ticks) (who : ℕ) : Type 0 where
+  pub chosen : (behaviour run.image run.script).chosen (run.tick + run.count) ≡ Some who
+  pub knows : (d : D) → Knows run.image run.script (InRow run.tick) d → Knows run.image run.script (InRow (run.tick + run.count)) d

@@ -1,5 +1,5 @@
 -- Where a machine stands in a run.
-use Rattle.std.specs.Prelude.{◌≡◌, ◌≤◌, ◌<◌, ◌+◌, ℕ, List, length}
+use Rattle.std.specs.Prelude.{◌≡◌, ◌≤◌, ◌<◌, ◌+◌, ℕ, List, Some, length}
 use Rattle.base.specs.declared.event.Event.{Event}
 use Rattle.machine_semantics.specs.Image.{Image, Script}
 use Rattle.vm_stretch.specs.StartLawsDue.{HasDue}
@@ -8,7 +8,7 @@ use Rattle.vm_releases.specs.Order.{IsOrderOf}
 use Rattle.vm_state.specs.Board.{IsBoardOf, state_of}
 use Rattle.vm_runner.specs.Course as whole
 use Rattle.vm_runner.specs.Course.{Behaviour, begun, course, started}
-use Rattle.vm_runner.specs.Dispatching.{Before, Begun, Knowing, Phase}
+use Rattle.vm_runner.specs.Dispatching.{Before, Begun, InRow, Knowing, Phase}
 use Rattle.vm_runner.specs.ByRanks.{Knows, by_ranks, ranks}
 use Rattle.vm_runner.specs.declared.machine.Machine.{Machine}
 use Rattle.vm_runner.specs.declared.ranking.Ranking.{Ranking}
@@ -36,6 +36,18 @@ pub record Begins {D : Type 0} (behaviour : Image → Script → Behaviour) (Kno
   pub few : length m.fired.items < 65
   pub fell : m.fired.items ≡ started (course behaviour image script) m.tick
   pub knows : Knows image script (Begun m.tick) m.dispatch
+
+-- the machine has chosen process `who` at its tick, whose start events are done, has room for one
+-- more event, and knows what is due after the tick
+pub record HasChosen {D : Type 0} (behaviour : Image → Script → Behaviour) (Knows : Knowing D) (image : Image) (script : Script) (who : ℕ) (m : Machine D) : Type 0 where
+  pub state : state_of m.board ≡ begun (course behaviour image script) m.tick
+  pub board : IsBoardOf image m.board
+  pub chosen : (behaviour image script).chosen m.tick ≡ Some who
+  pub slots : HasSlots image script m.tick m.agenda.done (state_of m.board) m.agenda.slots
+  pub done : m.agenda.done ≤ length script.lines
+  pub order : IsOrderOf image m.agenda.order
+  pub few : length m.fired.items < 65
+  pub knows : Knows image script (InRow m.tick) m.dispatch
 
 -- ---- by ranks
 

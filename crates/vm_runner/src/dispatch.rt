@@ -2,9 +2,9 @@
 
 ghost use Rattle.std.specs.Prelude.{◌≡◌, ◌<◌, ◌+◌, ◌^◌, ℕ, None, vec_len};
 ghost use Rattle.machine_semantics.specs.Image.{Image, Script};
-ghost use Rattle.vm_runner.specs.Course.{Behaviour, GoesBySteps, IsStep, course};
-ghost use Rattle.vm_runner.specs.Dispatching.{At, Before, Begun, Between, HasGone, InRow, Ticks};
-ghost use Rattle.vm_runner.specs.Dispatching.{Phase, Plans, Rests, Sees, Starting};
+ghost use Rattle.vm_runner.specs.Course.{Behaviour, GoesBySteps, IsStep, begun, course};
+ghost use Rattle.vm_runner.specs.Dispatching.{At, Before, Begun, Between, GoesOn, HasGone, InRow};
+ghost use Rattle.vm_runner.specs.Dispatching.{IsAgain, Phase, Plans, Rests, Sees, Starting, Ticks};
 
 use base::Event;
 use vm_state::{DecodedImage, MachineState};
@@ -39,16 +39,14 @@ pub trait Dispatch {
         requires sees { (at : At) × Plans behaviour Knows Begun plan.now board.now self.old at }
         ensures chosen { (at : At) → Plans behaviour Knows Begun plan.now board.now self.old at →
             result ≡ (course behaviour at.image at.script).chosen at.tick }
-        ensures goes { (at : At) → Plans behaviour Knows Begun plan.now board.now self.old at →
-            CanRun at.image at.script → (n : ℕ) →
+        ensures row { (at : At) → Plans behaviour Knows Begun plan.now board.now self.old at →
+            Knows at.image at.script (InRow at.tick) self.new }
+        ensures idle { (at : At) → Plans behaviour Knows Begun plan.now board.now self.old at →
+            CanRun at.image at.script → result ≡ None → (n : ℕ) →
             IsStep (course behaviour at.image at.script) at.tick n →
-            Knows at.image at.script (Before (at.tick + n)) self.new };
-
-    /// Notes by what all processes are chosen, where rows follow one another.
-    fn fill(&mut self, plan: &DecodedImage, board: &MachineState)
-        requires sees { (at : At) × Plans behaviour Knows Before plan.now board.now self.old at }
-        ensures { (at : At) → Plans behaviour Knows Before plan.now board.now self.old at →
-            Knows at.image at.script (Between at.tick) self.new };
+            (course behaviour at.image at.script).state (at.tick + n) ≡
+            begun (course behaviour at.image at.script) at.tick →
+            Knows at.image at.script (Between (at.tick + n)) self.new };
 
     /// The process that is chosen at a tick at which nothing is due, and has a row.
     fn first(&mut self, plan: &DecodedImage, board: &MachineState) -> Option<usize>
@@ -74,11 +72,15 @@ pub trait Dispatch {
             CanRun run.image run.script →
             Knows run.image run.script (Between (run.tick + run.count)) self.new };
 
-    /// The law: such runs go by turns and rows, and what is known between two rows is known before
+    /// The law: such runs go by turns and rows; a process that goes on as it stood is chosen again,
+    /// and what is known of its row stays known; and what is known between two rows is known before
     /// the start events of a tick.
     fn goes_by_steps()
         ensures steps { (image : Image) (script : Script) → CanRun image script →
             GoesBySteps (course behaviour image script) }
+        ensures again { (run : Ticks) (who : ℕ) → CanRun run.image run.script →
+            GoesOn (course behaviour run.image run.script) run.tick run.count who →
+            IsAgain behaviour Knows run who }
         ensures rests { (image : Image) (script : Script) (t : ℕ) (d : Self) →
             Knows image script (Between t) d → Knows image script (Before t) d };
 }

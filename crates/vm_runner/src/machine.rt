@@ -1,24 +1,27 @@
 //! The machine over whole runs.
 
-ghost use Rattle.std.specs.Prelude.{◌≡◌, ◌≢◌, ◌≤◌, ◌<◌, ◌↔◌, ◌++◌, [], Some, true};
+ghost use Rattle.std.specs.Prelude.{◌≡◌, ◌≢◌, ◌≤◌, ◌<◌, ◌+◌, ◌↔◌, ◌++◌, [], Some, false, true};
 ghost use Rattle.arrayvec.specs.ArrayVec.{array_vec_len};
 ghost use Rattle.vm_stretch.specs.Due.{least};
+ghost use Rattle.vm_stretch.specs.StretchDue.{NoneBefore};
 ghost use Rattle.machine_semantics.specs.Image.{Image};
 ghost use Rattle.vm_releases.specs.Begin.{script_of};
 ghost use Rattle.vm_state.specs.Plan.{IsOf};
-ghost use Rattle.vm_runner.specs.Course.{course, events_between};
+ghost use Rattle.vm_runner.specs.Course.{AreTold, course, events_between, started};
 ghost use Rattle.vm_runner.specs.Dispatching.{Before, Between};
 ghost use Rattle.vm_runner.specs.Setup.{IsSetUp};
-ghost use Rattle.vm_runner.specs.Standing.{Begins, Stands};
+ghost use Rattle.vm_runner.specs.Standing.{Begins, HasChosen, Stands};
 ghost use Rattle.vm_runner.specs.Turn.{Run};
+ghost use Rattle.vm_runner.specs.Waits.{IsAsBefore};
 
 use crate::span::span;
 use crate::turn::{Reach, take_ticks};
+use crate::waits::is_some_at_queue;
 use crate::{Dispatch, Setup};
 use base::Event;
 use script::Script;
 use vm_releases::Timers;
-use vm_state::{DecodedImage, EventBuffer, MOST, MachineState};
+use vm_state::{ControlBlock, DecodedImage, EventBuffer, MOST, MachineState, SchedulingState};
 
 /// What a call of `advance` or `advance_row` came to.
 #[derive(Clone, Copy)]
@@ -40,6 +43,18 @@ pub struct Machine<D> {
     pub(crate) fired: EventBuffer,
     /// By what it is chosen who runs.
     pub(crate) dispatch: D,
+}
+
+/// Whether a process is ready, inside the same monitor or none, and no other may stand anew by the
+/// events.
+#[inline(always)]
+fn is_as_before(cell: &ControlBlock, inside: Option<u16>, events: &[Event]) -> bool
+    ensures { result ≡ true → IsAsBefore cell.now inside events.now }
+{
+    let SchedulingState::Ready = cell.stand else {
+        return false;
+    };
+    cell.job.inside == inside && !is_some_at_queue(events)
 }
 
 impl<D: Dispatch> Machine<D> {
@@ -83,7 +98,82 @@ impl<D: Dispatch> Machine<D> {
         self.dispatch.after_starts(&self.board, self.tick);
     }
 
-    /// The start events of the tick and a row, up to the limit at most.
+    /// A row of the process that is chosen, so many ticks at most: whether it goes on as it stood,
+    /// before those are over, and with room for one more event. If not, the dispatch knows how all
+    /// stand after the row.
+    #[inline(always)]
+    fn row_of(&mut self, plan: &DecodedImage, who: usize, most: u64) -> bool
+        ghost run: { Run }
+        requires plan { IsOf run.image plan.now }
+        requires runnable { D.CanRun run.image run.script }
+        requires chosen { HasChosen D.behaviour D.Knows run.image run.script who self.old }
+        requires some { 1 ≤ most }
+        requires end { self.old.tick + most ≤ run.script.end_tick }
+        requires clear { NoneBefore (self.old.tick + most) self.old.agenda.slots }
+        ensures within { self.new.tick ≤ self.old.tick + most }
+        ensures passed { self.old.tick < self.new.tick }
+        ensures goes_on { result ≡ true → HasChosen D.behaviour D.Knows run.image run.script who
+            self.new }
+        ensures before { result ≡ true → self.new.tick < self.old.tick + most }
+        ensures clear { result ≡ true →
+            NoneBefore (self.old.tick + most) self.new.agenda.slots }
+        ensures none { result ≡ true →
+            started (course D.behaviour run.image run.script) self.new.tick ≡ [] }
+        ensures stands { result ≡ false →
+            Stands D.behaviour D.Knows run.image run.script Between self.new }
+        ensures events { AreTold (course D.behaviour run.image run.script) self.old.tick
+            self.new.tick self.old.fired.items self.new.fired.items }
+    {
+        D::goes_by_steps();
+        let before = self.fired.len();
+        let inside = self.board.cells[who].job.inside;
+        let ticks = take_ticks(
+            plan,
+            &mut self.board,
+            &mut self.agenda,
+            &mut self.fired,
+            who,
+            self.tick,
+            most,
+            Reach::Row,
+        );
+        self.tick += ticks;
+        let events = &self.fired.as_slice()[before..];
+        if ticks < most && self.fired.len() < MOST {
+            if is_as_before(&self.board.cells[who], inside, events) {
+                return true;
+            }
+        }
+        self.dispatch.follow(plan, &self.board, who, events);
+        false
+    }
+
+    /// Rows of the process that is chosen, so many ticks at most, while it goes on as it stood and
+    /// there is room for one more event.
+    #[inline(always)]
+    fn rows_of(&mut self, plan: &DecodedImage, who: usize, most: u64)
+        ghost run: { Run }
+        requires plan { IsOf run.image plan.now }
+        requires runnable { D.CanRun run.image run.script }
+        requires chosen { HasChosen D.behaviour D.Knows run.image run.script who self.old }
+        requires some { 1 ≤ most }
+        requires end { self.old.tick + most ≤ run.script.end_tick }
+        requires clear { NoneBefore (self.old.tick + most) self.old.agenda.slots }
+        ensures within { self.new.tick ≤ self.old.tick + most }
+        ensures passed { self.old.tick < self.new.tick }
+        ensures stands { Stands D.behaviour D.Knows run.image run.script Between self.new }
+        ensures events { AreTold (course D.behaviour run.image run.script) self.old.tick
+            self.new.tick self.old.fired.items self.new.fired.items }
+    {
+        D::goes_by_steps();
+        let limit = self.tick + most;
+        let mut goes_on = true;
+        while goes_on {
+            goes_on = self.row_of(plan, who, limit - self.tick);
+        }
+    }
+
+    /// The start events of the tick and rows, up to the limit at most.
     #[inline(always)]
     fn step(&mut self, plan: &DecodedImage, script: &Script, limit: u64)
         ghost run: { Run }
@@ -95,7 +185,7 @@ impl<D: Dispatch> Machine<D> {
         requires before { self.old.tick < limit }
         ensures within { self.new.tick ≤ limit }
         ensures passed { self.old.tick < self.new.tick }
-        ensures stands { Stands D.behaviour D.Knows run.image run.script Before self.new }
+        ensures stands { Stands D.behaviour D.Knows run.image run.script Between self.new }
         ensures events { self.new.fired.items ≡
             events_between (course D.behaviour run.image run.script) self.old.tick self.new.tick }
     {
@@ -106,16 +196,7 @@ impl<D: Dispatch> Machine<D> {
             self.tick += most;
             return;
         };
-        self.tick += take_ticks(
-            plan,
-            &mut self.board,
-            &mut self.agenda,
-            &mut self.fired,
-            who,
-            self.tick,
-            most,
-            Reach::Row,
-        );
+        self.rows_of(plan, who, most);
     }
 
     /// Whether nothing is due at the tick, which is below the limit, and there is room for one more
@@ -129,8 +210,8 @@ impl<D: Dispatch> Machine<D> {
         self.tick < limit && self.fired.len() < MOST && self.agenda.next_due() != Some(self.tick)
     }
 
-    /// One row more, from a tick at which nothing is due, up to the limit at most: what falls in it
-    /// stands after the events before.
+    /// Rows of one process more, from a tick at which nothing is due, up to the limit at most: what
+    /// falls in them stands after the events before.
     #[inline(always)]
     fn row_on(&mut self, plan: &DecodedImage, limit: u64)
         ghost run: { Run }
@@ -153,19 +234,7 @@ impl<D: Dispatch> Machine<D> {
             self.tick += most;
             return;
         };
-        let before = self.fired.len();
-        self.tick += take_ticks(
-            plan,
-            &mut self.board,
-            &mut self.agenda,
-            &mut self.fired,
-            who,
-            self.tick,
-            most,
-            Reach::Row,
-        );
-        self.dispatch
-            .follow(plan, &self.board, who, &self.fired.as_slice()[before..]);
+        self.rows_of(plan, who, most);
     }
 
     /// Rows, up to the limit at most, while nothing is due and there is room for one more event:
@@ -175,7 +244,7 @@ impl<D: Dispatch> Machine<D> {
         ghost run: { Run }
         requires plan { IsOf run.image plan.now }
         requires runnable { D.CanRun run.image run.script }
-        requires stands { Stands D.behaviour D.Knows run.image run.script Before self.old }
+        requires stands { Stands D.behaviour D.Knows run.image run.script Between self.old }
         requires limit { limit ≤ run.script.end_tick }
         requires within { self.old.tick ≤ limit }
         ensures within { self.new.tick ≤ limit }
@@ -185,10 +254,6 @@ impl<D: Dispatch> Machine<D> {
             events_between (course D.behaviour run.image run.script) self.old.tick self.new.tick }
     {
         D::goes_by_steps();
-        if !self.goes_on(limit) {
-            return;
-        }
-        self.dispatch.fill(plan, &self.board);
         while self.goes_on(limit) {
             self.row_on(plan, limit);
         }

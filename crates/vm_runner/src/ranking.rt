@@ -14,7 +14,7 @@ use crate::waits::is_some_at_queue;
 use arrayvec::ArrayVec;
 use base::Event;
 use vm_state::{ControlBlock, DecodedImage, DecodedProcess, MachineState, SchedulingState};
-use vm_turn::{ceiling_of, choose};
+use vm_turn::ceiling_of;
 
 /// By what a process is chosen: the least comes first. Of one that is ready it is 64 times its key
 /// and its place, where the key is twice its active rank, and one more outside of all monitors. So
@@ -150,12 +150,8 @@ impl Dispatch for Ranking {
 
     #[inline(always)]
     fn choose(&mut self, plan: &DecodedImage, board: &MachineState) -> Option<usize> {
-        choose(plan, board)
-    }
-
-    #[inline(always)]
-    fn fill(&mut self, plan: &DecodedImage, board: &MachineState) {
         self.note_all(plan, board);
+        self.told()
     }
 
     #[inline(always)]

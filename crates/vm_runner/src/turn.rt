@@ -1,6 +1,6 @@
 //! A turn, once the start events of its tick are done.
 
-ghost use Rattle.std.specs.Prelude.{◌≡◌, ◌≤◌, ◌<◌, ◌+◌, false, Some, slice_get, vec_len};
+ghost use Rattle.std.specs.Prelude.{◌≡◌, ◌≤◌, ◌<◌, ◌+◌, false, Some, drop, length, slice_get, vec_len};
 ghost use Rattle.arrayvec.specs.ArrayVec.{array_vec_len};
 ghost use Rattle.vm_state.specs.Board.{IsBoardOf, state_of};
 ghost use Rattle.vm_stretch.specs.StretchDue.{HasSlots, NoneBefore};
@@ -8,6 +8,7 @@ ghost use Rattle.vm_stretch.specs.Stretch.{FitsIn};
 ghost use Rattle.vm_runner.specs.Course.{Course};
 ghost use Rattle.vm_runner.specs.Ends.{lasts_thread};
 ghost use Rattle.vm_runner.specs.Turn.{BurnsNothing, CanTurn, HasPassed, unspent};
+ghost use Rattle.vm_runner.specs.Waits.{is_some_at_queue};
 
 use crate::waits::note_waits;
 use vm_instructions::Halt;
@@ -183,6 +184,8 @@ pub(crate) fn take_ticks(
     ensures slots { HasSlots course.image course.script tick agenda.new.done
         (state_of board.new) agenda.new.slots }
     ensures clear { NoneBefore (tick + result) agenda.new.slots }
+    ensures still { is_some_at_queue (drop (length fired.old.items) fired.new.items) ≡ false →
+        agenda.new.slots ≡ agenda.old.slots }
     ensures done { agenda.new.done ≡ agenda.old.done }
     ensures order { agenda.new.order ≡ agenda.old.order }
     ensures lasts { reach ≡ Reach.Turn → result ≡ lasts_thread course.image most

@@ -83,6 +83,7 @@ pub(crate) fn note_waits(
     requires same { is_some_at_queue events.now ≡ false →
         HasWaits (length image.processes) (state_of board.now) agenda.old.slots }
     ensures waits { HasWaits (length image.processes) (state_of board.now) agenda.new.slots }
+    ensures still { is_some_at_queue events.now ≡ false → agenda.new.slots ≡ agenda.old.slots }
     ensures others { WaitsAlone (length image.processes) agenda.old.slots agenda.new.slots }
     ensures done { agenda.new.done ≡ agenda.old.done }
     ensures order { agenda.new.order ≡ agenda.old.order }

@@ -8,7 +8,7 @@ use Rattle.vm_releases.proofs.Boards.{cells_count}
 use Rattle.vm_releases.proofs.Joining.{threads_count}
 use Rattle.vm_runner.specs.Waits.{WaitsFrom, is_some_at_queue}
 use Rattle.vm_runner.proofs.Turning.{noted_slots, same_waits, still_none}
-use Rattle.vm_runner.proofs.Waiting.{come_after}
+use Rattle.vm_runner.proofs.Waiting.{come_after, fell_is}
 use Rattle.vm_runner.proofs.turn.take_ticks.Goals as goal
 
 -- requires: can, room, slots, clear
@@ -50,3 +50,10 @@ returns-clause-clear g c i r at =
     let low : c.args.tick + n ≤ c.args.tick + c.args.most = omega (arith, e.most) in
     still_none g.course.image g.course.script c.args.tick c.args.agenda.now.done (c.args.tick + n) (c.args.tick + c.args.most) s s' c.args.agenda.now.slots c.note_waits.new.agenda.slots c.requires.1.1.0 c.note_waits.ensures.others c.note_waits.ensures.waits
     c.requires.1.1.1 low (subst (λ (x : State). WaitsFrom (c.args.tick + n) x.threads s'.threads) (sym can.begun) e.passed.waits) i r at
+
+pub returns-clause-still : goal.returns-clause-still
+returns-clause-still g c quiet =
+    let has = c.pass_ticks-ticks.ensures.passed in
+    let all = c.pass_ticks-ticks.new.fired.items in
+    let fell = come_after c.args.fired.now.items has.fell c.as_slice.result.now c.len-before.result c.len-before.ensures.value (c.as_slice.ensures.value ∙ has.told) in
+    c.note_waits.ensures.still (ap (λ (xs : List Event). is_some_at_queue xs) fell ∙ sym (ap (λ (xs : List Event). is_some_at_queue xs) (fell_is c.args.fired.now.items has.fell all has.told)) ∙ quiet)

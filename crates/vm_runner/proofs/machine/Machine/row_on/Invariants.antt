@@ -1,5 +1,4 @@
-use Rattle.vm_runner.specs.Course.{course}
 use Rattle.vm_runner.proofs.machine.Machine.row_on.Given as goal
 
-abbrev pub ghost-take_ticks : goal.ghost-take_ticks
-ghost-take_ticks g a = course g.D.Dispatch.behaviour g.run.image g.run.script
+abbrev pub ghost-rows_of : goal.ghost-rows_of
+ghost-rows_of g a = g.run

@@ -2,23 +2,17 @@ use Rattle.std.proofs.Common.{◌++◌, ℕ, List, append_assoc, arith, ap, sym,
 use Rattle.std.proofs.lemmas.List.{append-nil}
 use Rattle.base.specs.declared.event.Event.{Event}
 use Rattle.vm_runner.specs.Course.{Course, course, events_between}
-use Rattle.vm_runner.specs.Dispatching.{At}
 use Rattle.vm_runner.proofs.Cut.{cut_at, none_between}
 use Rattle.vm_runner.proofs.machine.Machine.rows_on.Goals as goal
 
 -- requires: plan, runnable, stands, limit, within
-
-pub fill-requires : goal.fill-requires
-fill-requires g c =
-    let stands = c.requires.1.1.1.0 in
-    record { sees = (record { image = g.run.image; script = g.run.script; tick = c.args.self.now.tick }, record { plan = c.requires.1.0; sees = record { board = stands.board; state = stands.state; knows = stands.knows } }) }
 
 pub row_on-requires : goal.row_on-requires
 row_on-requires g c = λ κs lives. (
   lives,
   (
     c.requires.1.0,
-    (c.requires.1.1.0, (c.loop-self.invariant.stands, (c.requires.1.1.1.1.0, (c.goes_on-in-loop-self.ensures.before c.loop-self-test.true, (c.goes_on-in-loop-self.ensures.calm c.loop-self-test.true, c.goes_on-in-loop-self.ensures.room c.loop-self-test.true))))),
+    (c.requires.1.1.0, (c.loop-self.invariant.stands, (c.requires.1.1.1.1.0, (c.goes_on.ensures.before c.loop-self-test.true, (c.goes_on.ensures.calm c.loop-self-test.true, c.goes_on.ensures.room c.loop-self-test.true))))),
   ),
 )
 
@@ -46,28 +40,12 @@ loop-self-init g c =
     let all : Course = course g.D.Dispatch.behaviour g.run.image g.run.script in
     let goes = c.goes_by_steps.ensures.steps g.run.image g.run.script c.requires.1.1.0 in
     let t = c.args.self.now.tick in
-    let is = c.requires.1.1.1.0 in
-    let at : At = record { image = g.run.image; script = g.run.script; tick = t } in
     record {
-      stands = record {
-        within = is.within;
-        state = is.state;
-        board = is.board;
-        due = is.due;
-        done = is.done;
-        order = is.order;
-        knows = c.fill.ensures at (record { plan = c.requires.1.0; sees = record { board = is.board; state = is.state; knows = is.knows } });
-      };
+      stands = c.requires.1.1.1.0;
       passed = omega arith;
       within = c.requires.1.1.1.1.1;
       events = sym (append-nil c.args.self.now.fired.items) ∙ ap (λ (es : List Event). c.args.self.now.fired.items ++ es) (sym (none_between all goes.none t));
     }
-
-pub returns-then-not-goes_on-clause-events : goal.returns-then-not-goes_on-clause-events
-returns-then-not-goes_on-clause-events g c =
-    let all : Course = course g.D.Dispatch.behaviour g.run.image g.run.script in
-    let goes = c.goes_by_steps.ensures.steps g.run.image g.run.script c.requires.1.1.0 in
-    sym (append-nil c.args.self.now.fired.items) ∙ ap (λ (es : List Event). c.args.self.now.fired.items ++ es) (sym (none_between all goes.none c.args.self.now.tick))
 
 pub returns-clause-stands : goal.returns-clause-stands
 returns-clause-stands g c =

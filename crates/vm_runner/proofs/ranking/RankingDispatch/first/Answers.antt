@@ -12,7 +12,7 @@ returns-clause-chosen c at it =
     ∙ ap (λ (s : State). place_of (pick at.image s.threads)) (sym it.calm)
 
 pub returns-clause-row : goal.returns-clause-row
-returns-clause-row c at it = it.plans.sees.knows
+returns-clause-row c at it = subst (λ (s : State). IsRanking at.image s.threads c.args.self.now) (sym it.calm) it.plans.sees.knows
 
 pub returns-clause-idle : goal.returns-clause-idle
 returns-clause-idle c at it can none n step same = subst (λ (s : State). IsRanking at.image s.threads c.args.self.now) (sym same) it.plans.sees.knows
