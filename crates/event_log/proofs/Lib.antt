@@ -5,3 +5,4 @@ pub mod LinesLemmas
 pub mod Reading
 pub mod Once
 mod FirstLine
+pub mod Together

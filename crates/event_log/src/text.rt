@@ -1,20 +1,24 @@
-//! Room for a line, which is written from its end, without memory of its own.
+//! Room for lines, which are written from their end, without memory of their own.
 
-ghost use Rattle.std.specs.Prelude.{◌≡◌, ◌≤◌, ◌<◌, ◌+◌, ◌++◌, ◌∷◌, [], length, codes, decimal};
+ghost use Rattle.std.specs.Prelude.{◌≡◌, ◌≤◌, ◌<◌, ◌+◌, ◌^◌, ◌++◌, ◌∷◌, [], length, codes, decimal, drop};
 ghost use Rattle.std.specs.Fmt.{signed_decimal};
+ghost use Rattle.event_log.specs.Digits.{four_digits};
 
+use crate::digits::{Digits, four};
 use itoa::write_digits;
 use std::marker::Model;
 
-/// More bytes than a line has.
-const ROOM: usize = 320;
+/// More bytes than 16 lines have.
+const ROOM: usize = 4_400;
 
-/// The bytes of a line. It is written from its last byte to its first, so that each part is put
-/// where it lies, digits too.
+/// The bytes of some lines. They are written from the last byte to the first, so that each part is
+/// put where it lies, digits too. The digits of a tick but for its last four are kept for the next
+/// line.
 #[derive(Drop)]
 pub struct LineBuffer {
     bytes: [u8; ROOM],
     start: usize,
+    upper: Digits,
 }
 
 impl Model for LineBuffer {
@@ -24,7 +28,7 @@ impl Model for LineBuffer {
 
     ghost view = { λ s. drop s.start s.bytes };
 
-    ghost invariant = { λ s. s.start ≤ 320 };
+    ghost invariant = { λ s. s.start ≤ 4400 };
 }
 
 impl LineBuffer {
@@ -35,30 +39,22 @@ impl LineBuffer {
         LineBuffer {
             bytes: [0; ROOM],
             start: ROOM,
+            upper: Digits::of(0),
         }
     }
 
     /// Forgets what was written.
     #[inline(always)]
-    fn clear(&mut self)
+    pub(crate) fn clear(&mut self)
         ensures { self.new ≡ [] }
     {
         self.start = ROOM;
     }
 
-    /// Begins a line, at its end: puts its LF.
-    #[inline(always)]
-    pub(crate) fn begin(&mut self)
-        ensures { self.new ≡ codes "\n" }
-    {
-        self.clear();
-        self.put_byte(b'\n');
-    }
-
     /// Puts bytes that fit in front.
     #[inline(always)]
     pub(crate) fn put(&mut self, bytes: &[u8])
-        requires { length bytes.now + length self.old ≤ 320 }
+        requires { length bytes.now + length self.old ≤ 4400 }
         ensures items { self.new ≡ bytes.now ++ self.old }
         ensures len { length self.new ≡ length bytes.now + length self.old }
     {
@@ -70,7 +66,7 @@ impl LineBuffer {
     /// Puts a byte that fits in front.
     #[inline(always)]
     pub(crate) fn put_byte(&mut self, byte: u8)
-        requires { length self.old < 320 }
+        requires { length self.old < 4400 }
         ensures items { self.new ≡ byte ∷ self.old }
         ensures len { length self.new ≡ 1 + length self.old }
     {
@@ -81,7 +77,7 @@ impl LineBuffer {
     /// Puts a number that fits in front.
     #[inline(always)]
     pub(crate) fn put_number(&mut self, number: u64)
-        requires { length (decimal number) + length self.old ≤ 320 }
+        requires { length (decimal number) + length self.old ≤ 4400 }
         ensures items { self.new ≡ decimal number ++ self.old }
         ensures len { length self.new ≡ length (decimal number) + length self.old }
     {
@@ -91,7 +87,7 @@ impl LineBuffer {
     /// Puts a number with its sign in front.
     #[inline(always)]
     pub(crate) fn put_signed(&mut self, number: i32)
-        requires { length self.old ≤ 300 }
+        requires { length self.old ≤ 4300 }
         ensures items { self.new ≡ signed_decimal number ++ self.old }
         ensures len { length self.new ≤ 11 + length self.old }
     {
@@ -101,7 +97,69 @@ impl LineBuffer {
         }
     }
 
-    /// The bytes of the line.
+    /// Puts the last four digits of a number in front, with those that are 0.
+    #[inline(always)]
+    fn put_four(&mut self, number: u64)
+        requires number { number < 10000 }
+        requires room { length self.old ≤ 4390 }
+        ensures items { self.new ≡ four_digits number ++ self.old }
+    {
+        let start = self.start - 4;
+        self.bytes[start..self.start].copy_from_slice(&four(number));
+        self.start = start;
+    }
+
+    /// Takes so many bytes off the front.
+    #[inline(always)]
+    fn skip(&mut self, count: usize)
+        requires { count ≤ length self.old }
+        ensures { self.new ≡ drop count self.old }
+    {
+        self.start += count;
+    }
+
+    /// Puts digits in front.
+    #[inline(always)]
+    #[tactic(auto, using(crate::proofs::Together::front_gone))]
+    fn put_digits(&mut self, digits: Digits)
+        requires room { length self.old ≤ 4390 }
+        ensures items { self.new ≡ decimal digits.number ++ self.old }
+    {
+        self.put(&digits.bytes);
+        self.skip(digits.start);
+    }
+
+    /// The digits of a number, which are made where others are kept.
+    #[inline(always)]
+    fn upper_digits(&mut self, number: u64) -> Digits
+        requires { number < 10 ^ 8 }
+        ensures digits { result.number ≡ number }
+        ensures same { self.new ≡ self.old }
+    {
+        if number != self.upper.number {
+            self.upper = Digits::of(number);
+        }
+        self.upper
+    }
+
+    /// Puts a tick in front.
+    #[inline(always)]
+    #[tactic(auto, using(crate::proofs::Together::tick_short))]
+    pub(crate) fn put_tick(&mut self, tick: u64)
+        requires tick { tick < 1000000000 }
+        requires room { length self.old ≤ 4380 }
+        ensures items { self.new ≡ decimal tick ++ self.old }
+        ensures len { length self.new ≤ 9 + length self.old }
+    {
+        if tick < 10_000 {
+            return self.put_number(tick);
+        }
+        let upper = self.upper_digits(tick / 10_000);
+        self.put_four(tick % 10_000);
+        self.put_digits(upper);
+    }
+
+    /// The bytes of the lines.
     #[inline(always)]
     pub fn as_slice(&self) -> &[u8]
         ensures { result.now ≡ self.now }
