@@ -6,3 +6,4 @@ pub mod Reading
 pub mod Once
 mod FirstLine
 pub mod Together
+pub mod Pairs

@@ -1,7 +1,7 @@
 //! Digits of numbers.
 
 ghost use Rattle.std.specs.Prelude.{◌≡◌, ◌≤◌, ◌<◌, ◌^◌, decimal, drop};
-ghost use Rattle.event_log.specs.Digits.{four_digits};
+ghost use Rattle.event_log.specs.Digits.{two_digits};
 
 use itoa::write_digits;
 
@@ -34,18 +34,16 @@ impl Digits {
     }
 }
 
-/// The last four digits of a number, with those that are 0.
+/// The digits of each number below 100, two of each.
+static PAIRS: [u8; 200] =
+    *b"00010203040506070809101112131415161718192021222324252627282930313233343536373839404142434445464748495051525354555657585960616263646566676869707172737475767778798081828384858687888990919293949596979899";
+
+/// The two digits of a number below 100.
 #[inline(always)]
-pub(crate) fn four(number: u64) -> [u8; 4]
-    requires { number < 10000 }
-    ensures { result ≡ four_digits number }
+pub(crate) fn pair(number: u64) -> [u8; 2]
+    requires { number < 100 }
+    ensures { result ≡ two_digits number }
 {
-    let number = number as u32;
-    let (high, low) = (number / 100, number % 100);
-    [
-        b'0' + (high / 10) as u8,
-        b'0' + (high % 10) as u8,
-        b'0' + (low / 10) as u8,
-        b'0' + (low % 10) as u8,
-    ]
+    let at = number as usize * 2;
+    [PAIRS[at], PAIRS[at + 1]]
 }

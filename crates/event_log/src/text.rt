@@ -4,7 +4,7 @@ ghost use Rattle.std.specs.Prelude.{◌≡◌, ◌≤◌, ◌<◌, ◌+◌, ◌^
 ghost use Rattle.std.specs.Fmt.{signed_decimal};
 ghost use Rattle.event_log.specs.Digits.{four_digits};
 
-use crate::digits::{Digits, four};
+use crate::digits::{Digits, pair};
 use itoa::write_digits;
 use std::marker::Model;
 
@@ -97,16 +97,15 @@ impl LineBuffer {
         }
     }
 
-    /// Puts the last four digits of a number in front, with those that are 0.
+    /// Puts a number in front, with four digits.
     #[inline(always)]
     fn put_four(&mut self, number: u64)
         requires number { number < 10000 }
         requires room { length self.old ≤ 4390 }
         ensures items { self.new ≡ four_digits number ++ self.old }
     {
-        let start = self.start - 4;
-        self.bytes[start..self.start].copy_from_slice(&four(number));
-        self.start = start;
+        self.put(&pair(number % 100));
+        self.put(&pair(number / 100));
     }
 
     /// Takes so many bytes off the front.
