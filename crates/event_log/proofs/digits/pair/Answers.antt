@@ -1,4 +1,4 @@
-use Rattle.std.proofs.Common.{◌≡◌, ◌+◌, refl}
+use Rattle.std.proofs.Common.{refl}
 use Rattle.event_log.proofs.Pairs.{pairs_at}
 use Rattle.event_log.proofs.digits.pair.Goals as goal
 

@@ -1,7 +1,5 @@
-use Rattle.std.proofs.Common.{refl, ◌≡◌, ◌≢◌, ◌∙◌, ◌+◌, ◌++◌, ◌<◌, ◌≤◌, [], ◌∷◌, take, drop, get_or, length, min, arith, sym, ap, subst, append_assoc, List, Result, Ok, Err, OnErr}
-use Rattle.std.specs.Prelude.{All}
+use Rattle.std.proofs.Common.{refl, ◌≡◌, ◌∙◌, ◌+◌, ◌++◌, [], take, arith, sym, ap, append_assoc, Result, Ok, Err, OnErr}
 use Rattle.outside.specs.Outside.{Appends, AppendsFront, Appends-nothing, Appends-append, AppendsFront-append, AppendsFront-more}
-use Rattle.base.specs.declared.event.Event.{Event}
 use Rattle.event_log.specs.InRange.{AreIn}
 use Rattle.event_log.specs.Line.{log_of}
 use Rattle.vm_run.proofs.Lines.{all_of, apart, log_of-append, log_of-nil, log_some, some_of}
