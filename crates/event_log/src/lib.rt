@@ -22,7 +22,7 @@ mod words;
 
 pub use fault::LogFault;
 pub use find::NameIndex;
-pub use lines::{MOST_LINES, write_line, write_lines};
+pub use lines::write_line;
 pub use numbers::condition_names;
 pub use one_log_law::one_log;
 pub use reader::LogReader;

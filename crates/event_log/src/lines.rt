@@ -2,15 +2,14 @@
 //!
 //! A line has the event's tick, the name of its process, what the process does and with what, with
 //! one space between them, and ends with LF. The definition is `line_of` in `specs/Line.antt`, and
-//! `write_line` makes exactly that text, without memory, over the line before; `write_lines` makes
-//! those of some events at once.
+//! `write_line` makes exactly that text, without memory, over the line before.
 //!
 //! The line of an event.
 
-ghost use Rattle.std.specs.Prelude.{◌≡◌, ◌≤◌, ◌<◌, ◌+◌, ◌++◌, ◌∷◌, [], Some, length, codes, decimal, All};
+ghost use Rattle.std.specs.Prelude.{◌≡◌, ◌≤◌, ◌<◌, ◌+◌, ◌++◌, ◌∷◌, [], Some, length, codes, decimal};
 ghost use Rattle.std.specs.Fmt.{signed_decimal};
 ghost use Rattle.event_log.specs.InRange.{ActIsIn, AreIn, AreSound, WokenIsIn};
-ghost use Rattle.event_log.specs.Line.{act_text, condition_name, device_name, line_of, log_of, monitor_name, process_name, qualified, truth_text, woken_name};
+ghost use Rattle.event_log.specs.Line.{act_text, condition_name, device_name, line_of, monitor_name, process_name, qualified, truth_text, woken_name};
 
 use crate::text::LineBuffer;
 use base::{Act, Event};
@@ -83,7 +82,7 @@ fn put_condition(line: &mut LineBuffer, names: &ImageNames, does: &[u8], number:
     requires sound { AreSound names.now }
     requires condition { number < length names.now.conditions }
     requires does { length does.now ≤ 11 }
-    requires room { length line.old ≤ 4200 }
+    requires room { length line.old ≤ 100 }
     ensures items { line.new ≡ does.now ++ (condition_name names.now number ++ line.old) }
     ensures len { length line.new ≤ length does.now + 127 + length line.old }
 {
@@ -97,7 +96,7 @@ fn put_condition(line: &mut LineBuffer, names: &ImageNames, does: &[u8], number:
 /// Puts the last word of a line.
 #[inline(always)]
 fn put_last(line: &mut LineBuffer, word: &[u8])
-    requires { length word.now + length line.old ≤ 4200 }
+    requires { length word.now + length line.old ≤ 100 }
     ensures items { line.new ≡ codes " " ++ (word.now ++ line.old) }
     ensures len { length line.new ≡ length word.now + 1 + length line.old }
 {
@@ -107,7 +106,7 @@ fn put_last(line: &mut LineBuffer, word: &[u8])
 
 /// Puts the last word of a line, a number.
 fn put_last_number(line: &mut LineBuffer, number: u16)
-    requires { length line.old ≤ 4100 }
+    requires { length line.old ≤ 50 }
     ensures items { line.new ≡ codes " " ++ (decimal number ++ line.old) }
     ensures len { length line.new ≤ 6 + length line.old }
 {
@@ -121,7 +120,7 @@ fn put_transfer(line: &mut LineBuffer, names: &ImageNames, does: &[u8], dev: u16
     requires sound { AreSound names.now }
     requires device { dev < length names.now.devices }
     requires does { length does.now ≤ 11 }
-    requires room { length line.old ≤ 4100 }
+    requires room { length line.old ≤ 50 }
     ensures items { line.new ≡
         does.now ++ (device_name names.now dev ++
         (codes " " ++ (signed_decimal value ++ line.old))) }
@@ -139,7 +138,7 @@ fn put_passage(line: &mut LineBuffer, names: &ImageNames, does: &[u8], mon: u16)
     requires sound { AreSound names.now }
     requires monitor { mon < length names.now.monitors }
     requires does { length does.now ≤ 11 }
-    requires room { length line.old ≤ 4200 }
+    requires room { length line.old ≤ 100 }
     ensures items { line.new ≡ does.now ++ (monitor_name names.now mon ++ line.old) }
     ensures len { length line.new ≤ 100 + length line.old }
 {
@@ -147,15 +146,14 @@ fn put_passage(line: &mut LineBuffer, names: &ImageNames, does: &[u8], mon: u16)
     line.put(does);
 }
 
-/// Puts what a process does, and with what, and the LF.
+/// Puts what a process does, and with what, before the LF.
 fn put_act(line: &mut LineBuffer, names: &ImageNames, act: Act)
     requires sound { AreSound names.now }
     requires act { ActIsIn names.now act }
-    requires room { length line.old ≤ 4095 }
-    ensures items { line.new ≡ act_text names.now act ++ line.old }
-    ensures len { length line.new ≤ 200 + length line.old }
+    requires begun { line.old ≡ codes "\n" }
+    ensures items { line.new ≡ act_text names.now act }
+    ensures len { length line.new ≤ 200 }
 {
-    line.put_byte(b'\n');
     match act {
         Act::Release => line.put(b" release"),
         Act::TimeOut { cond, number } => {
@@ -187,19 +185,6 @@ fn put_act(line: &mut LineBuffer, names: &ImageNames, act: Act)
     }
 }
 
-/// Puts the line of an event.
-fn put_line(line: &mut LineBuffer, names: &ImageNames, event: &Event)
-    requires event { AreIn names.now event.now }
-    requires room { length line.old ≤ 4095 }
-    ensures items { line.new ≡ line_of names.now event.now ++ line.old }
-    ensures len { length line.new ≤ 273 + length line.old }
-{
-    put_act(line, names, event.act);
-    line.put(process_of(names, event.proc));
-    line.put_byte(b' ');
-    line.put_tick(event.tick);
-}
-
 /// Makes the line that of an event in the log, with its LF: at most 273 bytes. The numbers of the
 /// event are in range of the names, which have at most 63 bytes, and its tick is below
 /// 1,000,000,000. It takes no memory.
@@ -208,24 +193,9 @@ pub fn write_line(line: &mut LineBuffer, names: &ImageNames, event: &Event)
     ensures text { line.new ≡ line_of names.now event.now }
     ensures short { length line.new ≤ 273 }
 {
-    line.clear();
-    put_line(line, names, event);
-}
-
-/// So many lines at most are written at once.
-pub const MOST_LINES: usize = 16;
-
-/// Makes the lines those of some events in the log, of which there are at most `MOST_LINES`. It
-/// takes no memory.
-pub fn write_lines(lines: &mut LineBuffer, names: &ImageNames, events: &[Event])
-    requires events { All (AreIn names.now) events.now }
-    requires few { length events.now ≤ 16 }
-    ensures text { lines.new ≡ log_of names.now events.now }
-{
-    lines.clear();
-    let mut at = events.len();
-    while at > 0 {
-        at -= 1;
-        put_line(lines, names, &events[at]);
-    }
+    line.begin();
+    put_act(line, names, event.act);
+    line.put(process_of(names, event.proc));
+    line.put_byte(b' ');
+    line.put_tick(event.tick);
 }

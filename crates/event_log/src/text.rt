@@ -1,4 +1,4 @@
-//! Room for lines, which are written from their end, without memory of their own.
+//! Room for a line, which is written from its end, without memory of its own.
 
 ghost use Rattle.std.specs.Prelude.{◌≡◌, ◌≤◌, ◌<◌, ◌+◌, ◌^◌, ◌++◌, ◌∷◌, [], length, codes, decimal, drop};
 ghost use Rattle.std.specs.Fmt.{signed_decimal};
@@ -8,11 +8,11 @@ use crate::digits::{Digits, pair};
 use itoa::write_digits;
 use std::marker::Model;
 
-/// More bytes than 16 lines have.
-const ROOM: usize = 4_400;
+/// More bytes than a line has.
+const ROOM: usize = 320;
 
-/// The bytes of some lines. They are written from the last byte to the first, so that each part is
-/// put where it lies, digits too. The digits of a tick but for its last four are kept for the next
+/// The bytes of a line. It is written from its last byte to its first, so that each part is put
+/// where it lies, digits too. The digits of a tick but for its last four are kept for the next
 /// line.
 #[derive(Drop)]
 pub struct LineBuffer {
@@ -28,7 +28,7 @@ impl Model for LineBuffer {
 
     ghost view = { λ s. drop s.start s.bytes };
 
-    ghost invariant = { λ s. s.start ≤ 4400 };
+    ghost invariant = { λ s. s.start ≤ 320 };
 }
 
 impl LineBuffer {
@@ -45,16 +45,25 @@ impl LineBuffer {
 
     /// Forgets what was written.
     #[inline(always)]
-    pub(crate) fn clear(&mut self)
+    fn clear(&mut self)
         ensures { self.new ≡ [] }
     {
         self.start = ROOM;
     }
 
+    /// Begins a line, at its end: puts its LF.
+    #[inline(always)]
+    pub(crate) fn begin(&mut self)
+        ensures { self.new ≡ codes "\n" }
+    {
+        self.clear();
+        self.put_byte(b'\n');
+    }
+
     /// Puts bytes that fit in front.
     #[inline(always)]
     pub(crate) fn put(&mut self, bytes: &[u8])
-        requires { length bytes.now + length self.old ≤ 4400 }
+        requires { length bytes.now + length self.old ≤ 320 }
         ensures items { self.new ≡ bytes.now ++ self.old }
         ensures len { length self.new ≡ length bytes.now + length self.old }
     {
@@ -66,7 +75,7 @@ impl LineBuffer {
     /// Puts a byte that fits in front.
     #[inline(always)]
     pub(crate) fn put_byte(&mut self, byte: u8)
-        requires { length self.old < 4400 }
+        requires { length self.old < 320 }
         ensures items { self.new ≡ byte ∷ self.old }
         ensures len { length self.new ≡ 1 + length self.old }
     {
@@ -77,7 +86,7 @@ impl LineBuffer {
     /// Puts a number that fits in front.
     #[inline(always)]
     pub(crate) fn put_number(&mut self, number: u64)
-        requires { length (decimal number) + length self.old ≤ 4400 }
+        requires { length (decimal number) + length self.old ≤ 320 }
         ensures items { self.new ≡ decimal number ++ self.old }
         ensures len { length self.new ≡ length (decimal number) + length self.old }
     {
@@ -87,7 +96,7 @@ impl LineBuffer {
     /// Puts a number with its sign in front.
     #[inline(always)]
     pub(crate) fn put_signed(&mut self, number: i32)
-        requires { length self.old ≤ 4300 }
+        requires { length self.old ≤ 300 }
         ensures items { self.new ≡ signed_decimal number ++ self.old }
         ensures len { length self.new ≤ 11 + length self.old }
     {
@@ -101,7 +110,7 @@ impl LineBuffer {
     #[inline(always)]
     fn put_four(&mut self, number: u64)
         requires number { number < 10000 }
-        requires room { length self.old ≤ 4390 }
+        requires room { length self.old ≤ 310 }
         ensures items { self.new ≡ four_digits number ++ self.old }
     {
         self.put(&pair(number % 100));
@@ -119,9 +128,9 @@ impl LineBuffer {
 
     /// Puts digits in front.
     #[inline(always)]
-    #[tactic(auto, using(crate::proofs::Together::front_gone))]
+    #[tactic(auto, using(crate::proofs::TickDigits::front_gone))]
     fn put_digits(&mut self, digits: Digits)
-        requires room { length self.old ≤ 4390 }
+        requires room { length self.old ≤ 310 }
         ensures items { self.new ≡ decimal digits.number ++ self.old }
     {
         self.put(&digits.bytes);
@@ -143,10 +152,10 @@ impl LineBuffer {
 
     /// Puts a tick in front.
     #[inline(always)]
-    #[tactic(auto, using(crate::proofs::Together::tick_short))]
+    #[tactic(auto, using(crate::proofs::TickDigits::tick_short))]
     pub(crate) fn put_tick(&mut self, tick: u64)
         requires tick { tick < 1000000000 }
-        requires room { length self.old ≤ 4380 }
+        requires room { length self.old ≤ 300 }
         ensures items { self.new ≡ decimal tick ++ self.old }
         ensures len { length self.new ≤ 9 + length self.old }
     {
@@ -158,7 +167,7 @@ impl LineBuffer {
         self.put_digits(upper);
     }
 
-    /// The bytes of the lines.
+    /// The bytes of the line.
     #[inline(always)]
     pub fn as_slice(&self) -> &[u8]
         ensures { result.now ≡ self.now }

@@ -8,4 +8,3 @@ pub mod Ordering
 pub mod Firsts
 pub mod Least
 pub mod Resting
-pub mod Alone

@@ -158,9 +158,6 @@ impl Timers {
         do_lines(plan, &self.order, lines, &mut self.done, board, fired, tick);
         let line_slot = 2 * plan.processes.len();
         self.slots.set(line_slot, next_line(lines, self.done));
-        if !self.is_due(tick) {
-            return;
-        }
         do_releases(plan, &mut self.slots, board, fired, tick);
         do_time_outs(plan, &self.order, &mut self.slots, board, fired, tick);
     }

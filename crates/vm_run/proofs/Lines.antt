@@ -1,9 +1,7 @@
 -- The log, line by line.
-use Rattle.std.proofs.Common.{◌≡◌, ◌≢◌, ◌<◌, ℕ, List, [], ◌∷◌, ◌++◌, length, take, drop, refl, sym, ap, subst, arith, ◌∙◌, append_assoc}
-use Rattle.std.specs.Prelude.{decimal, false, ◌==◌}
-use Rattle.std.proofs.lemmas.List.{take-append-drop}
-use Rattle.std.specs.Prelude.{All}
-use Rattle.base.proofs.Lists.{all_front, all_back}
+use Rattle.std.proofs.Common.{◌≡◌, ◌≢◌, ◌<◌, ◌+◌, ℕ, List, [], ◌∷◌, ◌++◌, length, take, drop, get_or, refl, sym, ap, subst, ◌∙◌, append_assoc, add-one, drop-cons}
+use Rattle.std.specs.Prelude.{decimal}
+use Rattle.std.proofs.lemmas.List.{append-nil, take-append-drop, take_more}
 use Rattle.base.specs.declared.event.Event.{Event}
 use Rattle.image.specs.declared.names.ImageNames.{ImageNames}
 use Rattle.event_log.specs.Line.{act_text, line_of, log_of, process_name}
@@ -21,15 +19,16 @@ pub log_of-nil : (names : ImageNames) → log_of names [] ≡ []
 unfolding log_of
 log_of-nil names = refl
 
--- events, of which some were put, and some of the rest are put now
-pub apart : (xs done rest now later : List Event) (k : ℕ) → xs ≡ done ++ rest → now ≡ take k rest → later ≡ drop k rest → xs ≡ done ++ (now ++ later)
-apart xs done rest now later k all front back =
-    let split : now ++ later ≡ rest = rw (front, back) (take-append-drop k rest) in
-    all ∙ ap (λ (es : List Event). done ++ es) (sym split)
+pub log_of-more : (names : ImageNames) (xs : List Event) (i : ℕ) (d : Event) → i < length xs → log_of names (take (i + 1) xs) ≡ log_of names (take i xs) ++ line_of names (get_or xs i d)
+log_of-more names xs i d below =
+    ap (log_of names) (take_more xs i d below) ∙ (log_of-append names (take i xs) (get_or xs i d ∷ [])
+    ∙ ap (λ t. log_of names (take i xs) ++ t) (log_of-cons names (get_or xs i d) [] ∙ (ap (λ t. line_of names (get_or xs i d) ++ t) (log_of-nil names) ∙ append-nil (line_of names (get_or xs i d)))))
 
--- what holds of all events holds of those between some first ones and some last ones
-pub all_of : (P : Event → Type 0) (xs before now after : List Event) → xs ≡ before ++ (now ++ after) → All P xs → All P now
-all_of P xs before now after is all = all_front P now after (all_back P before (now ++ after) (subst (λ (es : List Event). All P es) is all))
+pub log_of-cut : (names : ImageNames) (xs : List Event) (i : ℕ) (d : Event) → i < length xs → log_of names xs ≡ log_of names (take i xs) ++ (line_of names (get_or xs i d) ++ log_of names (drop (i + 1) xs))
+log_of-cut names xs i d below =
+    let rest : drop i xs ≡ get_or xs i d ∷ drop (i + 1) xs = rw add-one (drop-cons xs i d below) in
+    ap (log_of names) (sym (take-append-drop i xs)) ∙ (log_of-append names (take i xs) (drop i xs)
+    ∙ ap (λ t. log_of names (take i xs) ++ t) (ap (log_of names) rest ∙ log_of-cons names (get_or xs i d) (drop (i + 1) xs)))
 
 -- ---- a log with an event has bytes
 
@@ -47,12 +46,7 @@ cons_some x xs = λ none. absurd cc
 line_of-some : (names : ImageNames) (e : Event) → line_of names e ≢ []
 line_of-some names e = some_behind (decimal e.tick) _ (cons_some 32 (process_name names e.proc ++ act_text names e.act))
 
-pub some_of : (xs : List Event) → false ≡ (length xs == 0) → 0 < length xs
-some_of [] none = absurd cc
-some_of (e ∷ xs) none = omega arith
-
-pub log_some : (names : ImageNames) (before after : List Event) → 0 < length after → log_of names (before ++ after) ≢ []
-log_some names before [] some = absurd (omega (arith, some))
-log_some names before (e ∷ after) some =
-    subst (λ (bytes : List ℕ). bytes ≢ []) (sym (log_of-append names before (e ∷ after)))
-    (some_behind (log_of names before) _ (subst (λ (bytes : List ℕ). bytes ≢ []) (sym (log_of-cons names e after)) (some_before (line_of names e) (log_of names after) (line_of-some names e))))
+pub log_of-some : (names : ImageNames) (xs : List Event) (i : ℕ) (d : Event) → i < length xs → log_of names xs ≢ []
+log_of-some names xs i d below =
+    subst (λ (bytes : List ℕ). bytes ≢ []) (sym (log_of-cut names xs i d below))
+    (some_behind (log_of names (take i xs)) _ (some_before (line_of names (get_or xs i d)) _ (line_of-some names (get_or xs i d))))

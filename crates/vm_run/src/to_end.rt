@@ -20,7 +20,7 @@ use vm_runner::{Dispatch, Machine};
 use vm_state::DecodedImage;
 
 /// Runs from the machine's tick to the end of the script, and puts the line of each event in the
-/// log, some lines at once. After a failed put nothing more is put; the machine then stands after the
+/// log, one put a line. After a failed put nothing more is put; the machine then stands after the
 /// turns whose lines it was putting. It takes no memory.
 pub fn run<D: Dispatch, O: Sink>(
     machine: &mut Machine<D>,

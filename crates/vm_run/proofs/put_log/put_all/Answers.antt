@@ -1,26 +1,21 @@
-use Rattle.std.proofs.Common.{refl, ◌≡◌, ◌∙◌, ◌+◌, ◌++◌, [], take, arith, sym, ap, append_assoc, Result, Ok, Err, OnErr}
-use Rattle.outside.specs.Outside.{Appends, AppendsFront, Appends-nothing, Appends-append, AppendsFront-append, AppendsFront-more}
-use Rattle.event_log.specs.InRange.{AreIn}
-use Rattle.event_log.specs.Line.{log_of}
-use Rattle.vm_run.proofs.Lines.{all_of, apart, log_of-append, log_of-nil, log_some, some_of}
+use Rattle.std.proofs.Common.{refl, ◌∙◌, ◌+◌, take, drop, get_or, arith, Result, Ok, Err, OnErr}
+use Rattle.outside.specs.Outside.{AppendsFront, Appends-nothing, Appends-append, AppendsFront-append, AppendsFront-more}
+use Rattle.base.specs.declared.event.Event.{Event}
+use Rattle.base.specs.declared.event.Act.TheVariants as act
+use Rattle.event_log.specs.Line.{line_of, log_of}
+use Rattle.vm_run.proofs.Lines.{log_of-more, log_of-cut, log_of-nil, log_of-some}
 use Rattle.vm_run.proofs.put_log.put_all.Goals as goal
 
-pub loop-rest-init : goal.loop-rest-init
-loop-rest-init g c = record { done = []; all = refl; taken = rw log_of-nil (Appends-nothing (g.O.Sink.state c.args.out.now).taken); count = omega arith; quiet = refl }
+pub loop-event-init : goal.loop-event-init
+loop-event-init g c = record { taken = rw log_of-nil (Appends-nothing (g.O.Sink.state c.args.out.now).taken); count = omega arith; quiet = refl }
 
-pub put_lines-requires-clause-events : goal.put_lines-requires-clause-events
-put_lines-requires-clause-events g c = all_of (AreIn c.args.names.now) c.args.events.now c.loop-rest.invariant.done c.split_at.result.0.now c.split_at.result.1.now (apart c.args.events.now c.loop-rest.invariant.done c.loop-rest.rest.now c.split_at.result.0.now c.split_at.result.1.now _ c.loop-rest.invariant.all c.split_at.ensures.front c.split_at.ensures.back) c.requires
-
-pub loop-rest-preserved : goal.loop-rest-preserved
-loop-rest-preserved g c =
-    let now = c.split_at.result.0.now in
-    let later = c.split_at.result.1.now in
+pub loop-event-preserved : goal.loop-event-preserved
+loop-event-preserved g c =
+    let e : Event = record { tick = 0; proc = 0; act = act.Release } in
     record {
-      done = c.loop-rest.invariant.done ++ now;
-      all = apart c.args.events.now c.loop-rest.invariant.done c.loop-rest.rest.now now later _ c.loop-rest.invariant.all c.split_at.ensures.front c.split_at.ensures.back ∙ sym (append_assoc c.loop-rest.invariant.done now later);
-      taken = rw (log_of-append c.args.names.now c.loop-rest.invariant.done now) (Appends-append _ _ _ _ _ c.loop-rest.invariant.taken c.in_ok-put_lines.ensures.whole);
-      count = omega (arith, c.loop-rest.invariant.count, c.put_lines.ensures.count);
-      quiet = c.in_ok-put_lines.ensures.quiet ∙ c.loop-rest.invariant.quiet;
+      taken = rw (log_of-more c.args.names.now c.args.events.now c.loop-event.event-index e (omega arith)) (Appends-append _ _ _ _ _ c.loop-event.invariant.taken c.in_ok-put_line.ensures.whole);
+      count = omega (arith, c.loop-event.invariant.count, c.put_line.ensures.count);
+      quiet = c.in_ok-put_line.ensures.quiet ∙ c.loop-event.invariant.quiet;
     }
 
 -- what holds of every result holds where it is an error
@@ -28,19 +23,16 @@ on_err : {A E : Type 0} (r : Result A E) (P : Type 0) → P → OnErr r P
 on_err (Ok x) P p = tt
 on_err (Err e) P p = p
 
-pub returns-in_err-put_lines-clause-front : goal.returns-in_err-put_lines-clause-front
-returns-in_err-put_lines-clause-front g c =
-    let names = c.args.names.now in
-    let done = c.loop-rest.invariant.done in
-    let now = c.split_at.result.0.now in
-    let later = c.split_at.result.1.now in
-    let whole : log_of names c.args.events.now ≡ log_of names done ++ (log_of names now ++ log_of names later) =
-    ap (log_of names) (apart c.args.events.now done c.loop-rest.rest.now now later _ c.loop-rest.invariant.all c.split_at.ensures.front c.split_at.ensures.back) ∙ (log_of-append names done (now ++ later) ∙ ap (λ t. log_of names done ++ t) (log_of-append names now later)) in
-    let put : AppendsFront (g.O.Sink.state c.loop-rest.out).taken (g.O.Sink.state c.put_lines.new.out).taken (log_of names now) = c.in_err-put_lines.ensures.front in
+pub returns-in_err-put_line-clause-front : goal.returns-in_err-put_line-clause-front
+returns-in_err-put_line-clause-front g c =
+    let e : Event = record { tick = 0; proc = 0; act = act.Release } in
+    let put : AppendsFront (g.O.Sink.state c.loop-event.out).taken (g.O.Sink.state c.put_line.new.out).taken (line_of c.args.names.now (get_or c.args.events.now c.loop-event.event-index e)) = c.in_err-put_line.ensures.front in
     on_err c.from_residual.result _
-    (rw whole (AppendsFront-append (g.O.Sink.state c.args.out.now).taken (g.O.Sink.state c.loop-rest.out).taken (g.O.Sink.state c.put_lines.new.out).taken (log_of names done) _ c.loop-rest.invariant.taken
-    (AppendsFront-more _ _ (log_of names now) (log_of names later) put)))
+    (rw (log_of-cut c.args.names.now c.args.events.now c.loop-event.event-index e (omega arith))
+    (AppendsFront-append (g.O.Sink.state c.args.out.now).taken (g.O.Sink.state c.loop-event.out).taken (g.O.Sink.state c.put_line.new.out).taken (log_of c.args.names.now (take c.loop-event.event-index c.args.events.now)) _ c.loop-event.invariant.taken
+    (AppendsFront-more _ _ (line_of c.args.names.now (get_or c.args.events.now c.loop-event.event-index e)) (log_of c.args.names.now (drop (c.loop-event.event-index + 1) c.args.events.now)) put)))
 
-pub returns-in_err-put_lines-clause-some : goal.returns-in_err-put_lines-clause-some
-returns-in_err-put_lines-clause-some g c =
-    on_err c.from_residual.result _ (rw c.loop-rest.invariant.all (log_some c.args.names.now c.loop-rest.invariant.done c.loop-rest.rest.now (some_of c.loop-rest.rest.now c.loop-rest-test.ensures)))
+pub returns-in_err-put_line-clause-some : goal.returns-in_err-put_line-clause-some
+returns-in_err-put_line-clause-some g c =
+    let e : Event = record { tick = 0; proc = 0; act = act.Release } in
+    on_err c.from_residual.result _ (log_of-some c.args.names.now c.args.events.now c.loop-event.event-index e (omega arith))

@@ -1,5 +1,5 @@
 use Rattle.std.proofs.Common.{◌≡◌, ◌+◌, ◌++◌, decimal, length, arith, refl, ap, ◌∙◌, append_assoc, length-append}
-use Rattle.event_log.proofs.Together.{by_upper, tick_short}
+use Rattle.event_log.proofs.TickDigits.{by_upper, tick_short}
 use Rattle.event_log.proofs.text.LineBuffer.put_tick.Goals as goal
 use Rattle.event_log.proofs.text.LineBuffer.put_tick.Goals.{After-put_digits}
 

@@ -9,7 +9,6 @@ use Rattle.vm_state.specs.Board.{state_of}
 use Rattle.vm_stretch.specs.StartLawsDue.{AreDone}
 use Rattle.vm_stretch.specs.Steps.{HasStarted, HasWaits}
 use Rattle.vm_releases.specs.Begin.{AreToCome, HaveQueues, lines_of, script_of}
-use Rattle.vm_releases.proofs.Alone.{alone_slots, alone_started}
 use Rattle.vm_releases.proofs.Boards.{as_many, cells_count}
 use Rattle.vm_releases.proofs.Joining.{all_started, lines_to_come, parts, slots_again, tell_releases, threads_count, waits_after_lines, waits_after_releases}
 use Rattle.vm_releases.proofs.Queueing.{lines_keep, periodic_keeps}
@@ -86,76 +85,6 @@ set-requires g c =
     subst (λ (xs : List ScriptLine). HasStarted (lines g.image t (lines_of xs)) s c.args.fired.now.items a c.do_lines.new.fired.items) same c.do_lines.ensures.started in
     let many : c.len-line_slot.result ≡ n = c.len-line_slot.ensures ∙ (let count = as_many g.image.processes c.args.plan.now.processes.items c.requires.0.processes in omega (arith, count, c.args.plan.now.processes.ok.0)) in
     omega (arith, many, c.requires.1.1.1.0.count)
-
-pub returns-then-not-is_due-2-clause-state : goal.returns-then-not-is_due-2-clause-state
-returns-then-not-is_due-2-clause-state g c =
-    let t = c.args.tick in
-    let s = state_of c.args.board.now in
-    let n = length g.image.processes in
-    let ls = lines_of c.args.script.now.lines in
-    let same : c.as_slice-lines.result.now ≡ c.args.script.now.lines = c.as_slice-lines.ensures ∙ c.lines.ensures in
-    let a = state_of c.do_lines.new.board in
-    let first : HasStarted (lines g.image t ls) s c.args.fired.now.items a c.do_lines.new.fired.items =
-    subst (λ (xs : List ScriptLine). HasStarted (lines g.image t (lines_of xs)) s c.args.fired.now.items a c.do_lines.new.fired.items) same c.do_lines.ensures.started in
-    let many : c.len-line_slot.result ≡ n = c.len-line_slot.ensures ∙ (let count = as_many g.image.processes c.args.plan.now.processes.items c.requires.0.processes in omega (arith, count, c.args.plan.now.processes.ok.0)) in
-    let next = first_tick (drop c.do_lines.new.done ls) in
-    let set : c.set.new.self ≡ slice_set c.args.self.now.slots (2 * n) next =
-    c.set.ensures ∙ ap (λ (k : ℕ). slice_set c.args.self.now.slots (2 * k) c.next_line.result) many
-    ∙ ap (λ (o : Option ℕ). slice_set c.args.self.now.slots (2 * n) o) (c.next_line.ensures ∙ ap (λ (xs : List ScriptLine). first_tick (drop c.do_lines.new.done (lines_of xs))) same) in
-    let done : AreDone t c.do_lines.new.done ls = subst (λ (xs : List ScriptLine). AreDone t c.do_lines.new.done (lines_of xs)) same c.do_lines.ensures.done in
-    let threads : length a.threads ≡ n = threads_count c.do_lines.new.board.cells.items ∙ cells_count g.image c.do_lines.new.board.cells.items c.do_lines.ensures.board.rooms in
-    (alone_started g.image (script_of c.args.script.now) t c.args.self.now.done c.do_lines.new.done s a c.args.self.now.slots c.set.new.self c.requires.1.1.1.0 set done (c.is_due-2.ensures c.if-not-is_due-2.true) first.state threads
-    c.args.fired.now.items c.do_lines.new.fired.items c.requires.1.1.1.1.1.1.1.1 first).state
-
-pub returns-then-not-is_due-2-clause-events : goal.returns-then-not-is_due-2-clause-events
-returns-then-not-is_due-2-clause-events g c =
-    let t = c.args.tick in
-    let s = state_of c.args.board.now in
-    let n = length g.image.processes in
-    let ls = lines_of c.args.script.now.lines in
-    let same : c.as_slice-lines.result.now ≡ c.args.script.now.lines = c.as_slice-lines.ensures ∙ c.lines.ensures in
-    let a = state_of c.do_lines.new.board in
-    let first : HasStarted (lines g.image t ls) s c.args.fired.now.items a c.do_lines.new.fired.items =
-    subst (λ (xs : List ScriptLine). HasStarted (lines g.image t (lines_of xs)) s c.args.fired.now.items a c.do_lines.new.fired.items) same c.do_lines.ensures.started in
-    let many : c.len-line_slot.result ≡ n = c.len-line_slot.ensures ∙ (let count = as_many g.image.processes c.args.plan.now.processes.items c.requires.0.processes in omega (arith, count, c.args.plan.now.processes.ok.0)) in
-    let next = first_tick (drop c.do_lines.new.done ls) in
-    let set : c.set.new.self ≡ slice_set c.args.self.now.slots (2 * n) next =
-    c.set.ensures ∙ ap (λ (k : ℕ). slice_set c.args.self.now.slots (2 * k) c.next_line.result) many
-    ∙ ap (λ (o : Option ℕ). slice_set c.args.self.now.slots (2 * n) o) (c.next_line.ensures ∙ ap (λ (xs : List ScriptLine). first_tick (drop c.do_lines.new.done (lines_of xs))) same) in
-    let done : AreDone t c.do_lines.new.done ls = subst (λ (xs : List ScriptLine). AreDone t c.do_lines.new.done (lines_of xs)) same c.do_lines.ensures.done in
-    let threads : length a.threads ≡ n = threads_count c.do_lines.new.board.cells.items ∙ cells_count g.image c.do_lines.new.board.cells.items c.do_lines.ensures.board.rooms in
-    (alone_started g.image (script_of c.args.script.now) t c.args.self.now.done c.do_lines.new.done s a c.args.self.now.slots c.set.new.self c.requires.1.1.1.0 set done (c.is_due-2.ensures c.if-not-is_due-2.true) first.state threads
-    c.args.fired.now.items c.do_lines.new.fired.items c.requires.1.1.1.1.1.1.1.1 first).events
-
-pub returns-then-not-is_due-2-clause-slots : goal.returns-then-not-is_due-2-clause-slots
-returns-then-not-is_due-2-clause-slots g c =
-    let t = c.args.tick in
-    let s = state_of c.args.board.now in
-    let n = length g.image.processes in
-    let ls = lines_of c.args.script.now.lines in
-    let same : c.as_slice-lines.result.now ≡ c.args.script.now.lines = c.as_slice-lines.ensures ∙ c.lines.ensures in
-    let a = state_of c.do_lines.new.board in
-    let first : HasStarted (lines g.image t ls) s c.args.fired.now.items a c.do_lines.new.fired.items =
-    subst (λ (xs : List ScriptLine). HasStarted (lines g.image t (lines_of xs)) s c.args.fired.now.items a c.do_lines.new.fired.items) same c.do_lines.ensures.started in
-    let many : c.len-line_slot.result ≡ n = c.len-line_slot.ensures ∙ (let count = as_many g.image.processes c.args.plan.now.processes.items c.requires.0.processes in omega (arith, count, c.args.plan.now.processes.ok.0)) in
-    let next = first_tick (drop c.do_lines.new.done ls) in
-    let set : c.set.new.self ≡ slice_set c.args.self.now.slots (2 * n) next =
-    c.set.ensures ∙ ap (λ (k : ℕ). slice_set c.args.self.now.slots (2 * k) c.next_line.result) many
-    ∙ ap (λ (o : Option ℕ). slice_set c.args.self.now.slots (2 * n) o) (c.next_line.ensures ∙ ap (λ (xs : List ScriptLine). first_tick (drop c.do_lines.new.done (lines_of xs))) same) in
-    let done : AreDone t c.do_lines.new.done ls = subst (λ (xs : List ScriptLine). AreDone t c.do_lines.new.done (lines_of xs)) same c.do_lines.ensures.done in
-    let threads : length a.threads ≡ n = threads_count c.do_lines.new.board.cells.items ∙ cells_count g.image c.do_lines.new.board.cells.items c.do_lines.ensures.board.rooms in
-    alone_slots g.image (script_of c.args.script.now) t c.args.self.now.done c.do_lines.new.done s a c.args.self.now.slots c.set.new.self c.requires.1.1.1.0 set done (c.is_due-2.ensures c.if-not-is_due-2.true) first.state threads
-
-pub returns-then-not-is_due-2-clause-queues : goal.returns-then-not-is_due-2-clause-queues
-returns-then-not-is_due-2-clause-queues g c =
-    let t = c.args.tick in
-    let s = state_of c.args.board.now in
-    let ls = lines_of c.args.script.now.lines in
-    let same : c.as_slice-lines.result.now ≡ c.args.script.now.lines = c.as_slice-lines.ensures ∙ c.lines.ensures in
-    let a = state_of c.do_lines.new.board in
-    let first : HasStarted (lines g.image t ls) s c.args.fired.now.items a c.do_lines.new.fired.items =
-    subst (λ (xs : List ScriptLine). HasStarted (lines g.image t (lines_of xs)) s c.args.fired.now.items a c.do_lines.new.fired.items) same c.do_lines.ensures.started in
-    subst (λ (x : State). HaveQueues x) (sym first.state) (lines_keep g.image t ls s c.requires.1.1.1.1.1.0)
 
 pub do_releases-requires : goal.do_releases-requires
 do_releases-requires g c =
