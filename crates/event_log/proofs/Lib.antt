@@ -5,3 +5,5 @@ pub mod LinesLemmas
 pub mod Reading
 pub mod Once
 mod FirstLine
+pub mod TickDigits
+pub mod Pairs

@@ -5,3 +5,4 @@ pub mod Parts
 pub mod Finding
 pub mod LogReading
 pub mod Reader
+pub mod Digits

@@ -8,6 +8,7 @@
 #![tactic(auto)]
 
 mod act;
+mod digits;
 mod fault;
 mod find;
 mod line;

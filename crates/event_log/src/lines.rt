@@ -197,5 +197,5 @@ pub fn write_line(line: &mut LineBuffer, names: &ImageNames, event: &Event)
     put_act(line, names, event.act);
     line.put(process_of(names, event.proc));
     line.put_byte(b' ');
-    line.put_number(event.tick);
+    line.put_tick(event.tick);
 }

@@ -1,8 +1,10 @@
 //! Room for a line, which is written from its end, without memory of its own.
 
-ghost use Rattle.std.specs.Prelude.{◌≡◌, ◌≤◌, ◌<◌, ◌+◌, ◌++◌, ◌∷◌, [], length, codes, decimal};
+ghost use Rattle.std.specs.Prelude.{◌≡◌, ◌≤◌, ◌<◌, ◌+◌, ◌^◌, ◌++◌, ◌∷◌, [], length, codes, decimal, drop};
 ghost use Rattle.std.specs.Fmt.{signed_decimal};
+ghost use Rattle.event_log.specs.Digits.{four_digits};
 
+use crate::digits::{Digits, pair};
 use itoa::write_digits;
 use std::marker::Model;
 
@@ -10,11 +12,13 @@ use std::marker::Model;
 const ROOM: usize = 320;
 
 /// The bytes of a line. It is written from its last byte to its first, so that each part is put
-/// where it lies, digits too.
+/// where it lies, digits too. The digits of a tick but for its last four are kept for the next
+/// line.
 #[derive(Drop)]
 pub struct LineBuffer {
     bytes: [u8; ROOM],
     start: usize,
+    upper: Digits,
 }
 
 impl Model for LineBuffer {
@@ -35,6 +39,7 @@ impl LineBuffer {
         LineBuffer {
             bytes: [0; ROOM],
             start: ROOM,
+            upper: Digits::of(0),
         }
     }
 
@@ -99,6 +104,67 @@ impl LineBuffer {
         if number < 0 {
             self.put_byte(b'-');
         }
+    }
+
+    /// Puts a number in front, with four digits.
+    #[inline(always)]
+    fn put_four(&mut self, number: u64)
+        requires number { number < 10000 }
+        requires room { length self.old ≤ 310 }
+        ensures items { self.new ≡ four_digits number ++ self.old }
+    {
+        self.put(&pair(number % 100));
+        self.put(&pair(number / 100));
+    }
+
+    /// Takes so many bytes off the front.
+    #[inline(always)]
+    fn skip(&mut self, count: usize)
+        requires { count ≤ length self.old }
+        ensures { self.new ≡ drop count self.old }
+    {
+        self.start += count;
+    }
+
+    /// Puts digits in front.
+    #[inline(always)]
+    #[tactic(auto, using(crate::proofs::TickDigits::front_gone))]
+    fn put_digits(&mut self, digits: Digits)
+        requires room { length self.old ≤ 310 }
+        ensures items { self.new ≡ decimal digits.number ++ self.old }
+    {
+        self.put(&digits.bytes);
+        self.skip(digits.start);
+    }
+
+    /// The digits of a number, which are made where others are kept.
+    #[inline(always)]
+    fn upper_digits(&mut self, number: u64) -> Digits
+        requires { number < 10 ^ 8 }
+        ensures digits { result.number ≡ number }
+        ensures same { self.new ≡ self.old }
+    {
+        if number != self.upper.number {
+            self.upper = Digits::of(number);
+        }
+        self.upper
+    }
+
+    /// Puts a tick in front.
+    #[inline(always)]
+    #[tactic(auto, using(crate::proofs::TickDigits::tick_short))]
+    pub(crate) fn put_tick(&mut self, tick: u64)
+        requires tick { tick < 1000000000 }
+        requires room { length self.old ≤ 300 }
+        ensures items { self.new ≡ decimal tick ++ self.old }
+        ensures len { length self.new ≤ 9 + length self.old }
+    {
+        if tick < 10_000 {
+            return self.put_number(tick);
+        }
+        let upper = self.upper_digits(tick / 10_000);
+        self.put_four(tick % 10_000);
+        self.put_digits(upper);
     }
 
     /// The bytes of the line.

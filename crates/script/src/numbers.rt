@@ -17,11 +17,25 @@ pub type SymbolNumbers<'a> = IndexMap<&'a [u8], u16>;
 /// So many names are compared before the map is asked.
 const FEW: usize = 4;
 
-/// The number of a name.
+/// The number of a name. The first name is compared before others are looked at.
+#[inline(always)]
 pub fn find(numbers: &SymbolNumbers<'_>, name: &[u8]) -> Option<u16>
     ensures { result ≡ number_in numbers.now.entries name.now }
 {
-    for at in 0..FEW {
+    if let Some((key, number)) = numbers.get_index(0) {
+        if is_same(key, name) {
+            return Some(*number);
+        }
+    }
+    find_later(numbers, name)
+}
+
+/// The same, where the first name is another.
+#[inline(never)]
+fn find_later(numbers: &SymbolNumbers<'_>, name: &[u8]) -> Option<u16>
+    ensures { result ≡ number_in numbers.now.entries name.now }
+{
+    for at in 1..FEW {
         if let Some((key, number)) = numbers.get_index(at) {
             if is_same(key, name) {
                 return Some(*number);

@@ -23,6 +23,7 @@ pub struct Past {
 }
 
 /// Whether the tick is not below the last one.
+#[inline(always)]
 fn is_from(tick: u64, last: Option<u64>) -> bool
     ensures { result ≡ from_last tick last }
 {
@@ -84,6 +85,7 @@ impl Past {
 
     /// What the line means to the names, or what is wrong with it after these lines. An end means
     /// no line.
+    #[inline(always)]
     pub fn judge(
         &self,
         names: &ImageNames,

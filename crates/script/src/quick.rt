@@ -119,6 +119,7 @@ fn word_to(bytes: &[u8]) -> Option<Cut<'_>>
 }
 
 /// The first line of the bytes, where it sets a device to a value that is not below zero.
+#[inline(always)]
 #[tactic(auto, using(crate::proofs::OnePass::set_begins))]
 pub fn quick_line(bytes: &[u8]) -> Option<First<'_>>
     ensures { IfSome result (λ first. Begins bytes.now (seen first.line) first.rest.now) }

@@ -49,6 +49,7 @@ fn end_with(
 
 /// What the first line of the bytes means after the lines read so far, if it is not one too many,
 /// or its fault.
+#[inline(always)]
 fn next_within<'a>(
     names: &ImageNames,
     devices: &SymbolNumbers<'_>,

@@ -53,6 +53,7 @@ fn fault(line: u32, flaw: Flaw) -> ScriptFault
 }
 
 /// The first line of the bytes; None where it is in no form.
+#[inline(never)]
 fn first_line(bytes: &[u8]) -> Option<First<'_>>
     ensures found { IfSome result (λ first. Begins bytes.now (seen first.line) first.rest.now) }
     ensures none { IfNone result ((said : Said) (rest : List ℕ) → ¬ Begins bytes.now said rest) }
@@ -70,6 +71,7 @@ fn first_line(bytes: &[u8]) -> Option<First<'_>>
 }
 
 /// The same, which tries first whether the line is in a form that most lines have.
+#[inline(always)]
 fn next_line(bytes: &[u8]) -> Option<First<'_>>
     ensures found { IfSome result (λ first. Begins bytes.now (seen first.line) first.rest.now) }
     ensures none { IfNone result ((said : Said) (rest : List ℕ) → ¬ Begins bytes.now said rest) }
@@ -81,6 +83,7 @@ fn next_line(bytes: &[u8]) -> Option<First<'_>>
 }
 
 /// What the first line of the bytes means after the lines read so far, or its fault.
+#[inline(always)]
 pub fn judge_next<'a>(
     names: &ImageNames,
     devices: &SymbolNumbers<'_>,
