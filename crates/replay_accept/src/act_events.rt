@@ -9,6 +9,7 @@ ghost use Rattle.replay_script.specs.Cursors.{IsAt, script_in};
 ghost use Rattle.replay_accept.specs.Judged.{IsNextOf, IsOpen, IsReady, IsToAct};
 ghost use Rattle.replay_accept.specs.Running.{AreRules, IsFirstOf, program_of};
 
+use crate::directly::{act_directly, direct_of_process};
 use crate::rules::Rules;
 use crate::{act, is_told, may_act};
 use base::Event;
@@ -116,13 +117,35 @@ pub fn act_by<'a>(
     ensures err { OnErr result (config_of config.new ≡ config_of config.old) }
 {
     if is_to_act(rules, config, first, event) {
-        let process = usize::from(event.proc);
-        match next_of_process(rules, config, process)? {
-            None => Ok(false),
-            Some(next) => act_next(rules, config, script, event, next),
+        match direct_of_process(rules, config, usize::from(event.proc)) {
+            None => act_found(rules, config, script, event),
+            Some(action) => Ok(act_directly(config, event, action)),
         }
     } else {
         Ok(false)
+    }
+}
+
+/// The same of the process that is to act, whose next action is found by a run.
+fn act_found<'a>(
+    rules: &Rules<'a>,
+    config: &mut Config<'a>,
+    script: &ScriptCursor<'_>,
+    event: &Event,
+) -> Result<bool, OutOfMemory>
+    requires rules { AreRules rules.now }
+    requires script { IsAt config.old.tick script.now }
+    requires opened { IsOpen (program_of rules.now) (script_in script.now)
+        (config_of config.old) event.now }
+    requires acts { IsToAct (program_of rules.now) (config_of config.old) event.now }
+    ensures accepts { IfOk result (λ acts. Accepts (program_of rules.now)
+        (script_in script.now) (config_of config.old) event.now acts
+        (config_of config.new)) }
+    ensures err { OnErr result (config_of config.new ≡ config_of config.old) }
+{
+    match next_of_process(rules, config, usize::from(event.proc))? {
+        None => Ok(false),
+        Some(next) => act_next(rules, config, script, event, next),
     }
 }
 

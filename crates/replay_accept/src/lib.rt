@@ -15,6 +15,7 @@
 mod act_events;
 mod as_defined;
 mod begin;
+mod directly;
 mod effects;
 mod giving;
 mod perform;
