@@ -1,25 +1,19 @@
 -- What a process does where its calls stand is its next action.
-use Rattle.std.specs.Prelude.{◌≡◌, ℕ, zero, suc, Bool, true, false, IfSome, List, [], ◌∷◌, Option, Some, None, slice_get}
+use Rattle.std.specs.Prelude.{◌≡◌, ℕ, zero, suc, Bool, true, false, List, [], ◌∷◌, Option, Some, None, slice_get}
 use Rattle.std.proofs.Common.{refl, sym, ◌∙◌, ap, inl, inr, subst}
 use Rattle.std.proofs.lemmas.Option.{same_Some}
 use Rattle.base.specs.declared.event.Event.{Event}
-use Rattle.syntax_tree.specs.Placed.{placed_stmts, plain_stmts}
 use Rattle.syntax_tree.specs.Plain.{Process, Program}
-use Rattle.source_semantics.specs.Names.{processes}
-use Rattle.source_semantics.specs.Config.{Config, Hold, Job, at_tick, changed, hold_vars, idle, inside, is_ready, job_calls, job_doing, vars_of, with_holds, with_jobs}
+use Rattle.source_semantics.specs.Config.{Config, Hold, Job, at_tick, changed, hold_vars, idle, inside, is_ready, job_doing, vars_of, with_holds, with_jobs}
 use Rattle.source_semantics.specs.Next.{Next}
 use Rattle.source_semantics.specs.Source.{Step, acts, job_next, may_act, save_hold, save_job, saved}
-use Rattle.source_semantics.specs.Starts.{Script, due}
+use Rattle.source_semantics.specs.Starts.{Script}
 use Rattle.source_semantics.specs.Store.{Vars}
-use Rattle.replay_direct.specs.Direct.{calls_from, direct_next}
+use Rattle.replay_direct.specs.Direct.{direct_next}
 use Rattle.replay_direct.specs.declared.direct.DirectAction.{DirectAction}
 use Rattle.replay_direct.specs.declared.direct.DirectAction.TheVariants as direct_is
 use Rattle.replay_accept.specs.Directly.{IsDirect, config_after, job_after}
 use Rattle.replay_accept.specs.Judged.{IsOpen, IsToAct}
-
-pub some_all : {A : Type 0} (o : Option A) (P Q : A → Type 0) → ((a : A) → P a → Q a) → IfSome o P → IfSome o Q
-some_all (Some a) P Q f h = f a h
-some_all None P Q f h = h
 
 -- the thing at a place is changed in the same way
 changed_alike : {A : Type 0} (f h : A → A) (k : ℕ) (xs : List A) (x : A) → slice_get xs k ≡ Some x → f x ≡ h x → changed f k xs ≡ changed h k xs

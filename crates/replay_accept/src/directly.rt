@@ -1,6 +1,6 @@
 //! Acts that are known without a run, done where the calls stand.
 
-ghost use Rattle.std.specs.Prelude.{IfSome, IsTrue, ℕ, ◌↔◌, ◌≡◌};
+ghost use Rattle.std.specs.Prelude.{IsTrue, ℕ, ◌↔◌, ◌≡◌};
 ghost use Rattle.source_semantics.specs.Config.{Config as SourceConfig, Job};
 ghost use Rattle.source_semantics.specs.Source.{acts};
 ghost use Rattle.source_semantics.specs.Starts.{Script};
@@ -11,35 +11,11 @@ ghost use Rattle.replay_due_events.specs.Accepts.{Accepts};
 ghost use Rattle.replay_state.specs.View.{config_of};
 ghost use Rattle.replay_accept.specs.Directly.{IsDirect, config_after};
 ghost use Rattle.replay_accept.specs.Judged.{IsOpen, IsToAct};
-ghost use Rattle.replay_accept.specs.Running.{AreRules, program_of};
 
 use crate::as_defined::{is_end, is_put};
-use crate::rules::Rules;
 use base::{Act, Event};
-use replay_calls::EvalContext;
-use replay_direct::{DirectAction, direct_action, end_calls, pass_put};
+use replay_direct::{DirectAction, end_calls, pass_put};
 use replay_state::Config;
-
-/// The next action of the process, where it is known without a run.
-pub fn direct_of_process<'a>(
-    rules: &Rules<'a>,
-    config: &Config<'a>,
-    process: usize,
-) -> Option<DirectAction<'a>>
-    requires { AreRules rules.now }
-    ensures { IfSome result (IsDirect (program_of rules.now) (config_of config.now) process) }
-{
-    let text = &rules.text;
-    let its = text.processes.get(process)?;
-    let job = config.jobs.get(process)?;
-    let scope = EvalContext {
-        declarations: text.declarations,
-        conditions: rules.conditions,
-        process: its,
-        alloc: text.alloc,
-    };
-    direct_action(&scope, rules.routines, job)
-}
 
 /// Whether the act is what the action tells.
 fn is_told_directly(action: DirectAction<'_>, act: Act) -> bool

@@ -5,8 +5,11 @@ use Rattle.syntax_tree.specs.Plain.{Stmts}
 use Rattle.source_semantics.specs.Next.{Next}
 use Rattle.source_semantics.specs.Run as run
 use Rattle.source_semantics.specs.Store.{Vars}
+use Rattle.replay_state.specs.View.{next_of}
 use Rattle.replay_direct.specs.declared.direct.DirectAction as code_direct
 use Rattle.replay_direct.specs.declared.direct.DirectAction.TheVariants as direct_is
+use Rattle.replay_direct.specs.declared.found.FoundAction as code_found
+use Rattle.replay_direct.specs.declared.found.FoundAction.TheVariants as found_is
 
 -- these statements stand in place of the first item
 abbrev pub items_from : Stmts → List run.Item → List run.Item
@@ -32,3 +35,8 @@ direct_next (direct_is.Puts d v ss) calls process monitor = record {
   monitor = monitor;
 }
 direct_next direct_is.Ends calls process monitor = record { action = run.ends; calls = []; process = process; monitor = monitor }
+
+-- the same, where it came of a run or was known without one
+abbrev pub found_next : code_found.FoundAction → List run.Call → Vars → Vars → Next
+found_next (found_is.Direct d) calls process monitor = direct_next d calls process monitor
+found_next (found_is.Ran n) calls process monitor = next_of n

@@ -1,14 +1,17 @@
-//! Actions that are known without a run, and the configuration after them.
+//! The next action of a process, found without a run where that is possible.
 //!
 //! Most of what a process does next is a put that is its next statement, or the end of its last
-//! call. `direct_action` finds these two, where the value that is put is a literal or a variable of
-//! the process: it is then the next action of the source meaning (`direct_next` of
-//! `specs/Direct.antt`), and nothing was copied to find it. `pass_put` and `end_calls` do it where
-//! the calls stand. Of all else `replay_next` finds the next action.
+//! call. These two are known without a run (`DirectAction`), where the value that is put is a
+//! literal or a variable of the process: nothing is copied to find them, and `pass_put` and
+//! `end_calls` do them where the calls stand. Of all else `replay_next` finds the next action.
+//! `found_action` gives the next action of the source meaning in either way (`found_next` of
+//! `specs/Direct.antt`).
 #![tactic(auto)]
 
 mod direct;
+mod found;
 mod passing;
 
-pub use direct::{DirectAction, direct_action};
+pub use direct::DirectAction;
+pub use found::{FoundAction, found_action};
 pub use passing::{end_calls, pass_put};
