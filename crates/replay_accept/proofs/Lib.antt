@@ -4,3 +4,4 @@ pub mod Fitting
 mod Quiet
 mod Kept
 mod Missing
+pub mod Directing

@@ -6,14 +6,17 @@ ghost use Rattle.replay_state.specs.Tables.{Fits};
 ghost use Rattle.replay_state.specs.View.{config_of, doing_of, next_of};
 ghost use Rattle.replay_due_events.specs.Accepts.{Accepts};
 ghost use Rattle.replay_script.specs.Cursors.{IsAt, script_in};
+ghost use Rattle.replay_accept.specs.Directly.{IsFound};
 ghost use Rattle.replay_accept.specs.Judged.{IsNextOf, IsOpen, IsReady, IsToAct};
 ghost use Rattle.replay_accept.specs.Running.{AreRules, IsFirstOf, program_of};
 
+use crate::directly::act_directly;
 use crate::rules::Rules;
 use crate::{act, is_told, may_act};
 use base::Event;
 use out_of_memory::OutOfMemory;
 use replay_calls::EvalContext;
+use replay_direct::{FoundAction, found_action};
 use replay_due_events::has_acted;
 use replay_next::next_action;
 use replay_script::ScriptCursor;
@@ -95,6 +98,35 @@ pub fn next_of_process<'a>(
     }
 }
 
+/// The same, found without a run where that is possible.
+fn found_of_process<'a>(
+    rules: &Rules<'a>,
+    config: &Config<'a>,
+    process: usize,
+) -> Result<Option<FoundAction<'a>>, OutOfMemory>
+    requires { AreRules rules.now }
+    ensures { IfOk result (λ found. IsFound (program_of rules.now) (config_of config.now) process
+        found) }
+{
+    let text = &rules.text;
+    match text.processes.get(process) {
+        None => Ok(None),
+        Some(its) => match config.jobs.get(process) {
+            None => Ok(None),
+            Some(job) => {
+                let scope = EvalContext {
+                    declarations: text.declarations,
+                    conditions: rules.conditions,
+                    process: its,
+                    alloc: text.alloc,
+                };
+                let found = found_action(&scope, rules.routines, config, process, job)?;
+                Ok(Some(found))
+            }
+        },
+    }
+}
+
 /// Whether the event is what the next action of its process tells, where no start event is due up
 /// to its tick; then the process acts. Want of memory leaves the configuration as it was.
 pub fn act_by<'a>(
@@ -116,10 +148,10 @@ pub fn act_by<'a>(
     ensures err { OnErr result (config_of config.new ≡ config_of config.old) }
 {
     if is_to_act(rules, config, first, event) {
-        let process = usize::from(event.proc);
-        match next_of_process(rules, config, process)? {
+        match found_of_process(rules, config, usize::from(event.proc))? {
             None => Ok(false),
-            Some(next) => act_next(rules, config, script, event, next),
+            Some(FoundAction::Direct(action)) => Ok(act_directly(config, event, action)),
+            Some(FoundAction::Ran(next)) => act_next(rules, config, script, event, next),
         }
     } else {
         Ok(false)

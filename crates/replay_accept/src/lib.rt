@@ -8,13 +8,15 @@
 //!
 //! The script is a `ScriptCursor` of `replay_script`, which passes its lines as ticks are reached;
 //! until when nothing starts is told by `replay_script`. `is_told` and `may_act` test an act, `act`
-//! does it (`specs/Effects.antt`). `come` lets a start event come, `next_of_process` gives what a
-//! process does next. Where memory is wanting the configuration is as it was.
+//! does it (`specs/Effects.antt`); what is known without a run is done where the calls stand
+//! (`specs/Directly.antt`). `come` lets a start event come, `next_of_process` gives what a process
+//! does next. Where memory is wanting the configuration is as it was.
 #![tactic(auto)]
 
 mod act_events;
 mod as_defined;
 mod begin;
+mod directly;
 mod effects;
 mod giving;
 mod perform;
