@@ -1,4 +1,4 @@
-use Rattle.edf_admission.proofs.asking.judge_shape.Goals as goal
+use Rattle.edf_admission.proofs.asking.judge_image.Goals as goal
 
 pub returns : goal.returns
 returns c =
