@@ -10,7 +10,7 @@ ghost use Rattle.image_loaded.specs.Shape.{IsShape};
 ghost use Rattle.sched_timing.specs.Timed.{RespectsFrames};
 
 use crate::admission_law::every_admitted_shape_meets_deadlines;
-use crate::asking::judge_shape;
+use crate::asking::judge_image;
 use crate::edf_fault::EdfFault;
 use crate::waiting::first_wait;
 use image_bytes::ImageBytes;
@@ -22,7 +22,7 @@ use std::marker::Model;
 /// An image that may run under earliest deadline first.
 #[derive(Drop)]
 pub struct EdfImage {
-    shape: Shape,
+    image: ImageBytes,
 }
 
 impl Model for EdfImage {
@@ -36,9 +36,9 @@ impl Model for EdfImage {
 
     ghost coded = { Prim.hlevel (codes, coded_segs) };
 
-    ghost view = { λ i. i.shape };
+    ghost view = { λ i. i.image };
 
-    ghost invariant = { λ i. IsShape i.shape × IsAdmitted i.shape.image };
+    ghost invariant = { λ i. IsShape i.image × IsAdmitted i.image.image };
 }
 
 impl EdfImage {
@@ -61,21 +61,29 @@ impl EdfImage {
         if over != 0 {
             return Err(EdfFault::Overhead { over });
         }
-        match judge_shape(alloc, &shape) {
-            Ok(Judgement::Feasible { points: _ }) => {
-                shape.has_no_fault_before_bounds();
-                Ok(EdfImage { shape })
-            }
+        shape.has_no_fault_before_bounds();
+        match judge_image(alloc, shape.image()) {
+            Ok(Judgement::Feasible { points: _ }) => Ok(EdfImage::of_admitted(shape.into_image())),
             Ok(judgement) => Err(EdfFault::Unfit(judgement)),
             Err(error) => Err(EdfFault::Memory(error)),
         }
     }
 
-    /// The same image as a shape.
-    pub fn shape(&self) -> &Shape
+    /// The image, which the caller has proved to be a shape that is admitted, as that of every text
+    /// whose demand is met. Nothing is tested: it is the one way to one without the tests.
+    pub fn of_admitted(image: ImageBytes) -> EdfImage
+        requires shape { IsShape image }
+        requires admitted { IsAdmitted image.image }
+        ensures { result ≡ image }
+    {
+        EdfImage { image }
+    }
+
+    /// The image as it stands in its bytes.
+    pub fn image(&self) -> &ImageBytes
         ensures { result.now ≡ self.now }
     {
-        &self.shape
+        &self.image
     }
 
     /// It is a shape that is admitted. The call does nothing.
@@ -83,14 +91,14 @@ impl EdfImage {
         ensures shape { IsShape self.now }
         ensures admitted { IsAdmitted self.now.image }
     {
-        let _shape = &self.shape;
+        let _image = &self.image;
     }
 
     /// The image as it stands in its bytes, which are not copied.
     pub fn into_image(self) -> ImageBytes
         ensures { result ≡ self }
     {
-        self.shape.into_image()
+        self.image
     }
 
     /// Every run of an admitted image under earliest deadline first is safe: no tick is stuck, each
@@ -103,7 +111,7 @@ impl EdfImage {
         ensures in_time { (script : Script) → RespectsFrames self.now.image script →
             script.end_tick ≤ 1000000000 → MeetsDeadlines self.now.image script }
     {
-        let _shape = &self.shape;
+        let _image = &self.image;
         every_admitted_shape_meets_deadlines();
     }
 }

@@ -1,10 +1,6 @@
-mod Demanded
-mod Growing
-mod Lasts
-mod Owned
 mod Shaped
 mod Noted
-mod Few
+mod Reported
 mod Prepared
 mod Runs
 mod Scripted

@@ -1,9 +1,9 @@
 -- Programs whose demand was judged, and what is due of them.
-use Rattle.std.specs.Prelude.{◌≡◌, ◌++◌, ◌≤◌, ◌^◌, ℕ, List, Option, Some, length}
+use Rattle.std.specs.Prelude.{◌≡◌, ◌++◌, ℕ, List, Option, Some}
 use Rattle.syntax_tree.specs.declared.place.Place.{Place}
 use Rattle.syntax_tree.specs.Placed.{Prog}
 use Rattle.image.specs.Named.{NamedImage}
-use Rattle.image.specs.Raw.{named_of}
+use Rattle.image_loaded.specs.Shape.{IsShape}
 use Rattle.script.specs.declared.script.ScriptLine.{ScriptLine}
 use Rattle.script.specs.declared.fault.ScriptFault.{ScriptFault}
 use Rattle.script.specs.Scripts.{IsScript}
@@ -20,18 +20,16 @@ use Rattle.outside.specs.Outside.{FilesState}
 use Rattle.command_answers.specs.declared.prepare_error.PrepareError.{PrepareError}
 use Rattle.command_answers.specs.declared.prepare_error.PrepareError.TheVariants as unready
 use Rattle.command_answers.specs.Prepared.{IsReadError}
-use Rattle.edf_command.specs.declared.judging.Subject.{Subject}
+use Rattle.edf_command.specs.declared.judged.Judged.{Judged}
 
--- the text is that of a program without waits, this is its image and what the test says of it; each
--- process has a name, and the names are few enough for a script
-pub record IsSubjectOf (text : List ℕ) (s : Subject) : Type 0 where
-  pub judged : IsJudgedText text (named_of s.image) s.answer
-  pub named : length s.image.names.processes ≡ length s.image.processes
-  pub devices : length s.image.names.devices ≤ 2 ^ 16
-  pub events : length s.image.names.events ≤ 2 ^ 16
+-- the text is that of a program without waits, this is its image, which is valid but for its bounds,
+-- and what the test says of it
+pub record IsSubjectOf (text : List ℕ) (s : Judged) : Type 0 where
+  pub judged : IsJudgedText text s.image s.answer
+  pub valid : IsShape s.image
 
 -- of some text
-abbrev pub IsSubject : Subject → Type 0
+abbrev pub IsSubject : Judged → Type 0
 IsSubject s = (text : List ℕ) × IsSubjectOf text s
 
 -- the fault of a text, or that its program waits

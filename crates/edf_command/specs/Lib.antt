@@ -1,4 +1,3 @@
-pub mod Listed
 pub mod Steps
 pub mod Judged
 pub mod Told

@@ -6,8 +6,9 @@ ghost use Rattle.front_end.specs.Program.{IsProgramOf};
 ghost use Rattle.edf_command.specs.Steps.{IsJudgedProgram, IsSizeFault};
 
 use crate::shaping::{ShapeFault, shape};
-use crate::tasks::judge_image;
-use image::RawImage;
+use edf_admission::judge_image;
+use edf_correct::edf_admitted::edf_images_are_shapes;
+use image_bytes::ImageBytes;
 use sched_demand::Judgement;
 use static_semantics::Checked;
 use std::alloc::Global;
@@ -15,7 +16,7 @@ use std::alloc::Global;
 /// The image of a program, and what the test of the demand says of it.
 #[derive(Drop)]
 pub struct Judged {
-    pub image: RawImage,
+    pub image: ImageBytes,
     pub answer: Judgement,
 }
 
@@ -32,7 +33,9 @@ pub fn judge_program(alloc: Global, program: &Checked) -> Result<Judged, ShapeFa
     ensures judged { IfOk result (IsJudgedProgram (placed program.now)) }
     ensures fault { IfErr result (IsSizeFault (placed program.now)) }
 {
-    let image = shape(alloc, program)?;
+    edf_images_are_shapes();
+    let raw = shape(alloc, program)?;
+    let image = ImageBytes::of(alloc, raw)?;
     let answer = judge_image(alloc, &image)?;
     Ok(Judged { image, answer })
 }

@@ -7,20 +7,16 @@ ghost use Rattle.command_answers.specs.Acting.{IsQuiet};
 ghost use Rattle.command_answers.specs.Contents.{IsContent};
 ghost use Rattle.command_due.specs.EdfDue.{IsEdfDue, IsJudgedText};
 ghost use Rattle.command_due.specs.Waits.{HasNoWait};
-ghost use Rattle.image.specs.Raw.{named_of};
 ghost use Rattle.syntax.specs.Tokens.{longest_text};
 ghost use Rattle.edf_command.specs.Judged.{IsSubject, IsSubjectOf, Stops};
 ghost use Rattle.command_refusals.specs.Told.{IsTextTold};
 ghost use Rattle.syntax_tree.specs.Placed.{placed};
 
-use crate::{ShapeFault, first_wait, judge_program};
-use built_image_law::premises_of_laws::checked_programs_are_ready;
+use crate::{Judged, ShapeFault, first_wait, judge_program};
 use command_answers::{Content, PreparedCall};
 use command_refusals::refuse_text;
 use compile::{ProgramTextFault, read_written};
-use image::RawImage;
 use out_of_memory::OutOfMemory;
-use sched_demand::Judgement;
 use static_rule::rule;
 use static_semantics::Checked;
 use std::alloc::Global;
@@ -29,34 +25,23 @@ use syntax_tree::{Place, Text};
 /// Where a fault of a whole text stands.
 const START: Place = Place { line: 1, col: 1 };
 
-/// A program without waits: its image, and what the test of the demand says of it.
-#[derive(Drop)]
-pub struct Subject {
-    pub image: RawImage,
-    pub answer: Judgement,
-}
-
 /// A program without waits, judged.
-fn judge_waitless(alloc: Global, program: &Checked) -> Result<Subject, ProgramTextFault>
+fn judge_waitless(alloc: Global, program: &Checked) -> Result<Judged, ProgramTextFault>
     ghost text: { List ℕ }
     requires written { IsWritten text (placed program.now) }
     requires waitless { HasNoWait (placed program.now) }
     ensures subject { IfOk result (IsSubjectOf text) }
     ensures fault { IfErr result (Stops text) }
 {
-    checked_programs_are_ready();
     match judge_program(alloc, program) {
-        Ok(judged) => Ok(Subject {
-            image: judged.image,
-            answer: judged.answer,
-        }),
+        Ok(judged) => Ok(judged),
         Err(ShapeFault::TooLarge { .. }) => unreachable!(),
         Err(ShapeFault::Memory(error)) => Err(ProgramTextFault::Memory(error)),
     }
 }
 
 /// The program of a text, judged.
-fn judge_written(alloc: Global, program: &Checked) -> Result<Subject, ProgramTextFault>
+fn judge_written(alloc: Global, program: &Checked) -> Result<Judged, ProgramTextFault>
     ghost text: { List ℕ }
     requires { IsWritten text (placed program.now) }
     ensures subject { IfOk result (IsSubjectOf text) }
@@ -72,7 +57,7 @@ fn judge_written(alloc: Global, program: &Checked) -> Result<Subject, ProgramTex
 }
 
 /// A text, which has these bytes, read and judged.
-fn judge_text(alloc: Global, text: &[u8]) -> Result<Subject, ProgramTextFault>
+fn judge_text(alloc: Global, text: &[u8]) -> Result<Judged, ProgramTextFault>
     ghost bytes: { List ℕ }
     requires { text.now ≡ bytes }
     ensures subject { IfOk result (IsSubjectOf bytes) }
@@ -90,11 +75,11 @@ fn judge_text(alloc: Global, text: &[u8]) -> Result<Subject, ProgramTextFault>
 ///
 /// As those of `read_written`; 48 at the first wait statement; the fault of a text that is too long
 /// is 4, at its first byte.
-pub fn judge_source(alloc: Global, content: &Content) -> Result<Subject, ProgramTextFault>
+pub fn judge_source(alloc: Global, content: &Content) -> Result<Judged, ProgramTextFault>
     ensures subject { IfOk result IsSubject }
     ensures judged { IfOk result (λ subject. (text : List ℕ) →
         IsContent longest_text content.now text →
-        IsJudgedText text (named_of subject.image) subject.answer) }
+        IsJudgedText text subject.image subject.answer) }
     ensures fault { IfErr result (λ why. (text : List ℕ) →
         IsContent longest_text content.now text → Stops text why) }
 {

@@ -1,11 +1,12 @@
 //! What is due of `edf`: demands, verdict, report.
 //!
 //! All is defined in `command_due`. `shape` gives the image of a program under this dispatch,
-//! `demands` its tasks, `judge_program` what the test says of them; `first_wait` finds the first
-//! wait statement, `report` writes the report. Each call promises exactly these.
+//! `judge_program` what the test of `edf_admission` says of it; `first_wait` finds the first wait
+//! statement, `report` writes the report. Each call promises exactly these.
 //!
 //! `prepare_edf` reads the program, looks for its first wait statement, judges its demand, and
-//! reads the script only where the demand is met.
+//! reads the script only where the demand is met. What then runs is an `EdfImage` of
+//! `edf_admission`.
 #![tactic(auto)]
 
 mod judged;
@@ -14,7 +15,6 @@ mod lines;
 mod preparing;
 mod running;
 mod shaping;
-mod tasks;
 mod waits;
 
 pub use judged::{Judged, judge_program};

@@ -1,10 +1,10 @@
 //! The report.
 
-ghost use Rattle.std.specs.Prelude.{◌≡◌, ◌++◌, length, map, IfOk, OnOk};
-ghost use Rattle.image.specs.Raw.{named_of, process_of};
+ghost use Rattle.std.specs.Prelude.{◌≡◌, ◌++◌, length, IfOk, OnOk};
+ghost use Rattle.image_bytes.specs.Standing.{process_in};
 ghost use Rattle.command_due.specs.Report.{edf_report, judgement_lines, points_text, process_line, processes_lines, times_text, verdict_text};
 
-use image::{RawImage, RawProcess};
+use image_bytes::{ImageBytes, ProcessRef};
 use out_of_memory::OutOfMemory;
 use sched_demand::Judgement;
 use sched_table::{add_name, add_number};
@@ -13,8 +13,8 @@ use syntax_tree::{Name, Text};
 
 /// Puts the times of a process at the end of a text.
 #[tactic(auto, unfolding(command_due::specs::Report::times_text))]
-fn add_times(text: &mut Text, process: &RawProcess) -> Result<(), OutOfMemory>
-    ensures { OnOk result (text.new ≡ text.old ++ times_text (process_of process.now)) }
+fn add_times(text: &mut Text, process: &ProcessRef<'_>) -> Result<(), OutOfMemory>
+    ensures { OnOk result (text.new ≡ text.old ++ times_text (process_in process.now)) }
 {
     add_number(text, " frame ", u64::from(process.frame))?;
     add_number(text, " deadline ", u64::from(process.deadline))?;
@@ -23,9 +23,9 @@ fn add_times(text: &mut Text, process: &RawProcess) -> Result<(), OutOfMemory>
 
 /// Puts the line of a process at the end of a text.
 #[tactic(auto, unfolding(command_due::specs::Report::process_line))]
-fn add_process(text: &mut Text, name: &Name, process: &RawProcess) -> Result<(), OutOfMemory>
+fn add_process(text: &mut Text, name: &Name, process: &ProcessRef<'_>) -> Result<(), OutOfMemory>
     ensures { OnOk result (text.new ≡ text.old ++ process_line name.now
-        (process_of process.now)) }
+        (process_in process.now)) }
 {
     add_name(text, "process ", name)?;
     add_times(text, process)?;
@@ -35,17 +35,14 @@ fn add_process(text: &mut Text, name: &Name, process: &RawProcess) -> Result<(),
 }
 
 /// Puts the lines of the processes at the end of a text.
-fn add_processes(
-    text: &mut Text,
-    names: &[Name],
-    processes: &[RawProcess],
-) -> Result<(), OutOfMemory>
-    requires { length names.now ≡ length processes.now }
-    ensures { OnOk result (text.new ≡ text.old ++ processes_lines names.now
-        (map process_of processes.now)) }
+fn add_processes(text: &mut Text, image: &ImageBytes) -> Result<(), OutOfMemory>
+    requires { length image.now.names.processes ≡ length image.now.image.processes }
+    ensures { OnOk result (text.new ≡ text.old ++ processes_lines image.now.names.processes
+        image.now.image.processes) }
 {
-    for (at, process) in processes.iter().enumerate() {
-        add_process(text, &names[at], process)?;
+    let names = image.names().processes.as_slice();
+    for number in 0..image.processes() {
+        add_process(text, &names[number as usize], &image.process(number))?;
     }
     Ok(())
 }
@@ -94,19 +91,15 @@ fn add_judgement(text: &mut Text, answer: Judgement) -> Result<(), OutOfMemory>
 /// first point at which the demand is not met and the demand there, or `too many`. A number above
 /// 1,000,000,000 is `over`. Only want of memory is an error.
 #[tactic(auto, unfolding(command_due::specs::Report::edf_report))]
-pub fn report(alloc: Global, image: &RawImage, answer: Judgement) -> Result<Text, OutOfMemory>
-    requires { length image.now.names.processes ≡ length image.now.processes }
-    ensures { IfOk result (λ text. text ≡ edf_report (named_of image.now) answer) }
+pub fn report(alloc: Global, image: &ImageBytes, answer: Judgement) -> Result<Text, OutOfMemory>
+    requires { length image.now.names.processes ≡ length image.now.image.processes }
+    ensures { IfOk result (λ text. text ≡ edf_report image.now answer) }
 {
     let mut text = Text::new(alloc);
-    add_name(&mut text, "program ", &image.program)?;
+    add_name(&mut text, "program ", image.program())?;
     text.extend(b"\n")?;
-    add_processes(
-        &mut text,
-        image.names.processes.as_slice(),
-        image.processes.as_slice(),
-    )?;
-    add_number(&mut text, "code ", image.code.len() as u64)?;
+    add_processes(&mut text, image)?;
+    add_number(&mut text, "code ", u64::from(image.code_len()))?;
     text.extend(b"\n")?;
     add_judgement(&mut text, answer)?;
     Ok(text)

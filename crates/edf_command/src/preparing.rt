@@ -7,14 +7,14 @@ ghost use Rattle.command_answers.specs.Acting.{CanBeDone};
 ghost use Rattle.command_answers.specs.Prepared.{IsReadError, Prepares};
 ghost use Rattle.command_answers.specs.OnlyReads.{OnlyReads};
 ghost use Rattle.command_answers.specs.Tried.{HasTried, MayHaveTried, status_of};
-ghost use Rattle.image.specs.Raw.{named_of};
 ghost use Rattle.edf_command.specs.Judged.{IsMet, IsScriptDue, IsScriptError, IsSubject, IsSubjectDue};
 ghost use Rattle.command_refusals.specs.Refusals.{Explains, IsExplained};
 ghost use Rattle.command_refusals.specs.Told.{IsScriptTold};
 ghost use Rattle.edf_command.specs.Told.{IsSubjectTold};
 ghost use Rattle.command_words.specs.Calls as call;
 
-use crate::judging::{Subject, judge_source, refuse_source};
+use crate::Judged;
+use crate::judging::{judge_source, refuse_source};
 use crate::running::{refuse_unfit, run_act};
 use command_answers::{LONGEST_PROGRAM, LONGEST_SCRIPT, PrepareError, PreparedCall, read};
 use outside::Files;
@@ -27,7 +27,7 @@ use syntax_tree::Text;
 fn run_on<'a, F: Files>(
     alloc: Global,
     message: &mut Text,
-    subject: Subject,
+    subject: Judged,
     script: &'a str,
     files: &mut F,
 ) -> Result<PreparedCall<'a>, PrepareError<'a>>
@@ -35,7 +35,7 @@ fn run_on<'a, F: Files>(
     requires met { IsMet subject.answer }
     ensures due { IfOk result (λ act. OnTrue F.tells
         (IsSomeAnd ((F.state files.old).held script.now) (λ text.
-        IsScriptDue (named_of subject.image) subject.answer text (outcome_of act)))) }
+        IsScriptDue subject.image subject.answer text (outcome_of act)))) }
     ensures done { IfOk result (CanBeDone None) }
     ensures failed { IfErr result
         (IsReadError script.now (F.state files.old) (F.state files.new)) }
@@ -58,12 +58,12 @@ fn judged_on<'a, F: Files>(
     alloc: Global,
     message: &mut Text,
     program: &str,
-    subject: Subject,
+    subject: Judged,
     script: &'a str,
     files: &mut F,
 ) -> Result<PreparedCall<'a>, PrepareError<'a>>
     requires { IsSubject subject }
-    ensures due { IfOk result (λ act. OnTrue F.tells (IsSubjectDue (named_of subject.image)
+    ensures due { IfOk result (λ act. OnTrue F.tells (IsSubjectDue subject.image
         subject.answer ((F.state files.old).held script.now) (outcome_of act))) }
     ensures done { IfOk result (CanBeDone None) }
     ensures failed { IfErr result (IsScriptError subject.answer script.now (F.state files.old)

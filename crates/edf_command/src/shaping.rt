@@ -2,12 +2,11 @@
 
 ghost use Rattle.std.specs.Prelude.{◌≡◌, ℕ, List, map, IfOk, IfErr};
 ghost use Rattle.syntax_tree.specs.Placed.{placed};
-ghost use Rattle.image.specs.Raw.{process_of};
+ghost use Rattle.image.specs.Raw.{named_of, process_of};
 ghost use Rattle.front_end.specs.Program.{IsProgramOf};
 ghost use Rattle.compile.specs.Steps.{IsRanked};
 ghost use Rattle.edf_command.specs.Steps.{due_of, IsEdfShape, IsSizeFault};
 
-use built_image_law::named_rows::tables_are_named;
 use built_image_law::shape_before_times::shapes_leave_bounds_aside;
 use compile::{BuildFault, ranked};
 use compile_schedule::with_bounds;
@@ -69,11 +68,10 @@ fn deadlines(alloc: Global, processes: &[RawProcess]) -> Result<List<Option<u32>
 fn with_deadlines(alloc: Global, program: &Program) -> Result<RawImage, ShapeFault>
     ghost text: { List ℕ }
     requires written { IsProgramOf text (placed program.now) }
-    ensures image { IfOk result (IsEdfShape (placed program.now)) }
+    ensures image { IfOk result (λ image. IsEdfShape (placed program.now) (named_of image)) }
     ensures fault { IfErr result (IsSizeFault (placed program.now)) }
 {
     shapes_leave_bounds_aside();
-    tables_are_named();
     let image = with_ranks(alloc, program)?;
     let bounds = deadlines(alloc, image.processes.as_slice())?;
     Ok(with_bounds(image, &bounds))
@@ -89,7 +87,7 @@ fn with_deadlines(alloc: Global, program: &Program) -> Result<RawImage, ShapeFau
 pub fn shape(alloc: Global, program: &Checked) -> Result<RawImage, ShapeFault>
     ghost text: { List ℕ }
     requires written { IsProgramOf text (placed program.now) }
-    ensures image { IfOk result (IsEdfShape (placed program.now)) }
+    ensures image { IfOk result (λ image. IsEdfShape (placed program.now) (named_of image)) }
     ensures fault { IfErr result (IsSizeFault (placed program.now)) }
 {
     with_deadlines(alloc, program.prog())

@@ -1,13 +1,6 @@
 mod Quiet
-pub mod EdfLawsWaits
-pub mod Covering
-pub mod Placing
+mod WaitFreeCode
 pub mod Shapes
-pub mod Premises
-pub mod Meeting
-pub mod EdfReadyWaits
-pub mod Parts
-pub mod EdfReadyJoined
+pub mod Admitted
 pub mod Runs
 pub mod EdfLawsJoined
-mod WaitFreeText

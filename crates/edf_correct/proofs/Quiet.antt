@@ -12,10 +12,10 @@ use Rattle.static_declarations.specs.Parts.{Part, statement, answer, looped, hom
 use Rattle.static_declarations.specs.declared.home.StmtContext.TheVariants as home_is
 use Rattle.code_measures.specs.Quiet.{NoWait, NoWaits}
 use Rattle.command_due.specs.Waits.{wait_rules}
-use Rattle.edf_correct.specs.EdfWaits.{NoneWaits}
+use Rattle.edf_correct.specs.Waits.{HandlerHasNoWait, NoneWaits, ProcessHasNoWait, WaitlessTreesHaveNoWait}
 
 -- none of the parts waits
-abbrev pub Quiet : List Part → Type 0
+abbrev Quiet : List Part → Type 0
 Quiet xs = (number : ℕ) (place : Place) → FailsAmong wait_rules xs number place → ⊥
 
 after : (x : Part) (xs : List Part) → Quiet (x ∷ xs) → Quiet xs
@@ -83,42 +83,28 @@ routines_quiet is_entry (r ∷ rs) more q =
     let two = routines_quiet is_entry rs more one.1 in
     (one_more (plain_routine r) (map plain_routine rs) one.0 two.0, two.1)
 
--- a handler, if there is one
-abbrev pub HandlerQuiet : Option plain_of.Handler → Type 0
-HandlerQuiet None = Unit {0}
-HandlerQuiet (Some h) = NoWaits h.body
-
-pub handler_there : (o : Option plain_of.Handler) (h : plain_of.Handler) → o ≡ Some h → HandlerQuiet o → NoWaits h.body
-handler_there None h is q = absurd (none-some h is)
-handler_there (Some x) h is q = subst (λ (y : plain_of.Handler). NoWaits y.body) (same_Some x h is) q
-
-handler_quiet : (h : Option (Handler Place)) (more : List Part) → Quiet (handler_parts h more) → HandlerQuiet (optional plain_handler h) × Quiet more
+handler_quiet : (h : Option (Handler Place)) (more : List Part) → Quiet (handler_parts h more) → HandlerHasNoWait (optional plain_handler h) × Quiet more
 handler_quiet None more q = (tt, q)
 handler_quiet (Some h) more q = stmts_quiet (outside_loops home_is.Free) h.body more q
 
 -- ---- declarations
 
-pub record ProcessQuiet (p : plain_of.Process) : Type 0 where
-  pub body : NoWaits p.body
-  pub handler : HandlerQuiet p.handler
-  pub own : NoneWaits p.routines
-
-pub record AreQuiet (ds : List plain_of.Declaration) : Type 0 where
-  pub program : NoneWaits (filter_map routine_in ds)
-  pub entries : (m : ℕ) (k : plain_of.Monitor) → slice_get (filter_map monitor_in ds) m ≡ Some k → NoneWaits k.entries
-  pub bodies : (k : ℕ) (p : plain_of.Process) → slice_get (filter_map process_in ds) k ≡ Some p → ProcessQuiet p
+record AreQuiet (ds : List plain_of.Declaration) : Type 0 where
+  program : NoneWaits (filter_map routine_in ds)
+  entries : (m : ℕ) (k : plain_of.Monitor) → slice_get (filter_map monitor_in ds) m ≡ Some k → NoneWaits k.entries
+  bodies : (k : ℕ) (p : plain_of.Process) → slice_get (filter_map process_in ds) k ≡ Some p → ProcessHasNoWait p
 
 monitors_more : (first : plain_of.Monitor) (ms : List plain_of.Monitor) → NoneWaits first.entries → ((m : ℕ) (k : plain_of.Monitor) → slice_get ms m ≡ Some k → NoneWaits k.entries)
     → (m : ℕ) (k : plain_of.Monitor) → slice_get (first ∷ ms) m ≡ Some k → NoneWaits k.entries
 monitors_more first ms here rest zero k at = subst (λ (x : plain_of.Monitor). NoneWaits x.entries) (same_Some first k at) here
 monitors_more first ms here rest (suc m) k at = rest m k at
 
-processes_more : (first : plain_of.Process) (ps : List plain_of.Process) → ProcessQuiet first → ((k : ℕ) (p : plain_of.Process) → slice_get ps k ≡ Some p → ProcessQuiet p)
-    → (k : ℕ) (p : plain_of.Process) → slice_get (first ∷ ps) k ≡ Some p → ProcessQuiet p
-processes_more first ps here rest zero p at = subst ProcessQuiet (same_Some first p at) here
+processes_more : (first : plain_of.Process) (ps : List plain_of.Process) → ProcessHasNoWait first → ((k : ℕ) (p : plain_of.Process) → slice_get ps k ≡ Some p → ProcessHasNoWait p)
+    → (k : ℕ) (p : plain_of.Process) → slice_get (first ∷ ps) k ≡ Some p → ProcessHasNoWait p
+processes_more first ps here rest zero p at = subst ProcessHasNoWait (same_Some first p at) here
 processes_more first ps here rest (suc k) p at = rest k p at
 
-pub decls_quiet : (ds : List (Decl Place)) → Quiet (decls_parts ds []) → AreQuiet (map plain_decl ds)
+decls_quiet : (ds : List (Decl Place)) → Quiet (decls_parts ds []) → AreQuiet (map plain_decl ds)
 decls_quiet [] q = record { program = no_routine; entries = λ m k at. absurd (none-some k at); bodies = λ k p at. absurd (none-some p at) }
 decls_quiet (constant name p c ∷ ds) q = let rest = decls_quiet ds q in record { program = rest.program; entries = rest.entries; bodies = rest.bodies }
 decls_quiet (device name p is_out ∷ ds) q = let rest = decls_quiet ds q in record { program = rest.program; entries = rest.entries; bodies = rest.bodies }
@@ -141,3 +127,6 @@ decls_quiet (process p ∷ ds) q =
       entries = rest.entries;
       bodies = processes_more (plain_process p) (filter_map process_in (map plain_decl ds)) (record { body = body.0; handler = handler.0; own = own.0 }) rest.bodies;
     }
+
+pub waitless_trees_have_no_wait : WaitlessTreesHaveNoWait
+waitless_trees_have_no_wait g none = let q = decls_quiet g.decls none in record { program = q.program; entries = q.entries; bodies = q.bodies }

@@ -8,7 +8,7 @@ use Rattle.sched_demand.specs.Demand.{task_at}
 use Rattle.built_image.specs.Filled.{without_bound, without_bounds}
 use Rattle.built_image_law.specs.FilledLaws.{ShapesAgree}
 use Rattle.command_due.specs.Tasks.{IsLastOfDeadline, AreDemands}
-use Rattle.edf_correct.specs.Premises.{AnswersAreOfTheImage}
+use Rattle.edf_correct.specs.Answers.{AnswersAreOfTheImage}
 
 -- the process in the other image, the same but for its bound
 record Twin (m : Image) (k : ℕ) (p : Process) : Type 0 where

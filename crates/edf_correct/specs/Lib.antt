@@ -1,7 +1,5 @@
-pub mod Deadlines
-pub mod EdfWaits
-pub mod Premises
-pub mod Ready
 pub mod Waits
+pub mod Admitted
+pub mod Answers
 pub mod EdfLaws
 pub mod FeasibleTexts

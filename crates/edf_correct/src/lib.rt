@@ -5,13 +5,13 @@
 //! `feasible_texts`: so every run of a text whose demand is met keeps what `command_answers`
 //! promises.
 //!
-//! Of programs without waits whose demand the test calls feasible: the image is as `edf_semantics`
-//! and the test take it (`edf_premises`, `edf_waits`), meets its deadlines, and can be run
-//! (`edf_ready`). Nothing here can run.
+//! Of programs without waits (`edf_waits`) whose demand the test calls feasible: the image is one
+//! that `edf_admission` admits, and can be run (`edf_admitted`); what the test says of a program, it
+//! says of its image (`answers_law`). Nothing here can run.
 #![tactic(auto)]
 
-pub mod edf_premises;
-pub mod edf_ready;
+pub mod answers_law;
+pub mod edf_admitted;
 pub mod edf_waits;
 pub mod feasible_texts;
 pub mod text_to_runs;

@@ -7,12 +7,13 @@
 
 ghost use Rattle.edf_correct.specs.EdfLaws.{CompiledRunsAreRuns, EdfImagesKeepTheirWord, EdfRunsAreRight};
 
-use crate::edf_premises::{edf_deadlines_are_met, waitless_images_meet_premises};
+use crate::edf_admitted::{edf_images_are_admitted, edf_images_are_shapes, edf_scripts_suit};
 use built_image_law::generated_within_limits::generated_code_is_code;
 use built_image_law::premises_of_laws::checked_programs_are_ready;
-use built_image_law::suitable_scripts::{scripts_are_in_order, scripts_for_the_names_suit};
+use built_image_law::suitable_scripts::scripts_are_in_order;
 use built_tasks_law::image_of_program::checked_code_is_an_image;
 use code_correct::runs_right_and_in_time::well_formed_code_is_right;
+use edf_admission::admission_law::every_admitted_shape_meets_deadlines;
 
 /// The events of a run of an image whose code is right are a run of the program in which any ready
 /// process may act.
@@ -29,8 +30,9 @@ pub fn edf_runs_are_right()
     generated_code_is_code();
     checked_code_is_an_image();
     well_formed_code_is_right();
-    waitless_images_meet_premises();
-    edf_deadlines_are_met();
+    edf_images_are_shapes();
+    edf_images_are_admitted();
+    every_admitted_shape_meets_deadlines();
     compiled_runs_are_runs();
 }
 
@@ -38,9 +40,7 @@ pub fn edf_runs_are_right()
 pub fn edf_images_keep_their_word()
     ensures { EdfImagesKeepTheirWord }
 {
-    checked_programs_are_ready();
-    generated_code_is_code();
-    scripts_for_the_names_suit();
+    edf_scripts_suit();
     scripts_are_in_order();
     edf_runs_are_right();
 }

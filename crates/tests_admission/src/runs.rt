@@ -44,7 +44,7 @@ fn run_of(alloc: Global, bytes: &[u8], text: &[u8]) -> Result<PreparedRun, Fail>
     ensures { IfOk result CanRun }
 {
     let image = admitted(alloc, bytes)?;
-    let script = read_script(alloc, text, image.shape().names())?;
+    let script = read_script(alloc, text, image.image().names())?;
     images_of_files_can_be_run(&image);
     Ok(image.over(script))
 }

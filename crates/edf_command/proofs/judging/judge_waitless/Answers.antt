@@ -1,5 +1,4 @@
-use Rattle.syntax_tree.specs.Placed.{placed, plain}
-use Rattle.edf_command.proofs.Few.{few_devices, few_events}
+use Rattle.syntax_tree.specs.Placed.{placed}
 use Rattle.edf_command.proofs.Sized.{no_size_fault}
 use Rattle.edf_command.proofs.judging.judge_waitless.Goals as goal
 
@@ -8,20 +7,10 @@ judge_program-requires g c = c.requires.0.program
 
 pub returns-in-Ok-clause-subject : goal.returns-in-Ok-clause-subject
 returns-in-Ok-clause-subject g c =
-    let tree = placed c.args.program.now in
-    let counts = (c.checked_programs_are_ready.ensures tree c.requires.0.program.checked).formed.counts_fit in
-    let image = c.in-Ok.ensures.judged.shape.image in
+    let is = c.in-Ok.ensures.judged in
     record {
-      judged = record {
-        tree = tree;
-        written = c.requires.0;
-        waitless = c.requires.1;
-        image = image;
-        answered = c.in-Ok.ensures.judged.answered;
-      };
-      named = c.in-Ok.ensures.judged.shape.named;
-      devices = few_devices (plain tree) counts c.in-Ok.judged.image.names image.names;
-      events = few_events (plain tree) counts c.in-Ok.judged.image.names image.names;
+      judged = record { tree = placed c.args.program.now; written = c.requires.0; waitless = c.requires.1; image = is.shape.image; answered = is.answered };
+      valid = is.valid;
     }
 
 pub unreachable-requires : goal.unreachable-requires

@@ -1,7 +1,8 @@
-use Rattle.std.proofs.Common.{◌≡◌, ◌++◌, map, drop}
-use Rattle.image.specs.Raw.{process_of}
+use Rattle.std.proofs.Common.{◌≡◌, ◌++◌, drop}
 use Rattle.command_due.specs.Report.{processes_lines}
 use Rattle.edf_command.proofs.lines.add_processes.Given as goal
 
-abbrev pub invariant-loop-at : goal.invariant-loop-at
-invariant-loop-at l = l.text ++ processes_lines (drop l.at l.names) (map process_of (drop l.at l.processes)) ≡ l.initial.text ++ processes_lines l.names (map process_of l.processes)
+abbrev pub invariant-loop-number : goal.invariant-loop-number
+invariant-loop-number l =
+    l.text ++ processes_lines (drop l.number l.image.names.processes) (drop l.number l.image.image.processes)
+    ≡ l.initial.text ++ processes_lines l.image.names.processes l.image.image.processes

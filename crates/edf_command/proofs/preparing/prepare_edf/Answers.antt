@@ -2,7 +2,6 @@ use Rattle.std.proofs.Common.{None, ◌∷◌, [], inl}
 use Rattle.std.proofs.lemmas.Result.{IfOk-weaker}
 use Rattle.syntax.specs.Tokens.{longest_text}
 use Rattle.command_words.specs.Calls as call
-use Rattle.image.specs.Raw.{named_of}
 use Rattle.command_answers.specs.Acts.{outcome_of}
 use Rattle.command_answers.specs.Contents.{IsContent}
 use Rattle.command_answers.specs.Tried.{status_of}
@@ -18,7 +17,7 @@ use Rattle.edf_command.proofs.preparing.prepare_edf.Goals as goal
 pub returns-in-Ok-clause-prepared : goal.returns-in-Ok-clause-prepared
 returns-in-Ok-clause-prepared g c =
     edf_prepares g.F.Files.tells c.args.program.now c.args.script.now (g.F.Files.state c.args.files.now) (g.F.Files.state c.read.new.files) (g.F.Files.state c.judged_on.new.files)
-    (IsContent longest_text c.in_ok-content.content) (named_of c.in-Ok.subject.image) c.in-Ok.subject.answer c.judged_on.result c.in_ok-content.ensures.content c.in-Ok.ensures.judged
+    (IsContent longest_text c.in_ok-content.content) c.in-Ok.subject.image c.in-Ok.subject.answer c.judged_on.result c.in_ok-content.ensures.content c.in-Ok.ensures.judged
     c.in_ok-content.ensures.only_reads.files c.in_ok-content.ensures.only_reads.read_counts c.judged_on.ensures.due c.judged_on.ensures.done c.judged_on.ensures.failed
 
 pub returns-in-Ok-refuse_source-clause-prepared : goal.returns-in-Ok-refuse_source-clause-prepared
