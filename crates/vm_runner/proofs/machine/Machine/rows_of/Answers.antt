@@ -24,9 +24,9 @@ loop-goes_on-preserved g c =
     let reach : u + (limit - u) ≡ limit = omega (arith, before) in
     let told : (front : List Event) → c.args.self.now.fired.items ≡ front ++ started all t → c.row_of-goes_on.new.self.fired.items ≡ front ++ between t v =
     λ front first.
-        e.events (front ++ between t u) (i.told_so_far on front first)
-        ∙ append_assoc front (between t u) (between u v)
-        ∙ ap (λ (es : List Event). front ++ es) (sym (cut_at all goes.cut t u v i.since (omega (arith, e.passed)))) in
+    e.events (front ++ between t u) (i.told_so_far on front first)
+    ∙ append_assoc front (between t u) (between u v)
+    ∙ ap (λ (es : List Event). front ++ es) (sym (cut_at all goes.cut t u v i.since (omega (arith, e.passed)))) in
     record {
       goes = e.goes_on;
       before = λ so. (let low = e.before so in omega (arith, low, reach));
