@@ -37,7 +37,7 @@ pub record Parts (image : Image) (script : Script) (t : ℕ) (s : State) : Type 
 abbrev all_of : Image → Script → ℕ → State → Started
 all_of image script t s = followed (lines image t script.lines s) (λ a. followed (periodic image t 0 image.processes a) (time_outs image t 1 (length image.processes)))
 
-starts_are : (image : Image) (script : Script) (t : ℕ) (s : State) → starts image script t s ≡ all_of image script t s
+pub starts_are : (image : Image) (script : Script) (t : ℕ) (s : State) → starts image script t s ≡ all_of image script t s
 unfolding starts
 starts_are image script t s = refl
 

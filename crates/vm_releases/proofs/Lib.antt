@@ -8,3 +8,4 @@ pub mod Ordering
 pub mod Firsts
 pub mod Least
 pub mod Resting
+pub mod Alone

@@ -15,11 +15,11 @@ use Rattle.vm_releases.specs.Begin.{AreToCome}
 use Rattle.vm_releases.proofs.Joining.{lines_to_come}
 
 -- what is not released at a tick is released from the next on
-release_later : (t : ℕ) (p : Process) (tick : Option ℕ) → IsReleaseFrom t p tick → ((r : ℕ) → tick ≡ Some r → t + 1 ≤ r) → IsReleaseFrom (t + 1) p tick
+pub release_later : (t : ℕ) (p : Process) (tick : Option ℕ) → IsReleaseFrom t p tick → ((r : ℕ) → tick ≡ Some r → t + 1 ≤ r) → IsReleaseFrom (t + 1) p tick
 release_later t p None is low = λ u from. is u (omega (arith, from))
 release_later t p (Some r) is low = (is.0, low r refl, λ u from before. is.2 u (omega (arith, from)) before)
 
-next_from : (t : ℕ) (p : Process) (tick : Option ℕ) → IsReleaseFrom (t + 1) p tick → IsNextRelease t p tick
+pub next_from : (t : ℕ) (p : Process) (tick : Option ℕ) → IsReleaseFrom (t + 1) p tick → IsNextRelease t p tick
 next_from t p None is = λ u after. is u (omega (arith, after))
 next_from t p (Some r) is = let from : t + 1 ≤ r = is.1 in (is.0, omega (arith, from), λ u after before. is.2 u (omega (arith, after)) before)
 

@@ -195,6 +195,9 @@ impl Timers {
             return;
         }
         self.begin_lines(plan, script, board, fired, tick);
+        if !self.is_due(tick) {
+            return;
+        }
         do_releases(plan, &mut self.slots, board, fired, tick);
         do_time_outs(plan, &self.order, &mut self.slots, board, fired, tick);
     }

@@ -8,6 +8,7 @@ use Rattle.vm_stretch.specs.Steps.{HasWaits}
 use Rattle.vm_releases.specs.Begin.{HaveQueues, lines_of, script_of}
 use Rattle.vm_releases.specs.Order.{IsOrderOf}
 use Rattle.vm_releases.specs.declared.order.StartOrder.{StartOrder}
+use Rattle.vm_releases.proofs.Alone.{alone_slots, alone_started}
 use Rattle.vm_releases.proofs.Boards.{cells_count}
 use Rattle.vm_releases.proofs.Joining.{all_started, parts, slots_again, tell_releases, threads_count, waits_after_lines, waits_after_releases}
 use Rattle.vm_releases.proofs.Queueing.{lines_keep, periodic_keeps}
@@ -61,6 +62,43 @@ begin_lines-requires g c =
     let none : length c.args.fired.now.items ≡ 0 = ap length c.requires.1.1.1.1.1.1.1.1 in
     let threads : length s.threads ≡ n = threads_count c.args.board.now.cells.items ∙ cells_count g.image c.args.board.now.cells.items c.requires.1.1.0.rooms in
     (c.requires.0, (c.requires.1.0, (c.requires.1.1.0, (c.requires.1.1.1.0, (c.requires.1.1.1.1.0, (groups.lines_calm, omega (arith, none, groups.few, threads, c.requires.0.few)))))))
+
+pub returns-then-not-is_due-2-clause-state : goal.returns-then-not-is_due-2-clause-state
+returns-then-not-is_due-2-clause-state g c =
+    let t = c.args.tick in
+    let s = state_of c.args.board.now in
+    let n = length g.image.processes in
+    let a = state_of c.begin_lines.new.board in
+    let threads : length a.threads ≡ n = threads_count c.begin_lines.new.board.cells.items ∙ cells_count g.image c.begin_lines.new.board.cells.items c.begin_lines.ensures.board.rooms in
+    (alone_started g.image (script_of c.args.script.now) t c.args.self.now.done c.begin_lines.new.self.done s a c.args.self.now.slots c.begin_lines.new.self.slots c.requires.1.1.1.0 c.begin_lines.ensures.slots c.begin_lines.ensures.done
+    (c.is_due-2.ensures c.if-not-is_due-2.true) c.begin_lines.ensures.started.state threads c.args.fired.now.items c.begin_lines.new.fired.items c.requires.1.1.1.1.1.1.1.1 c.begin_lines.ensures.started).state
+
+pub returns-then-not-is_due-2-clause-events : goal.returns-then-not-is_due-2-clause-events
+returns-then-not-is_due-2-clause-events g c =
+    let t = c.args.tick in
+    let s = state_of c.args.board.now in
+    let n = length g.image.processes in
+    let a = state_of c.begin_lines.new.board in
+    let threads : length a.threads ≡ n = threads_count c.begin_lines.new.board.cells.items ∙ cells_count g.image c.begin_lines.new.board.cells.items c.begin_lines.ensures.board.rooms in
+    (alone_started g.image (script_of c.args.script.now) t c.args.self.now.done c.begin_lines.new.self.done s a c.args.self.now.slots c.begin_lines.new.self.slots c.requires.1.1.1.0 c.begin_lines.ensures.slots c.begin_lines.ensures.done
+    (c.is_due-2.ensures c.if-not-is_due-2.true) c.begin_lines.ensures.started.state threads c.args.fired.now.items c.begin_lines.new.fired.items c.requires.1.1.1.1.1.1.1.1 c.begin_lines.ensures.started).events
+
+pub returns-then-not-is_due-2-clause-slots : goal.returns-then-not-is_due-2-clause-slots
+returns-then-not-is_due-2-clause-slots g c =
+    let t = c.args.tick in
+    let s = state_of c.args.board.now in
+    let n = length g.image.processes in
+    let a = state_of c.begin_lines.new.board in
+    let threads : length a.threads ≡ n = threads_count c.begin_lines.new.board.cells.items ∙ cells_count g.image c.begin_lines.new.board.cells.items c.begin_lines.ensures.board.rooms in
+    alone_slots g.image (script_of c.args.script.now) t c.args.self.now.done c.begin_lines.new.self.done s a c.args.self.now.slots c.begin_lines.new.self.slots c.requires.1.1.1.0 c.begin_lines.ensures.slots c.begin_lines.ensures.done
+    (c.is_due-2.ensures c.if-not-is_due-2.true) c.begin_lines.ensures.started.state threads
+
+pub returns-then-not-is_due-2-clause-order : goal.returns-then-not-is_due-2-clause-order
+returns-then-not-is_due-2-clause-order g c = subst (λ (o : StartOrder). IsOrderOf g.image o) (sym c.begin_lines.ensures.order) c.requires.1.0
+
+pub returns-then-not-is_due-2-clause-queues : goal.returns-then-not-is_due-2-clause-queues
+returns-then-not-is_due-2-clause-queues g c =
+    subst (λ (x : State). HaveQueues x) (sym c.begin_lines.ensures.started.state) (lines_keep g.image c.args.tick (lines_of c.args.script.now.lines) (state_of c.args.board.now) c.requires.1.1.1.1.1.0)
 
 pub do_releases-requires : goal.do_releases-requires
 do_releases-requires g c =
