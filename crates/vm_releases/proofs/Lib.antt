@@ -9,3 +9,4 @@ pub mod Firsts
 pub mod Least
 pub mod Resting
 pub mod Alone
+pub mod Untimed

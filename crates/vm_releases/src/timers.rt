@@ -199,6 +199,8 @@ impl Timers {
             return;
         }
         do_releases(plan, &mut self.slots, board, fired, tick);
-        do_time_outs(plan, &self.order, &mut self.slots, board, fired, tick);
+        if self.is_due(tick) {
+            do_time_outs(plan, &self.order, &mut self.slots, board, fired, tick);
+        }
     }
 }

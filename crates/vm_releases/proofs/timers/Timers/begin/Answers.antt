@@ -2,19 +2,20 @@ use Rattle.std.proofs.Common.{◌≡◌, ◌+◌, ◌*◌, arith, ap, sym, subst
 use Rattle.std.proofs.lemmas.List.{length-set}
 use Rattle.machine_semantics.specs.State.{State}
 use Rattle.machine_semantics.specs.Starts.{Started, lines, periodic, time_outs}
-use Rattle.vm_stretch.specs.StretchDue.{first_tick}
+use Rattle.vm_stretch.specs.StretchDue.{NoneBefore, first_tick}
 use Rattle.vm_state.specs.Board.{state_of}
 use Rattle.vm_stretch.specs.Steps.{HasWaits}
 use Rattle.vm_releases.specs.Begin.{HaveQueues, lines_of, script_of}
 use Rattle.vm_releases.specs.Order.{IsOrderOf}
 use Rattle.vm_releases.specs.declared.order.StartOrder.{StartOrder}
-use Rattle.vm_releases.proofs.Alone.{alone_slots, alone_started}
+use Rattle.vm_releases.proofs.Alone.{alone_slots, alone_started, none_late}
 use Rattle.vm_releases.proofs.Boards.{cells_count}
 use Rattle.vm_releases.proofs.Joining.{all_started, parts, slots_again, tell_releases, threads_count, waits_after_lines, waits_after_releases}
 use Rattle.vm_releases.proofs.Queueing.{lines_keep, periodic_keeps}
 use Rattle.vm_releases.proofs.Saying.{as_many_lines}
 use Rattle.vm_releases.proofs.Least.{none_up_to}
 use Rattle.vm_releases.proofs.Resting.{Rests, rests}
+use Rattle.vm_releases.proofs.Untimed.{none_alone, untimed_started}
 use Rattle.vm_releases.proofs.timers.Timers.begin.Goals as goal
 
 pub returns-then-not-is_due-clause-state : goal.returns-then-not-is_due-clause-state
@@ -70,7 +71,7 @@ returns-then-not-is_due-2-clause-state g c =
     let n = length g.image.processes in
     let a = state_of c.begin_lines.new.board in
     let threads : length a.threads ≡ n = threads_count c.begin_lines.new.board.cells.items ∙ cells_count g.image c.begin_lines.new.board.cells.items c.begin_lines.ensures.board.rooms in
-    (alone_started g.image (script_of c.args.script.now) t c.args.self.now.done c.begin_lines.new.self.done s a c.args.self.now.slots c.begin_lines.new.self.slots c.requires.1.1.1.0 c.begin_lines.ensures.slots c.begin_lines.ensures.done
+    (alone_started g.image (script_of c.args.script.now) t c.args.self.now.done c.begin_lines.new.self.done s c.args.self.now.slots c.begin_lines.new.self.slots c.requires.1.1.1.0 c.begin_lines.ensures.slots c.begin_lines.ensures.done a
     (c.is_due-2.ensures c.if-not-is_due-2.true) c.begin_lines.ensures.started.state threads c.args.fired.now.items c.begin_lines.new.fired.items c.requires.1.1.1.1.1.1.1.1 c.begin_lines.ensures.started).state
 
 pub returns-then-not-is_due-2-clause-events : goal.returns-then-not-is_due-2-clause-events
@@ -80,7 +81,7 @@ returns-then-not-is_due-2-clause-events g c =
     let n = length g.image.processes in
     let a = state_of c.begin_lines.new.board in
     let threads : length a.threads ≡ n = threads_count c.begin_lines.new.board.cells.items ∙ cells_count g.image c.begin_lines.new.board.cells.items c.begin_lines.ensures.board.rooms in
-    (alone_started g.image (script_of c.args.script.now) t c.args.self.now.done c.begin_lines.new.self.done s a c.args.self.now.slots c.begin_lines.new.self.slots c.requires.1.1.1.0 c.begin_lines.ensures.slots c.begin_lines.ensures.done
+    (alone_started g.image (script_of c.args.script.now) t c.args.self.now.done c.begin_lines.new.self.done s c.args.self.now.slots c.begin_lines.new.self.slots c.requires.1.1.1.0 c.begin_lines.ensures.slots c.begin_lines.ensures.done a
     (c.is_due-2.ensures c.if-not-is_due-2.true) c.begin_lines.ensures.started.state threads c.args.fired.now.items c.begin_lines.new.fired.items c.requires.1.1.1.1.1.1.1.1 c.begin_lines.ensures.started).events
 
 pub returns-then-not-is_due-2-clause-slots : goal.returns-then-not-is_due-2-clause-slots
@@ -90,7 +91,7 @@ returns-then-not-is_due-2-clause-slots g c =
     let n = length g.image.processes in
     let a = state_of c.begin_lines.new.board in
     let threads : length a.threads ≡ n = threads_count c.begin_lines.new.board.cells.items ∙ cells_count g.image c.begin_lines.new.board.cells.items c.begin_lines.ensures.board.rooms in
-    alone_slots g.image (script_of c.args.script.now) t c.args.self.now.done c.begin_lines.new.self.done s a c.args.self.now.slots c.begin_lines.new.self.slots c.requires.1.1.1.0 c.begin_lines.ensures.slots c.begin_lines.ensures.done
+    alone_slots g.image (script_of c.args.script.now) t c.args.self.now.done c.begin_lines.new.self.done s c.args.self.now.slots c.begin_lines.new.self.slots c.requires.1.1.1.0 c.begin_lines.ensures.slots c.begin_lines.ensures.done a
     (c.is_due-2.ensures c.if-not-is_due-2.true) c.begin_lines.ensures.started.state threads
 
 pub returns-then-not-is_due-2-clause-order : goal.returns-then-not-is_due-2-clause-order
@@ -179,8 +180,8 @@ do_time_outs-requires g c =
       ),
     )
 
-pub returns-clause-state : goal.returns-clause-state
-returns-clause-state g c =
+pub returns-then-is_due-clause-state : goal.returns-then-is_due-clause-state
+returns-then-is_due-clause-state g c =
     let t = c.args.tick in
     let s = state_of c.args.board.now in
     let n = length g.image.processes in
@@ -193,8 +194,8 @@ returns-clause-state g c =
     (all_started g.image (script_of c.args.script.now) t s a (state_of c.do_releases.new.board) (state_of c.do_time_outs.new.board) c.args.fired.now.items c.begin_lines.new.fired.items c.do_releases.new.fired.items c.do_time_outs.new.fired.items
     c.requires.1.1.1.1.1.1.1.1 first c.do_releases.ensures.started c.do_time_outs.ensures.started).state
 
-pub returns-clause-events : goal.returns-clause-events
-returns-clause-events g c =
+pub returns-then-is_due-clause-events : goal.returns-then-is_due-clause-events
+returns-then-is_due-clause-events g c =
     let t = c.args.tick in
     let s = state_of c.args.board.now in
     let n = length g.image.processes in
@@ -207,8 +208,8 @@ returns-clause-events g c =
     (all_started g.image (script_of c.args.script.now) t s a (state_of c.do_releases.new.board) (state_of c.do_time_outs.new.board) c.args.fired.now.items c.begin_lines.new.fired.items c.do_releases.new.fired.items c.do_time_outs.new.fired.items
     c.requires.1.1.1.1.1.1.1.1 first c.do_releases.ensures.started c.do_time_outs.ensures.started).events
 
-pub returns-clause-slots : goal.returns-clause-slots
-returns-clause-slots g c =
+pub returns-then-is_due-clause-slots : goal.returns-then-is_due-clause-slots
+returns-then-is_due-clause-slots g c =
     let t = c.args.tick in
     let s = state_of c.args.board.now in
     let n = length g.image.processes in
@@ -228,5 +229,77 @@ returns-clause-slots g c =
     c.requires.0.processes c.requires.1.1.1.0 set c.do_releases.ensures.moved c.do_time_outs.ensures.others c.do_time_outs.ensures.waits done
     (threads_count c.do_time_outs.new.board.cells.items ∙ cells_count g.image c.do_time_outs.new.board.cells.items c.do_time_outs.ensures.board.rooms)
 
-pub returns-clause-order : goal.returns-clause-order
-returns-clause-order g c = subst (λ (o : StartOrder). IsOrderOf g.image o) (sym c.begin_lines.ensures.order) c.requires.1.0
+pub returns-then-is_due-clause-order : goal.returns-then-is_due-clause-order
+returns-then-is_due-clause-order g c = subst (λ (o : StartOrder). IsOrderOf g.image o) (sym c.begin_lines.ensures.order) c.requires.1.0
+
+pub returns-else-is_due-clause-state : goal.returns-else-is_due-clause-state
+returns-else-is_due-clause-state g c =
+    let t = c.args.tick in
+    let s = state_of c.args.board.now in
+    let n = length g.image.processes in
+    let a = state_of c.begin_lines.new.board in
+    let b = state_of c.do_releases.new.board in
+    let has = c.requires.1.1.1.0 in
+    let set = c.begin_lines.ensures.slots in
+    let next = first_tick (drop c.begin_lines.new.self.done (lines_of c.args.script.now.lines)) in
+    let first = c.begin_lines.ensures.started in
+    let second = c.do_releases.ensures.started in
+    let threads : length b.threads ≡ n = threads_count c.do_releases.new.board.cells.items ∙ cells_count g.image c.do_releases.new.board.cells.items c.do_releases.ensures.board.rooms in
+    let waits : HasWaits n b c.do_releases.new.slots =
+    waits_after_releases g.image t a b c.begin_lines.new.self.slots c.do_releases.new.slots (waits_after_lines g.image (script_of c.args.script.now) t c.args.self.now.done s a c.args.self.now.slots c.begin_lines.new.self.slots next has set first.state)
+    c.do_releases.ensures.moved second.state in
+    let late : NoneBefore t c.begin_lines.new.self.slots = none_late g.image (script_of c.args.script.now) t c.args.self.now.done c.begin_lines.new.self.done s c.args.self.now.slots c.begin_lines.new.self.slots has set c.begin_lines.ensures.done in
+    let count : length c.begin_lines.new.self.slots ≡ 2 * n + 1 = ap length set ∙ length-set c.args.self.now.slots (2 * n) next ∙ has.count in
+    let third = untimed_started g.image t c.begin_lines.new.self.slots c.do_releases.new.slots count late c.do_releases.ensures.moved (c.is_due-3.ensures c.if-is_due.false) b waits threads c.do_releases.new.fired.items in
+    (all_started g.image (script_of c.args.script.now) t s a b b c.args.fired.now.items c.begin_lines.new.fired.items c.do_releases.new.fired.items c.do_releases.new.fired.items c.requires.1.1.1.1.1.1.1.1 first second third).state
+
+pub returns-else-is_due-clause-events : goal.returns-else-is_due-clause-events
+returns-else-is_due-clause-events g c =
+    let t = c.args.tick in
+    let s = state_of c.args.board.now in
+    let n = length g.image.processes in
+    let a = state_of c.begin_lines.new.board in
+    let b = state_of c.do_releases.new.board in
+    let has = c.requires.1.1.1.0 in
+    let set = c.begin_lines.ensures.slots in
+    let next = first_tick (drop c.begin_lines.new.self.done (lines_of c.args.script.now.lines)) in
+    let first = c.begin_lines.ensures.started in
+    let second = c.do_releases.ensures.started in
+    let threads : length b.threads ≡ n = threads_count c.do_releases.new.board.cells.items ∙ cells_count g.image c.do_releases.new.board.cells.items c.do_releases.ensures.board.rooms in
+    let waits : HasWaits n b c.do_releases.new.slots =
+    waits_after_releases g.image t a b c.begin_lines.new.self.slots c.do_releases.new.slots (waits_after_lines g.image (script_of c.args.script.now) t c.args.self.now.done s a c.args.self.now.slots c.begin_lines.new.self.slots next has set first.state)
+    c.do_releases.ensures.moved second.state in
+    let late : NoneBefore t c.begin_lines.new.self.slots = none_late g.image (script_of c.args.script.now) t c.args.self.now.done c.begin_lines.new.self.done s c.args.self.now.slots c.begin_lines.new.self.slots has set c.begin_lines.ensures.done in
+    let count : length c.begin_lines.new.self.slots ≡ 2 * n + 1 = ap length set ∙ length-set c.args.self.now.slots (2 * n) next ∙ has.count in
+    let third = untimed_started g.image t c.begin_lines.new.self.slots c.do_releases.new.slots count late c.do_releases.ensures.moved (c.is_due-3.ensures c.if-is_due.false) b waits threads c.do_releases.new.fired.items in
+    (all_started g.image (script_of c.args.script.now) t s a b b c.args.fired.now.items c.begin_lines.new.fired.items c.do_releases.new.fired.items c.do_releases.new.fired.items c.requires.1.1.1.1.1.1.1.1 first second third).events
+
+pub returns-else-is_due-clause-slots : goal.returns-else-is_due-clause-slots
+returns-else-is_due-clause-slots g c =
+    let t = c.args.tick in
+    let s = state_of c.args.board.now in
+    let n = length g.image.processes in
+    let a = state_of c.begin_lines.new.board in
+    let b = state_of c.do_releases.new.board in
+    let has = c.requires.1.1.1.0 in
+    let set = c.begin_lines.ensures.slots in
+    let next = first_tick (drop c.begin_lines.new.self.done (lines_of c.args.script.now.lines)) in
+    let first = c.begin_lines.ensures.started in
+    let second = c.do_releases.ensures.started in
+    let threads : length b.threads ≡ n = threads_count c.do_releases.new.board.cells.items ∙ cells_count g.image c.do_releases.new.board.cells.items c.do_releases.ensures.board.rooms in
+    let waits : HasWaits n b c.do_releases.new.slots =
+    waits_after_releases g.image t a b c.begin_lines.new.self.slots c.do_releases.new.slots (waits_after_lines g.image (script_of c.args.script.now) t c.args.self.now.done s a c.args.self.now.slots c.begin_lines.new.self.slots next has set first.state)
+    c.do_releases.ensures.moved second.state in
+    slots_again g.image (script_of c.args.script.now) t c.args.self.now.done c.begin_lines.new.self.done s b c.args.plan.now.processes.items c.args.self.now.slots c.begin_lines.new.self.slots c.do_releases.new.slots c.do_releases.new.slots
+    c.requires.0.processes has set c.do_releases.ensures.moved (none_alone n c.do_releases.new.slots) waits c.begin_lines.ensures.done threads
+
+pub returns-else-is_due-clause-order : goal.returns-else-is_due-clause-order
+returns-else-is_due-clause-order g c = subst (λ (o : StartOrder). IsOrderOf g.image o) (sym c.begin_lines.ensures.order) c.requires.1.0
+
+pub returns-else-is_due-clause-queues : goal.returns-else-is_due-clause-queues
+returns-else-is_due-clause-queues g c =
+    let t = c.args.tick in
+    let a = state_of c.begin_lines.new.board in
+    subst (λ (x : State). HaveQueues x) (sym c.do_releases.ensures.started.state)
+    (periodic_keeps g.image t 0 g.image.processes a
+    (subst (λ (x : State). HaveQueues x) (sym c.begin_lines.ensures.started.state) (lines_keep g.image t (lines_of c.args.script.now.lines) (state_of c.args.board.now) c.requires.1.1.1.1.1.0)))
