@@ -6,7 +6,7 @@ ghost use Rattle.replay_state.specs.Tables.{Fits};
 ghost use Rattle.replay_state.specs.View.{config_of, doing_of, next_of};
 ghost use Rattle.replay_due_events.specs.Accepts.{Accepts};
 ghost use Rattle.replay_script.specs.Cursors.{IsAt, script_in};
-ghost use Rattle.replay_accept.specs.Directly.{IsFound};
+ghost use Rattle.replay_accept.specs.Directly.{IsActing, IsFound};
 ghost use Rattle.replay_accept.specs.Judged.{IsNextOf, IsOpen, IsReady, IsToAct};
 ghost use Rattle.replay_accept.specs.Running.{AreRules, IsFirstOf, program_of};
 
@@ -20,7 +20,7 @@ use replay_direct::{FoundAction, found_action};
 use replay_due_events::has_acted;
 use replay_next::next_action;
 use replay_script::ScriptCursor;
-use replay_state::{Activity, Config, NextAction};
+use replay_state::{Activity, Config, NextAction, ProcessState};
 
 /// Whether it is work since a release.
 fn is_work(doing: Activity) -> bool
@@ -69,6 +69,34 @@ fn is_to_act(rules: &Rules<'_>, config: &Config<'_>, first: Option<usize>, event
     }
 }
 
+/// The job of a process, and over what its expressions are evaluated.
+#[derive(Drop)]
+pub(crate) struct ActingProcess<'c, 'a> {
+    job: &'c ProcessState<'a>,
+    scope: EvalContext<'a>,
+}
+
+/// The job of the process; `None` where there is no such process.
+fn acting<'c, 'a>(
+    rules: &Rules<'a>,
+    config: &'c Config<'a>,
+    process: usize,
+) -> Option<ActingProcess<'c, 'a>>
+    requires { AreRules rules.now }
+    ensures { IsActing (program_of rules.now) (config_of config.now) process result }
+{
+    let text = &rules.text;
+    let its = text.processes.get(process)?;
+    let job = config.jobs.get(process)?;
+    let scope = EvalContext {
+        declarations: text.declarations,
+        conditions: rules.conditions,
+        process: its,
+        alloc: text.alloc,
+    };
+    Some(ActingProcess { job, scope })
+}
+
 /// The next action of the process; `None` where there is no such process.
 pub fn next_of_process<'a>(
     rules: &Rules<'a>,
@@ -79,22 +107,12 @@ pub fn next_of_process<'a>(
     ensures { IfOk result (λ next. IsNextOf (program_of rules.now) (config_of config.now) process
         (option_map next_of next)) }
 {
-    let text = &rules.text;
-    match text.processes.get(process) {
+    match acting(rules, config, process) {
         None => Ok(None),
-        Some(its) => match config.jobs.get(process) {
-            None => Ok(None),
-            Some(job) => {
-                let scope = EvalContext {
-                    declarations: text.declarations,
-                    conditions: rules.conditions,
-                    process: its,
-                    alloc: text.alloc,
-                };
-                let next = next_action(&scope, rules.routines, config, process, job)?;
-                Ok(Some(next))
-            }
-        },
+        Some(ActingProcess { job, scope }) => {
+            let next = next_action(&scope, rules.routines, config, process, job)?;
+            Ok(Some(next))
+        }
     }
 }
 
@@ -108,22 +126,12 @@ fn found_of_process<'a>(
     ensures { IfOk result (λ found. IsFound (program_of rules.now) (config_of config.now) process
         found) }
 {
-    let text = &rules.text;
-    match text.processes.get(process) {
+    match acting(rules, config, process) {
         None => Ok(None),
-        Some(its) => match config.jobs.get(process) {
-            None => Ok(None),
-            Some(job) => {
-                let scope = EvalContext {
-                    declarations: text.declarations,
-                    conditions: rules.conditions,
-                    process: its,
-                    alloc: text.alloc,
-                };
-                let found = found_action(&scope, rules.routines, config, process, job)?;
-                Ok(Some(found))
-            }
-        },
+        Some(ActingProcess { job, scope }) => {
+            let found = found_action(&scope, rules.routines, config, process, job)?;
+            Ok(Some(found))
+        }
     }
 }
 
