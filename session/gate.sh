@@ -1,0 +1,1 @@
+cd /work/gate/final; time .ci/run

@@ -1,0 +1,1 @@
+cd /work/gate/final2; time .ci/run

@@ -1,0 +1,1 @@
+cd /work/gate/final3; time .ci/run

@@ -1,0 +1,2 @@
+import subprocess,sys
+# instructions per step: difference of two budgets
